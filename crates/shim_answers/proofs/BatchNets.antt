@@ -11,13 +11,13 @@ use Rattle.shim_process.specs.LocalState.{LocalState}
 use Rattle.shim_process.specs.Ops.{process_ops}
 use Rattle.shim_process.proofs.AllLaws.{process_laws}
 use Rattle.shim_net.specs.Nets.{NetView, started}
-use Rattle.shim_net.specs.Standings.{IsQuietNet, IsSpentNet}
+use Rattle.shim_net.specs.Standings.{IsQuiescentNet, IsSpentNet}
 use Rattle.shim_net.proofs.Ends as ends
 use Rattle.shim_batch.specs.Runs.{HasRun}
-use Rattle.shim_answers.specs.RunEnds.{Execution, report_of, IsEnd}
-use Rattle.shim_answers.specs.Recorded.{IsEndedNet, end_of_net}
-use Rattle.shim_answers.specs.Batches.{greatest, input_line, on_each, reports_of, statuses_of}
-use Rattle.shim_answers.specs.Answer.{AnswersEach}
+use Rattle.shim_results.specs.RunEnds.{Execution, report_of, IsEnd}
+use Rattle.shim_answers.specs.EndedNets.{IsEndedNet, end_of_net}
+use Rattle.shim_results.specs.Batches.{greatest, input_line, on_each, reports_of, statuses_of}
+use Rattle.shim_results.specs.Answer.{AnswersEach}
 use Rattle.shim_answers.proofs.NetEnds.{net_ended, net_of}
 
 -- a net that came to its end gives what a run of its execution may come to
@@ -40,20 +40,20 @@ nets_gave x (i ∷ inputs) (n ∷ nets) (m ∷ done) begun ran = (net_gave (reco
 
 -- each of these nets came to its end
 abbrev pub HaveStopped : List (NetView LocalState) → Type 0
-HaveStopped nets = All (λ net. IsQuietNet process_ops net ⊎ IsSpentNet process_ops net) nets
+HaveStopped nets = All (λ net. IsQuiescentNet process_ops net ⊎ IsSpentNet process_ops net) nets
 
 pub have_stopped : (nets done : List (NetView LocalState)) → AllZip (HasRun process_ops) nets done → HaveStopped done
-have_stopped [] [] ran = All-nil (λ net. IsQuietNet process_ops net ⊎ IsSpentNet process_ops net)
+have_stopped [] [] ran = All-nil (λ net. IsQuiescentNet process_ops net ⊎ IsSpentNet process_ops net)
 have_stopped [] (m ∷ done) ran = absurd ran
 have_stopped (n ∷ nets) [] ran = absurd ran
-have_stopped (n ∷ nets) (m ∷ done) ran = All-cons (λ net. IsQuietNet process_ops net ⊎ IsSpentNet process_ops net) m done ran.0.stands (have_stopped nets done ran.1)
+have_stopped (n ∷ nets) (m ∷ done) ran = All-cons (λ net. IsQuiescentNet process_ops net ⊎ IsSpentNet process_ops net) m done ran.0.stands (have_stopped nets done ran.1)
 
 module _ (nets rest : List (NetView LocalState)) (n : NetView LocalState) (first : nets ≡ n ∷ rest) (stopped : HaveStopped nets) where
-  pub stopped_first : IsQuietNet process_ops n ⊎ IsSpentNet process_ops n
-  stopped_first = All-head (λ net. IsQuietNet process_ops net ⊎ IsSpentNet process_ops net) n rest (subst HaveStopped first stopped)
+  pub stopped_first : IsQuiescentNet process_ops n ⊎ IsSpentNet process_ops n
+  stopped_first = All-head (λ net. IsQuiescentNet process_ops net ⊎ IsSpentNet process_ops net) n rest (subst HaveStopped first stopped)
 
   pub rest_stopped : HaveStopped rest
-  rest_stopped = All-tail (λ net. IsQuietNet process_ops net ⊎ IsSpentNet process_ops net) n rest (subst HaveStopped first stopped)
+  rest_stopped = All-tail (λ net. IsQuiescentNet process_ops net ⊎ IsSpentNet process_ops net) n rest (subst HaveStopped first stopped)
 
 -- ---- loops, of which what is left follows what was done
 

@@ -17,10 +17,11 @@ use Rattle.shim_replay.specs.declared.fault.JournalFault.{JournalFault}
 use Rattle.shim_replay.specs.declared.fault.JournalFault.TheVariants.{Malformed}
 use Rattle.shim_replay.specs.declared.journal.Journal.{Journal}
 use Rattle.shim_net.specs.Nets.{NetView}
-use Rattle.shim_answers.specs.RunEnds.{Execution, read_off, status_of_outcome}
-use Rattle.shim_answers.specs.Recorded.{IsEndedNet, IsNoJournal, IsOnlyJournal, execution_within, refusal_line}
-use Rattle.shim_answers.specs.Answer.{Answer, AnswersEntries, AnswersRecord, journal_refused, reported}
-use Rattle.shim_answers.proofs.FaultyLines.{few_line_feeds}
+use Rattle.shim_results.specs.RunEnds.{Execution, read_off, status_of_outcome}
+use Rattle.shim_answers.specs.EndedNets.{IsEndedNet}
+use Rattle.shim_results.specs.Recorded.{IsNoJournal, IsOnlyJournal, execution_within, refusal_line}
+use Rattle.shim_results.specs.Answer.{Answer, AnswersEntries, AnswersRecord, journal_refused, reported}
+use Rattle.shim_results.proofs.FaultyLines.{few_line_feeds}
 use Rattle.shim_answers.proofs.NetEnds.{net_traced}
 
 -- the journal of a net is told

@@ -1,10 +1,3 @@
 -- The definitions of this crate, one module for each subject.
-pub mod RunEnds
-pub mod Batches
-pub mod Reasons
-pub mod Recorded
-pub mod Deeds
-pub mod Answer
-pub mod DeedEnds
-pub mod AnswerView
-pub mod Views
+pub mod EndedNets
+pub mod Tasks

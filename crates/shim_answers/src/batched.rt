@@ -5,18 +5,16 @@ ghost use Rattle.shim_command.specs.Jobs.{IsWithin};
 ghost use Rattle.shim_process.specs.Forks.{root};
 ghost use Rattle.shim_process.specs.Ops.{process_ops};
 ghost use Rattle.shim_net.specs.Nets.{started};
-ghost use Rattle.shim_net.specs.Standings.{IsQuietNet, IsSpentNet};
-ghost use Rattle.shim_answers.specs.Answer.{AnswersEach};
-ghost use Rattle.shim_answers.specs.AnswerView.{exit_code};
-ghost use Rattle.shim_answers.specs.Batches.{greatest, input_line, reports_of, statuses_of};
-ghost use Rattle.shim_answers.specs.Deeds.{executed};
-ghost use Rattle.shim_answers.specs.Recorded.{end_of_net};
-ghost use Rattle.shim_answers.specs.RunEnds.{report_of};
-ghost use Rattle.shim_answers.specs.Views.{answer_view};
+ghost use Rattle.shim_net.specs.Standings.{IsQuiescentNet, IsSpentNet};
+ghost use Rattle.shim_results.specs.Answer.{AnswersEach};
+ghost use Rattle.shim_results.specs.AnswerView.{exit_code};
+ghost use Rattle.shim_results.specs.Batches.{greatest, input_line, reports_of, statuses_of};
+ghost use Rattle.shim_results.specs.SourceActions.{executed};
+ghost use Rattle.shim_answers.specs.EndedNets.{end_of_net};
+ghost use Rattle.shim_results.specs.RunEnds.{report_of};
+ghost use Rattle.shim_results.specs.Views.{answer_view};
 
-use crate::answer::Answer;
 use crate::runs::RunOfEach;
-use crate::status::ExitStatus;
 use shim_base::{List, NoMemory, Shared};
 use shim_batch::batch;
 use shim_code::{Code, compile};
@@ -25,6 +23,7 @@ use shim_local::Local;
 use shim_net::Net;
 use shim_reference::named;
 use shim_report::{Ended, text};
+use shim_results::{Answer, ExitStatus};
 use shim_sharing::Accepted;
 use shim_vm::Body;
 use shim_workers::Gate;
@@ -67,7 +66,7 @@ fn nets_of(
 
 // What is read off nets that came to their ends. Each net is let go once it is read.
 fn ends_of(alloc: Global, source: &Accepted, done: List<Net<Body>>) -> Result<List<Ended>, NoMemory>
-    requires { All (λ net. IsQuietNet process_ops net ⊎ IsSpentNet process_ops net) done }
+    requires { All (λ net. IsQuiescentNet process_ops net ⊎ IsSpentNet process_ops net) done }
     ensures { IfOk result (λ ends. ends ≡ map (λ net. end_of_net source.now net) done) }
 {
     let mut ends = List::with_capacity(alloc, done.len())?;
@@ -89,7 +88,7 @@ fn greatest_status(ends: &[Ended]) -> ExitStatus
 }
 
 // Adds the report of a run behind the line of its input.
-#[tactic(auto, unfolding(crate::specs::Batches::input_line))]
+#[tactic(auto, unfolding(shim_results::specs::Batches::input_line))]
 fn push_report(
     alloc: Global,
     lines: &mut List<u8>,

@@ -1,28 +1,28 @@
 // What is told of a source, run or not.
 ghost use Rattle.std.specs.Prelude.{◌≡◌, ◌≤◌, ◌⊎◌, IfOk, length};
 ghost use Rattle.shim_net.specs.Nets.{IsNet};
-ghost use Rattle.shim_net.specs.Standings.{IsQuietNet, IsSpentNet};
+ghost use Rattle.shim_net.specs.Standings.{IsQuiescentNet, IsSpentNet};
 ghost use Rattle.shim_command.specs.Jobs.{IsWithin};
 ghost use Rattle.shim_command.specs.declared.mode.Course.TheVariants as courses;
 ghost use Rattle.shim_command.specs.declared.mode.Telling.TheVariants as tellings;
-ghost use Rattle.shim_answers.specs.Answer.{AnswersMeaning, AnswersRecord, AnswersRun, AnswersTold};
-ghost use Rattle.shim_answers.specs.Deeds.{accepted_line, executed, functions_from, showing_of, shown_of, IsTextInVersion2};
-ghost use Rattle.shim_answers.specs.RunEnds.{IsEnd};
-ghost use Rattle.shim_answers.specs.Recorded.{IsEndedNet};
-ghost use Rattle.shim_answers.specs.Views.{answer_view};
+ghost use Rattle.shim_results.specs.Answer.{AnswersRecord, AnswersRun};
+ghost use Rattle.shim_answers.specs.Tasks.{AnswersTold};
+ghost use Rattle.shim_results.specs.SourceActions.{accepted_line, executed, functions_from, shown_of, IsTextInVersion2};
+ghost use Rattle.shim_results.specs.RunEnds.{IsEnd};
+ghost use Rattle.shim_answers.specs.EndedNets.{IsEndedNet};
+ghost use Rattle.shim_results.specs.Views.{answer_view};
 
-use crate::answer::{Answer, refused};
 use crate::runs::{PreparedRun, RunToRecord};
-use crate::status::ExitStatus;
 use shim_base::{List, NoMemory, Shared, push_decimal};
 use shim_code::{compile, listing};
-use shim_command::{Job, Showing, Telling};
+use shim_command::{Job, Telling};
 use shim_front_end::{read_program, read_source};
 use shim_local::Local;
 use shim_net::Net;
-use shim_reference::{named, reference};
+use shim_reference::named;
 use shim_replay::journal_text;
-use shim_report::{Ended, summary, text};
+use shim_report::Ended;
+use shim_results::{Answer, ExitStatus, refused, shown};
 use shim_sharing::Accepted;
 use shim_syntax::{Program, print};
 use shim_units::Unit;
@@ -45,7 +45,7 @@ fn run_net<L: Local, G: Gate, R: Threads + Wait + Sync>(
     requires within { IsWithin job.now }
     ensures root { IfOk result (λ n. n.root ≡ net.root) }
     ensures budget { IfOk result (λ n. n.budget ≡ net.budget) }
-    ensures stands { IfOk result (λ n. IsQuietNet L.ops n ⊎ IsSpentNet L.ops n) }
+    ensures stands { IfOk result (λ n. IsQuiescentNet L.ops n ⊎ IsSpentNet L.ops n) }
     ensures keeps { IfOk result (λ n. IsNet L.ops n) }
 {
     let workers = job.workers as u32;
@@ -90,36 +90,6 @@ fn end_of_code<G: Gate, R: Threads + Wait + Sync>(
 {
     let net = run_code(rt, alloc, job, source, input, gate)?;
     Ok(named(net.ended()?, source.main_throws()))
-}
-
-// What the syntax of a source comes to, run by first events.
-fn end_of_syntax(
-    alloc: Global,
-    job: &Job,
-    source: &Shared<Accepted>,
-    input: List<u8>,
-) -> Result<Ended, NoMemory>
-    requires within { IsWithin job.now }
-    ensures { IfOk result (IsEnd courses.ByFirstEvents (executed job.now input source.now)) }
-{
-    let input = Shared::new(alloc, input)?;
-    reference(alloc, source.share()?, input, job.budget)
-}
-
-// What is told of a run of this source for a job.
-fn shown(
-    alloc: Global,
-    job: &Job,
-    showing: Showing,
-    source: &Accepted,
-    end: &Ended,
-) -> Result<List<u8>, NoMemory>
-    ensures { IfOk result (λ text. text ≡ showing_of showing job.now source.now end.now) }
-{
-    match showing {
-        Showing::Report => text(alloc, end, source.names()),
-        Showing::Summary => summary(alloc, job.file.as_slice(), job.size, end, source.names()),
-    }
 }
 
 /// Does a run that was left to be done, its processes on at most as many threads as the job has workers,
@@ -167,43 +137,6 @@ pub fn answer_record<G: Gate, R: Threads + Wait + Sync>(
     })
 }
 
-// Tells what a source means.
-fn answer_reference(
-    alloc: Global,
-    job: &Job,
-    showing: Showing,
-    source: Accepted,
-    input: List<u8>,
-) -> Result<Answer, NoMemory>
-    requires within { IsWithin job.now }
-    ensures { IfOk result (λ a. AnswersRun courses.ByFirstEvents (shown_of showing job.now) (executed job.now input source) (answer_view a)) }
-{
-    let source = Shared::new(alloc, source)?;
-    let end = end_of_syntax(alloc, job, &source, input)?;
-    Ok(Answer {
-        status: ExitStatus::of(end.outcome),
-        text: shown(alloc, job, showing, &source, &end)?,
-    })
-}
-
-/// Tells what the source in a text means.
-pub fn answer_meaning(
-    alloc: Global,
-    job: &Job,
-    showing: Showing,
-    bytes: &[u8],
-    input: List<u8>,
-) -> Result<Answer, NoMemory>
-    requires short { length bytes.now ≤ 1048576 }
-    requires within { IsWithin job.now }
-    ensures { IfOk result (λ a. AnswersMeaning (shown_of showing job.now) job.now input bytes.now (answer_view a)) }
-{
-    match read_source(alloc, bytes) {
-        Ok(source) => answer_reference(alloc, job, showing, source, input),
-        Err(fault) => refused(alloc, fault),
-    }
-}
-
 // How many units are those of functions. Those that were lifted out of functions stand behind them.
 fn function_count(units: &[Unit]) -> usize
     ensures { result ≡ functions_from 0 units.now }
@@ -217,7 +150,7 @@ fn function_count(units: &[Unit]) -> usize
 }
 
 // The line that tells how many functions a source has.
-#[tactic(auto, unfolding(crate::specs::Deeds::accepted_line))]
+#[tactic(auto, unfolding(shim_results::specs::SourceActions::accepted_line))]
 fn count_line(alloc: Global, source: &Accepted) -> Result<List<u8>, NoMemory>
     ensures { IfOk result (λ text. text ≡ accepted_line source.now) }
 {

@@ -2,7 +2,7 @@
 use Rattle.std.proofs.Common.{◌≡◌, ◌≤◌, ℕ, List, length, sym, ap, ◌∙◌, subst}
 use Rattle.shim_command.specs.declared.job.Job.{Job}
 use Rattle.shim_command.specs.Modes.{row_of}
-use Rattle.shim_answers.specs.Deeds.{Beside}
+use Rattle.shim_answers.specs.Tasks.{Beside}
 use Rattle.shim_tool.specs.Modes.{beside_in, first_content, journal_in, source_text, text_from}
 use Rattle.shim_tool.specs.Reads.{all}
 use Rattle.shim_tool.specs.Prepared.{Prepared, PreparesSaw, PreparesSource}

@@ -1,15 +1,11 @@
 -- What a call comes to before any thread is wanted, and what the answer is when a run that was left is done.
-use Rattle.std.proofs.Common.{◌≡◌, ◌≤◌, ◌⊎◌, ◌++◌, ℕ, List, [], ◌∷◌, length, Option, Some, None, inl, inr, refl, sym, ap, ◌∙◌, subst, arith}
+use Rattle.std.proofs.Common.{◌≡◌, ◌≤◌, ◌⊎◌, ℕ, List, [], ◌∷◌, length, Option, Some, None, inl, inr, refl, sym, ap, ◌∙◌, subst, arith}
 use Rattle.shim_syntax.specs.declared.Program.{Program}
 use Rattle.shim_front_end.specs.declared.SourceFault.{SourceFault}
 use Rattle.shim_front_end.specs.declared.SourceFault.TheVariants.{Parse}
 use Rattle.shim_front_end.specs.Source.{Source, IsSource}
 use Rattle.shim_command.specs.declared.job.Job.{Job}
 use Rattle.shim_command.specs.declared.mode.Course.TheVariants.{ByFirstEvents, InSomeOrder}
-use Rattle.shim_command.specs.declared.mode.Extra.{Extra}
-use Rattle.shim_command.specs.declared.mode.Extra.TheVariants.{Nothing, Input, InputAndJournal, Inputs}
-use Rattle.shim_command.specs.declared.mode.Origin.{Origin}
-use Rattle.shim_command.specs.declared.mode.Origin.TheVariants.{Stored, Generated}
 use Rattle.shim_command.specs.declared.mode.Showing.{Showing}
 use Rattle.shim_command.specs.declared.mode.Task.{Task}
 use Rattle.shim_command.specs.declared.mode.Task.TheVariants.{Explains, Records, Replays, Runs, RunsEach, Tells}
@@ -17,21 +13,22 @@ use Rattle.shim_command.specs.declared.mode.Telling.{Telling}
 use Rattle.shim_command.specs.Jobs.{IsWithin}
 use Rattle.shim_command.specs.Modes.{row_of}
 use Rattle.shim_local.specs.declared.Ended.{Ended}
-use Rattle.shim_answers.specs.declared.answer.Answer.{Answer as MadeAnswer}
+use Rattle.shim_results.specs.declared.answer.Answer.{Answer as MadeAnswer}
 use Rattle.shim_answers.specs.declared.runs.PreparedRun.{PreparedRun}
 use Rattle.shim_answers.specs.declared.runs.RunOfEach.{RunOfEach}
 use Rattle.shim_answers.specs.declared.runs.RunToRecord.{RunToRecord}
-use Rattle.shim_answers.specs.RunEnds.{Execution}
-use Rattle.shim_answers.specs.Reasons.{report_with_reasons}
-use Rattle.shim_answers.specs.Deeds.{Beside, deed_by, executed, shown_of, telling_of}
-use Rattle.shim_answers.specs.Answer.{Answer, AnswersEach, AnswersMeaning, AnswersProgram, AnswersRecord, AnswersReplay, AnswersReplaySource, AnswersRun, AnswersSource, AnswersTelling, AnswersTold, OfBytes, refused}
-use Rattle.shim_answers.specs.Views.{answer_view}
-use Rattle.shim_answers.proofs.Outcomes.{no_acceptance, one_source}
+use Rattle.shim_results.specs.RunEnds.{Execution}
+use Rattle.shim_results.specs.Reasons.{report_with_reasons}
+use Rattle.shim_answers.specs.Tasks.{Beside, action_by, telling_of, AnswersTold}
+use Rattle.shim_results.specs.SourceActions.{executed, shown_of}
+use Rattle.shim_results.specs.Answer.{Answer, AnswersEach, AnswersMeaning, AnswersProgram, AnswersRecord, AnswersReplay, AnswersReplaySource, AnswersRun, AnswersSource, AnswersTelling, OfBytes, refused}
+use Rattle.shim_results.specs.Views.{answer_view}
+use Rattle.shim_results.proofs.Outcomes.{no_acceptance, one_source}
 use Rattle.shim_tool.specs.declared.prepared.Prepared.{Prepared as MadePrepared}
 use Rattle.shim_tool.specs.declared.prepared.Prepared.TheVariants.{Answered, ToRecord, ToRun, ToRunEach}
 use Rattle.shim_tool.specs.Moments.{FilesAt}
-use Rattle.shim_tool.specs.Modes.{IsBatch, FileView, behind_named, beside_in, beside_of, first_content, input_in, input_readings, inputs_in, inputs_readings, journal_in, journal_readings, readings_beside, reads_of, contents_behind, source_readings, source_text}
-use Rattle.shim_tool.specs.Reads.{AreContents, HoldsAll, Looks, OneReadFailed, Saw, Told, all, longer_file, unread_file}
+use Rattle.shim_tool.specs.Modes.{IsBatch, FileView, beside_in, first_content, input_in, input_readings, inputs_in, reads_of, source_text}
+use Rattle.shim_tool.specs.Reads.{AreContents, HoldsAll, OneReadFailed, FilesResult, all, longer_file, unread_file}
 use Rattle.shim_tool.specs.Answer.{Answers, AnswersSaw}
 use Rattle.shim_tool.specs.Rows.{WasRead}
 use Rattle.shim_tool.specs.Prepared.{Completes, EachRow, IsForWorkers, IsPreparedWithin, IsToRecord, LeavesToRecord, LeavesToRunEach, LeavesToWorkers, Prepared, Prepares, PreparesJob, PreparesSaw, PreparesProgram, PreparesSource, RecordRow, RunRow, answered, to_record, to_run, to_run_each}
@@ -41,29 +38,29 @@ use Rattle.shim_tool.proofs.Sights.{WasSeen, none_too_long, same_contents, was_s
 
 -- what was prepared of a source, and then done, is answered
 completed_program : (job : Job) (beside : Beside) (program : Program) (source : Source) (p : Prepared) (answer : Answer) → PreparesProgram job beside program source p → Completes p answer
-    → AnswersProgram (deed_by (row_of job.mode).task job beside) program (executed job beside.input source) answer
+    → AnswersProgram (action_by (row_of job.mode).task job beside) program (executed job beside.input source) answer
 completed_program job beside program source (answered made) answer (none, unrecorded, single, done) same =
-    subst (λ (a : Answer). AnswersProgram (deed_by (row_of job.mode).task job beside) program (executed job beside.input source) a) (sym same) done
+    subst (λ (a : Answer). AnswersProgram (action_by (row_of job.mode).task job beside) program (executed job beside.input source) a) (sym same) done
 completed_program job beside program source (to_run r) answer (task, is) done =
     let P : PreparedRun → Type 0 = λ q. AnswersRun InSomeOrder (shown_of q.showing q.job) (executed q.job q.input q.source) answer in
-    subst (λ (t : Task). AnswersProgram (deed_by t job beside) program (executed job beside.input source) answer) (sym task) (subst P is done)
+    subst (λ (t : Task). AnswersProgram (action_by t job beside) program (executed job beside.input source) answer) (sym task) (subst P is done)
 completed_program job beside program source (to_record r) answer (task, is) done =
     let P : RunToRecord → Type 0 = λ q. AnswersRecord (executed q.job q.input q.source) answer in
-    subst (λ (t : Task). AnswersProgram (deed_by t job beside) program (executed job beside.input source) answer) (sym task) (subst P is done)
+    subst (λ (t : Task). AnswersProgram (action_by t job beside) program (executed job beside.input source) answer) (sym task) (subst P is done)
 completed_program job beside program source (to_run_each r) answer (task, is) done =
     let P : RunOfEach → Type 0 = λ q. AnswersEach q.job.inputs (executed q.job [] q.source) q.inputs answer in
-    subst (λ (t : Task). AnswersProgram (deed_by t job beside) program (executed job beside.input source) answer) (sym task) (subst P is done)
+    subst (λ (t : Task). AnswersProgram (action_by t job beside) program (executed job beside.input source) answer) (sym task) (subst P is done)
 
 completed_answer : (p : Prepared) (made answer : Answer) → p ≡ answered made → Completes p answer → answer ≡ made
 completed_answer p made answer is done = let P : Prepared → Type 0 = λ q. Completes q answer in subst P is done
 
 completed_source : (job : Job) (beside : Beside) (bytes : List ℕ) (p : Prepared) (answer : Answer) → PreparesSource job beside bytes p → Completes p answer
-    → AnswersSource (deed_by (row_of job.mode).task job beside) (executed job beside.input) bytes answer
+    → AnswersSource (action_by (row_of job.mode).task job beside) (executed job beside.input) bytes answer
 completed_source job beside bytes p answer (inl (program, text, inl (source, units, prepared))) done = inl (program, text, inl (source, units, completed_program job beside program source p answer prepared done))
 completed_source job beside bytes p answer (inl (program, text, inr (fault, refused, is))) done = inl (program, text, inr (fault, refused, completed_answer p _ answer is done))
 completed_source job beside bytes p answer (inr (fault, only, is)) done = inr (fault, only, completed_answer p _ answer is done)
 
-completed_saw : (job : Job) (saw : Saw) (p : Prepared) (answer : Answer) → PreparesSaw job saw p → Completes p answer → AnswersSaw job saw answer
+completed_saw : (job : Job) (saw : FilesResult) (p : Prepared) (answer : Answer) → PreparesSaw job saw p → Completes p answer → AnswersSaw job saw answer
 completed_saw job (all contents) p answer prepared done = completed_source job (beside_in job contents) (source_text job contents) p answer prepared done
 completed_saw job (unread_file r) p answer is done = completed_answer p _ answer is done
 completed_saw job (longer_file r) p answer is done = completed_answer p _ answer is done
@@ -73,83 +70,23 @@ pub completed : (ask : Option Job) (before now : FilesAt) (p : Prepared) (answer
 completed None before now p answer (same, is) done = (same, completed_answer p _ answer is done)
 completed (Some job) before now p answer (saw, looks, prepared) done = (saw, looks, completed_saw job saw p answer prepared done)
 
--- the first of the contents that were read is no longer than a source, where that is read
-pub first_short : (held : Told) (origin : Origin) (job : Job) (rest : List FileView) (contents : List (List ℕ)) → AreContents held (source_readings origin job ++ rest) contents → origin ≡ Stored
-    → length (first_content contents) ≤ 1048576
-first_short held Stored job rest [] are is = absurd are
-first_short held Stored job rest (c ∷ cs) are is = are.0.0
-first_short held Generated job rest contents are is = absurd (cc is)
-
-pub read_short : (job : Job) (before now : FilesAt) (contents : List (List ℕ)) → Looks (reads_of job) before now (all contents) → (row_of job.mode).origin ≡ Stored → length (first_content contents) ≤ 1048576
-read_short job before now contents looks is =
-    first_short before.held (row_of job.mode).origin job (readings_beside (row_of job.mode).beside job) contents (was_seen (reads_of job) before now (all contents) looks).0 is
-
 -- no file may have more bytes than a journal
 abbrev AreFew : List FileView → Type 0
 AreFew [] = Unit {0}
 AreFew (r ∷ rs) = (r.limit ≤ 67108864) × AreFew rs
 
-few_and_few : (rs ss : List FileView) → AreFew rs → AreFew ss → AreFew (rs ++ ss)
-few_and_few [] ss p q = q
-few_and_few (r ∷ rs) ss p q = (p.0, few_and_few rs ss p.1 q)
-
 few_inputs : (input : Option (List ℕ)) → AreFew (input_readings input)
 few_inputs None = tt
 few_inputs (Some name) = (omega arith, tt)
-
-few_journals : (journal : Option (List ℕ)) → AreFew (journal_readings journal)
-few_journals None = tt
-few_journals (Some name) = (omega arith, tt)
-
-few_of_names : (names : List (List ℕ)) → AreFew (inputs_readings names)
-few_of_names [] = tt
-few_of_names (name ∷ names) = (omega arith, few_of_names names)
-
-few_sources : (origin : Origin) (job : Job) → AreFew (source_readings origin job)
-few_sources Stored job = (omega arith, tt)
-few_sources Generated job = tt
-
-few_beside : (beside : Extra) (job : Job) → AreFew (readings_beside beside job)
-few_beside Nothing job = tt
-few_beside Input job = few_inputs job.input
-few_beside InputAndJournal job = few_and_few (input_readings job.input) (journal_readings job.journal) (few_inputs job.input) (few_journals job.journal)
-few_beside Inputs job = few_of_names job.inputs
 
 -- so no content has
 abbrev AreShort : List (List ℕ) → Type 0
 AreShort [] = Unit {0}
 AreShort (c ∷ cs) = (length c ≤ 67108864) × AreShort cs
 
-contents_short : (held : Told) (rs : List FileView) (contents : List (List ℕ)) → AreFew rs → AreContents held rs contents → AreShort contents
-contents_short held [] [] few are = tt
-contents_short held [] (c ∷ cs) few are = absurd are
-contents_short held (r ∷ rs) [] few are = absurd are
-contents_short held (r ∷ rs) (c ∷ cs) few are = (let here = are.0.0 in let most = few.0 in omega (arith, here, most), contents_short held rs cs few.1 are.1)
-
 first_few : (cs : List (List ℕ)) → AreShort cs → length (first_content cs) ≤ 67108864
 first_few [] short = omega arith
 first_few (c ∷ cs) short = short.0
-
-rest_few : (cs : List (List ℕ)) → AreShort cs → AreShort (contents_behind cs)
-rest_few [] short = tt
-rest_few (c ∷ cs) short = short.1
-
-behind_few : (name : Option (List ℕ)) (cs : List (List ℕ)) → AreShort cs → AreShort (behind_named name cs)
-behind_few None cs short = short
-behind_few (Some name) cs short = rest_few cs short
-
-journal_of_few : (beside : Extra) (job : Job) (rest : List (List ℕ)) → AreShort rest → length ((beside_of beside job rest).journal) ≤ 67108864
-journal_of_few Nothing job rest short = omega arith
-journal_of_few Input job rest short = omega arith
-journal_of_few InputAndJournal job rest short = first_few (behind_named job.input rest) (behind_few job.input rest short)
-journal_of_few Inputs job rest short = omega arith
-
-pub journal_few : (job : Job) (before now : FilesAt) (contents : List (List ℕ)) → Looks (reads_of job) before now (all contents) → length (journal_in job contents) ≤ 67108864
-journal_few job before now contents looks =
-    let row = row_of job.mode in
-    let few = few_and_few (source_readings row.origin job) (readings_beside row.beside job) (few_sources row.origin job) (few_beside row.beside job) in
-    let short = contents_short before.held (reads_of job) contents few (was_seen (reads_of job) before now (all contents) looks).0 in
-    journal_of_few row.beside job (contents_behind contents) (rest_few contents short)
 
 -- no answer was prepared
 abbrev IsNoAnswer : Prepared → Type 0
@@ -167,7 +104,7 @@ left_source job before now contents p none same are (inl (program, text, inl (so
 left_source job before now contents p none same are (inl (program, text, inr (fault, refused, is))) = absurd (none _ is)
 left_source job before now contents p none same are (inr (fault, only, is)) = absurd (none _ is)
 
-left_saw : (job : Job) (before now : FilesAt) (saw : Saw) (p : Prepared) → IsNoAnswer p → WasSeen (reads_of job) before now saw → PreparesSaw job saw p → LeftSo (Some job) before now p
+left_saw : (job : Job) (before now : FilesAt) (saw : FilesResult) (p : Prepared) → IsNoAnswer p → WasSeen (reads_of job) before now saw → PreparesSaw job saw p → LeftSo (Some job) before now p
 left_saw job before now (all contents) p none (are, same) prepared = left_source job before now contents p none same are prepared
 left_saw job before now (unread_file q) p none seen is = absurd (none _ is)
 left_saw job before now (longer_file q) p none seen is = absurd (none _ is)
@@ -186,7 +123,7 @@ module _ (job : Job) (contents : List (List ℕ)) (source : Source) (has : IsSou
   left_of_source p (inl (program, text, inr (fault, refused, is))) = absurd (no_acceptance (source_text job contents) program fault text refused source has)
   left_of_source p (inr (fault, only, is)) = absurd (only.textless has.program has.text)
 
-  left_of_saw : (before now : FilesAt) (p : Prepared) (saw : Saw) → HoldsAll before.held (reads_of job) contents → WasSeen (reads_of job) before now saw → PreparesSaw job saw p
+  left_of_saw : (before now : FilesAt) (p : Prepared) (saw : FilesResult) → HoldsAll before.held (reads_of job) contents → WasSeen (reads_of job) before now saw → PreparesSaw job saw p
       → (p ≡ q) ⊎ OneReadFailed (reads_of job) before now
   left_of_saw before now p (all read) h (are, same) prepared =
       let P : List (List ℕ) → Type 0 = λ cs. PreparesSaw job (all cs) p in
@@ -301,7 +238,7 @@ within_source job beside bytes p within few (inl (program, text, inl (source, un
 within_source job beside bytes p within few (inl (program, text, inr (fault, refused, is))) = within_answer p _ is
 within_source job beside bytes p within few (inr (fault, only, is)) = within_answer p _ is
 
-within_saw : (job : Job) (before now : FilesAt) (saw : Saw) (p : Prepared) → IsWithin job → WasSeen (reads_of job) before now saw → PreparesSaw job saw p → IsPreparedWithin p
+within_saw : (job : Job) (before now : FilesAt) (saw : FilesResult) (p : Prepared) → IsWithin job → WasSeen (reads_of job) before now saw → PreparesSaw job saw p → IsPreparedWithin p
 within_saw job before now (all contents) p within (are, same) prepared =
     within_source job (beside_in job contents) (source_text job contents) p within (λ task. (few_names job before.held contents within task are, batch_inputs job before.held contents task are)) prepared
 within_saw job before now (unread_file r) p within seen is = within_answer p _ is
@@ -345,14 +282,14 @@ PreparesRefusal fault p = p ≡ answered (refused fault)
 module _ (job : Job) (beside : Beside) (bytes : List ℕ) where
   -- an answer by a task that leaves no run
   answer_prepared : (task : Task) (OfSource : Program → Source → Answer → Type 0) (a : Answer) → (row_of job.mode).task ≡ task → ((showing : Showing) → task ≡ Runs InSomeOrder showing → ⊥) → (task ≡ Records → ⊥) → (task ≡ RunsEach → ⊥)
-      → ((program : Program) (source : Source) (b : Answer) → OfSource program source b → AnswersProgram (deed_by task job beside) program (executed job beside.input source) b)
+      → ((program : Program) (source : Source) (b : Answer) → OfSource program source b → AnswersProgram (action_by task job beside) program (executed job beside.input source) b)
       → OfBytes OfSource Refuses bytes a → PreparesSource job beside bytes (answered a)
   answer_prepared task OfSource a is unleft unrecorded single as_done comes = by_bytes OfSource (PreparesProgram job beside) Refuses PreparesRefusal bytes a (answered a)
       (λ program source done. (
         (λ showing other. unleft showing (sym is ∙ other)),
         (λ other. unrecorded (sym is ∙ other)),
         (λ other. single (sym is ∙ other)),
-        subst (λ (t : Task). AnswersProgram (deed_by t job beside) program (executed job beside.input source) a) (sym is) (as_done program source a done),
+        subst (λ (t : Task). AnswersProgram (action_by t job beside) program (executed job beside.input source) a) (sym is) (as_done program source a done),
       ))
       (λ fault same. ap answered same) comes
 

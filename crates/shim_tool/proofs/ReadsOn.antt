@@ -6,15 +6,15 @@ use Rattle.shim_tool.specs.declared.files.Found.{Found}
 use Rattle.shim_tool.specs.declared.files.Found.TheVariants.{Unread, Longer, Whole}
 use Rattle.shim_tool.specs.Moments.{FilesAt, KeepsFiles}
 use Rattle.shim_tool.specs.Modes.{FileView}
-use Rattle.shim_tool.specs.Reads.{Looks, Saw, Sees, all, longer, longer_file, then_saw, unread, unread_file, whole}
+use Rattle.shim_tool.specs.Reads.{ReadsAll, FilesResult, ReadsOne, all, longer, longer_file, then_saw, unread, unread_file, whole}
 use Rattle.shim_tool.specs.Views.{found_view, reading_view}
 
 -- what was seen behind these contents
-abbrev pub behind : List (List ℕ) → Saw → Saw
+abbrev pub behind : List (List ℕ) → FilesResult → FilesResult
 behind [] saw = saw
 behind (c ∷ cs) saw = then_saw c (behind cs saw)
 
-one_more : (cs : List (List ℕ)) (bytes : List ℕ) (saw : Saw) → behind (cs ++ bytes ∷ []) saw ≡ behind cs (then_saw bytes saw)
+one_more : (cs : List (List ℕ)) (bytes : List ℕ) (saw : FilesResult) → behind (cs ++ bytes ∷ []) saw ≡ behind cs (then_saw bytes saw)
 one_more [] bytes saw = refl
 one_more (c ∷ cs) bytes saw = ap (then_saw c) (one_more cs bytes saw)
 
@@ -32,7 +32,7 @@ then_longer (c ∷ cs) r = ap (then_saw c) (then_longer cs r)
 
 -- of the files the first gave these contents, and whatever is seen of the others is seen behind them
 abbrev pub ReadsOn : List FileToRead → FilesAt → List (List ℕ) → List FileToRead → FilesAt → Type 0
-ReadsOn files before contents left between = (now : FilesAt) (saw : Saw) → Looks (map reading_view left) between now saw → Looks (map reading_view files) before now (behind contents saw)
+ReadsOn files before contents left between = (now : FilesAt) (saw : FilesResult) → ReadsAll (map reading_view left) between now saw → ReadsAll (map reading_view files) before now (behind contents saw)
 
 module _ (files : List FileToRead) (before between later : FilesAt) (cs : List (List ℕ)) where
   -- the file at a place is looked at
@@ -42,29 +42,29 @@ module _ (files : List FileToRead) (before between later : FilesAt) (cs : List (
 
     -- it was seen so
     abbrev IsSeen : Found → Type 0
-    IsSeen found = Sees (reading_view (slice_index_or files at d)) between later (found_view found)
+    IsSeen found = ReadsOne (reading_view (slice_index_or files at d)) between later (found_view found)
 
     pub one_read : (found : Found) (bytes : List ℕ) (more : List (List ℕ)) → found ≡ Whole bytes → IsSeen found → more ≡ cs ++ bytes ∷ [] → ReadsOn files before more (drop (at + 1) files) later
     one_read found bytes more is seen pushed now saw looks =
         let sees : IsSeen (Whole bytes) = subst IsSeen is seen in
-        subst (λ (s : Saw). Looks (map reading_view files) before now s) (sym (one_more cs bytes saw) ∙ ap (λ (ds : List (List ℕ)). behind ds saw) (sym pushed))
+        subst (λ (s : FilesResult). ReadsAll (map reading_view files) before now s) (sym (one_more cs bytes saw) ∙ ap (λ (ds : List (List ℕ)). behind ds saw) (sym pushed))
         (next now (then_saw bytes saw) (later, whole bytes, keeps, sees, (saw, looks, refl)))
 
-    pub one_unread : (found : Found) → found ≡ Unread → IsSeen found → Looks (map reading_view files) before later (unread_file (reading_view (slice_index_or files at d)))
+    pub one_unread : (found : Found) → found ≡ Unread → IsSeen found → ReadsAll (map reading_view files) before later (unread_file (reading_view (slice_index_or files at d)))
     one_unread found is seen =
         let r = reading_view (slice_index_or files at d) in
         let sees : IsSeen Unread = subst IsSeen is seen in
-        subst (λ (s : Saw). Looks (map reading_view files) before later s) (then_unread cs r) (next later (unread_file r) (later, unread, keeps, sees, (refl, refl)))
+        subst (λ (s : FilesResult). ReadsAll (map reading_view files) before later s) (then_unread cs r) (next later (unread_file r) (later, unread, keeps, sees, (refl, refl)))
 
-    pub one_longer : (found : Found) → found ≡ Longer → IsSeen found → Looks (map reading_view files) before later (longer_file (reading_view (slice_index_or files at d)))
+    pub one_longer : (found : Found) → found ≡ Longer → IsSeen found → ReadsAll (map reading_view files) before later (longer_file (reading_view (slice_index_or files at d)))
     one_longer found is seen =
         let r = reading_view (slice_index_or files at d) in
         let sees : IsSeen Longer = subst IsSeen is seen in
-        subst (λ (s : Saw). Looks (map reading_view files) before later s) (then_longer cs r) (next later (longer_file r) (later, longer, keeps, sees, (refl, refl)))
+        subst (λ (s : FilesResult). ReadsAll (map reading_view files) before later s) (then_longer cs r) (next later (longer_file r) (later, longer, keeps, sees, (refl, refl)))
 
 -- all were read
 pub all_read : (files : List FileToRead) (before between : FilesAt) (cs : List (List ℕ)) (at : ℕ) → length files ≤ at → ReadsOn files before cs (drop at files) between
-    → Looks (map reading_view files) before between (all cs)
+    → ReadsAll (map reading_view files) before between (all cs)
 all_read files before between cs at past on =
     let end : ReadsOn files before cs [] between = subst (λ (left : List FileToRead). ReadsOn files before cs left between) (drop_all at files past) on in
-    subst (λ (s : Saw). Looks (map reading_view files) before between s) (nothing_left cs) (end between (all []) (refl, refl))
+    subst (λ (s : FilesResult). ReadsAll (map reading_view files) before between s) (nothing_left cs) (end between (all []) (refl, refl))

@@ -14,31 +14,32 @@ use Rattle.shim_local.specs.declared.Ended.{Ended}
 use Rattle.shim_process.specs.LocalState.{LocalState}
 use Rattle.shim_process.specs.OwnSlots.{UsesOwnSlots}
 use Rattle.shim_semantics.specs.Trees.{Tree}
-use Rattle.shim_answers.specs.RunEnds.{Execution, printed_steps, read_off, status_of, IsBeginning, IsEnd, IsEndStatus, IsReachedIn, IsSpent, IsStoppedAt, as_meant, stopped}
-use Rattle.shim_answers.specs.Batches.{greatest, on_each, reports_of}
-use Rattle.shim_answers.specs.Recorded.{IsJournalRefused}
-use Rattle.shim_answers.specs.Deeds.{Beside, Deed, deed_by, records}
-use Rattle.shim_answers.specs.Answer.{Answer, AnswersEach, AnswersProgram, IsNoSource, IsRefusal}
-use Rattle.shim_answers.specs.DeedEnds.{EndsBy, IsReached, IsRefusedBy, IsShown, IsShownAt, IsStoppedBy, status_by}
-use Rattle.shim_answers.proofs.Beginnings.{stopped_tree}
-use Rattle.shim_answers.proofs.Causes.{Tells, tells_blocked, tells_done, tells_failed, tells_spent}
-use Rattle.shim_answers.proofs.DeedLemmas.{DeedOutcome, DeedTold, IsDeedStatus, IsMany, ToldStopped, deed_below, deed_outcome, deed_reached, deed_spent, deed_status, ends, ends_by, many, status_is, stays, stopped_counts, told_of}
-use Rattle.shim_answers.proofs.Outcomes.{Outcome, does, refuses, outcome}
-use Rattle.shim_answers.proofs.SourceSlots.{source_uses_own_slots}
-use Rattle.shim_answers.proofs.Statuses.{each_status}
+use Rattle.shim_results.specs.RunEnds.{Execution, printed_steps, read_off, status_of, IsBeginning, IsEnd, IsEndStatus, IsReachedIn, IsSpent, IsStoppedAt, as_meant, stopped}
+use Rattle.shim_results.specs.Batches.{greatest, on_each, reports_of}
+use Rattle.shim_results.specs.Recorded.{IsJournalRefused}
+use Rattle.shim_answers.specs.Tasks.{Beside, action_by}
+use Rattle.shim_results.specs.SourceActions.{SourceAction, records}
+use Rattle.shim_results.specs.Answer.{Answer, AnswersEach, AnswersProgram, IsNoSource, IsRefusal}
+use Rattle.shim_results.specs.SourceActionEnds.{EndsBy, IsReached, IsRefusedBy, IsShown, IsShownAt, IsStoppedBy, status_by}
+use Rattle.shim_results.proofs.Beginnings.{stopped_tree}
+use Rattle.shim_results.proofs.Causes.{Tells, tells_blocked, tells_done, tells_failed, tells_spent}
+use Rattle.shim_results.proofs.SourceActionLemmas.{ActionOutcome, ActionTold, IsActionStatus, IsMany, ToldStopped, action_below, action_outcome, action_reached, action_spent, action_status, ends, ends_by, many, status_is, stays, stopped_counts, told_of}
+use Rattle.shim_results.proofs.Outcomes.{Outcome, does, refuses, outcome}
+use Rattle.shim_results.proofs.SourceSlots.{source_uses_own_slots}
+use Rattle.shim_results.proofs.Statuses.{each_status}
 use Rattle.shim_tool.specs.Moments.{FilesAt, SinkAt}
-use Rattle.shim_tool.specs.Modes.{FileView, beside_in, deed_of, execution, executions, inputs_in, reads_of, source_text, IsBatch, IsExecution}
-use Rattle.shim_tool.specs.Reads.{AreContents, HoldsAll, HoldsUpTo, Holds, OneReadFailed, Saw, all, longer_file, unread_file}
+use Rattle.shim_tool.specs.Modes.{FileView, beside_in, source_action_of, execution, executions, inputs_in, reads_of, source_text, IsBatch, IsExecution}
+use Rattle.shim_tool.specs.Reads.{AreContents, HoldsAll, HoldsUpTo, Holds, OneReadFailed, FilesResult, all, longer_file, unread_file}
 use Rattle.shim_tool.specs.Answer.{Answers, AnswersSaw, FailedGrew, MayAnswer, longer_line, memory_line, usage_line}
 use Rattle.shim_tool.specs.Call.{Ran, Writes}
-use Rattle.shim_tool.specs.Rows.{Came, CameWithText, Comes, ComesUnlessUnread, WasRead, CameStopped, EndRow, SpentRow, CountRow, BeginningRow, IsBatchAsked, IsEndOfOne, CameOfEach, BatchRow, RefusedRow, FileCause, FileRow, SinkRow, MemoryRow, WordsRow, JournalRow, FilesRow, IsComplete, IsJobRefused}
+use Rattle.shim_tool.specs.Rows.{Printed, PrintedWithText, PrintedOrFailed, PrintedUnlessUnread, WasRead, CameStopped, EndRow, SpentRow, CountRow, BeginningRow, IsBatchAsked, IsEndOfOne, CameOfEach, BatchRow, RefusedRow, FileCause, FileRow, SinkRow, MemoryRow, WordsRow, JournalRow, FilesRow, IsComplete, IsJobRefused}
 use Rattle.shim_tool.proofs.Batches.{batch_inputs}
 use Rattle.shim_tool.proofs.Sights.{WasSeen, looks_grew, was_seen, same_contents, none_failed, none_too_long, not_all_read, one_too_long}
 
 -- What came of an answer: it was written, or memory was wanted, or the sink failed.
 pub data Wrote (ask : Option Job) (before now : FilesAt) (ob on : SinkAt) (result : ℕ) : Type 0 where
-  answered : (answer : Answer) → Answers ask before now answer → Came answer.status answer.text ob on result → Wrote ask before now ob on result
-  lacked : Came 8 memory_line ob on result → Wrote ask before now ob on result
+  answered : (answer : Answer) → Answers ask before now answer → Printed answer.status answer.text ob on result → Wrote ask before now ob on result
+  lacked : Printed 8 memory_line ob on result → Wrote ask before now ob on result
   failed : (answer : Answer) → MayAnswer ask before now answer → result ≡ 7 → HasRisen ob.faults on.faults → TakesPart ob.taken answer.text on.taken → Wrote ask before now ob on result
 
 wrote : (ask : Option Job) (before now : FilesAt) (ob on : SinkAt) (result : ℕ) → Ran ask before now ob on result → Wrote ask before now ob on result
@@ -57,22 +58,22 @@ ran_job ask job before now ob on result ran asks =
 
 -- What comes of the source of a job whose files have these contents.
 abbrev OutcomeOf : Job → List (List ℕ) → Answer → Type 0
-OutcomeOf job contents answer = Outcome (deed_of job contents) (execution job contents) (source_text job contents) answer
+OutcomeOf job contents answer = Outcome (source_action_of job contents) (execution job contents) (source_text job contents) answer
 
 answered_source : (job : Job) (contents : List (List ℕ)) (answer : Answer) → AnswersSaw job (all contents) answer → OutcomeOf job contents answer
-answered_source job contents answer is = outcome (deed_of job contents) (execution job contents) (source_text job contents) answer is
+answered_source job contents answer is = outcome (source_action_of job contents) (execution job contents) (source_text job contents) answer is
 
 -- What comes of its source, where that is accepted.
-abbrev DeedOf : Job → List (List ℕ) → Program → Source → Answer → Type 0
-DeedOf job contents program source answer = DeedOutcome (deed_of job contents) program (execution job contents source) answer
+abbrev ActionOf : Job → List (List ℕ) → Program → Source → Answer → Type 0
+ActionOf job contents program source answer = ActionOutcome (source_action_of job contents) program (execution job contents source) answer
 
-done_so : (job : Job) (contents : List (List ℕ)) (source : Source) (answer : Answer) (is : IsSource (source_text job contents) source) → AnswersProgram (deed_of job contents) is.program (execution job contents source) answer
-    → DeedOf job contents is.program source answer
-done_so job contents source answer is done = deed_outcome (deed_of job contents) is.program (execution job contents source) answer (source_uses_own_slots (source_text job contents) source is) done
+done_so : (job : Job) (contents : List (List ℕ)) (source : Source) (answer : Answer) (is : IsSource (source_text job contents) source) → AnswersProgram (source_action_of job contents) is.program (execution job contents source) answer
+    → ActionOf job contents is.program source answer
+done_so job contents source answer is done = action_outcome (source_action_of job contents) is.program (execution job contents source) answer (source_uses_own_slots (source_text job contents) source is) done
 
 -- What came of a job whose files are told and short enough: its source was answered, or a read failed, or memory was wanted, or the sink failed.
 pub data CameOf (job : Job) (contents : List (List ℕ)) (before now : FilesAt) (ob on : SinkAt) (result : ℕ) : Type 0 where
-  of_source : (answer : Answer) → OutcomeOf job contents answer → Came answer.status answer.text ob on result → CameOf job contents before now ob on result
+  of_source : (answer : Answer) → OutcomeOf job contents answer → Printed answer.status answer.text ob on result → CameOf job contents before now ob on result
   unreadable : result ≡ 6 → OneReadFailed (reads_of job) before now → CameOf job contents before now ob on result
   wanting : result ≡ 8 → CameOf job contents before now ob on result
   unwritten : result ≡ 7 → HasRisen ob.faults on.faults → CameOf job contents before now ob on result
@@ -80,7 +81,7 @@ pub data CameOf (job : Job) (contents : List (List ℕ)) (before now : FilesAt) 
 came_of : (ask : Option Job) (job : Job) (contents : List (List ℕ)) (before now : FilesAt) (ob on : SinkAt) (result : ℕ) → Ran ask before now ob on result →
     ask ≡ Some job → HoldsAll before.held (reads_of job) contents → CameOf job contents before now ob on result
 came_of ask job contents before now ob on result ran asks h = by_wrote (ran_job ask job before now ob on result ran asks) where
-  by_saw : (answer : Answer) (saw : Saw) → WasSeen (reads_of job) before now saw → AnswersSaw job saw answer → Came answer.status answer.text ob on result
+  by_saw : (answer : Answer) (saw : FilesResult) → WasSeen (reads_of job) before now saw → AnswersSaw job saw answer → Printed answer.status answer.text ob on result
       → CameOf job contents before now ob on result
   by_saw answer (all read) (are, same) is came =
       let P : List (List ℕ) → Type 0 = λ cs. AnswersSaw job (all cs) answer in
@@ -95,31 +96,31 @@ came_of ask job contents before now ob on result ran asks h = by_wrote (ran_job 
 
 -- the source is one, and so is its program, so what is answered to it is answered to this one
 program_of : (job : Job) (contents : List (List ℕ)) (source : Source) (answer : Answer) (is : IsSource (source_text job contents) source) → OutcomeOf job contents answer
-    → AnswersProgram (deed_of job contents) is.program (execution job contents source) answer
+    → AnswersProgram (source_action_of job contents) is.program (execution job contents source) answer
 program_of job contents source answer is (does other is_other done only free) =
     let same = only source is in
-    let P : Source → Type 0 = λ b. AnswersProgram (deed_of job contents) is.program (execution job contents b) answer in
-    let Q : Program → Type 0 = λ q. AnswersProgram (deed_of job contents) q (execution job contents other) answer in
+    let P : Source → Type 0 = λ b. AnswersProgram (source_action_of job contents) is.program (execution job contents b) answer in
+    let Q : Program → Type 0 = λ q. AnswersProgram (source_action_of job contents) q (execution job contents other) answer in
     subst P (sym same.0) (subst Q (sym same.1) done)
 program_of job contents source answer is (refuses line why only none refused) = absurd (none source is)
 
 -- and so is what comes of it
-deed_of_source : (job : Job) (contents : List (List ℕ)) (source : Source) (answer : Answer) (is : IsSource (source_text job contents) source) → OutcomeOf job contents answer → DeedOf job contents is.program source answer
-deed_of_source job contents source answer is outcome = done_so job contents source answer is (program_of job contents source answer is outcome)
+action_of_source : (job : Job) (contents : List (List ℕ)) (source : Source) (answer : Answer) (is : IsSource (source_text job contents) source) → OutcomeOf job contents answer → ActionOf job contents is.program source answer
+action_of_source job contents source answer is outcome = done_so job contents source answer is (program_of job contents source answer is outcome)
 
 -- what is told of the execution that is done
 told_so : (job : Job) (contents : List (List ℕ)) (source : Source) (x : Execution) (answer : Answer) (is : IsSource (source_text job contents) source) → IsExecution job contents source x → OutcomeOf job contents answer
-    → UsesOwnSlots x.source × DeedTold (deed_of job contents) is.program x answer
-told_so job contents source x answer is run outcome = told_of (deed_of job contents) is.program (execution job contents source) answer (deed_of_source job contents source answer is outcome) x run
+    → UsesOwnSlots x.source × ActionTold (source_action_of job contents) is.program x answer
+told_so job contents source x answer is run outcome = told_of (source_action_of job contents) is.program (execution job contents source) answer (action_of_source job contents source answer is outcome) x run
 
--- what is answered to a source that is accepted has the status of a deed
-does_status : (job : Job) (contents : List (List ℕ)) (source : Source) (answer : Answer) (is : IsSource (source_text job contents) source) → AnswersProgram (deed_of job contents) is.program (execution job contents source) answer
-    → IsDeedStatus answer.status
-does_status job contents source answer is done = deed_status (deed_of job contents) is.program (execution job contents source) answer (done_so job contents source answer is done)
+-- what is answered to a source that is accepted has the status of a action
+does_status : (job : Job) (contents : List (List ℕ)) (source : Source) (answer : Answer) (is : IsSource (source_text job contents) source) → AnswersProgram (source_action_of job contents) is.program (execution job contents source) answer
+    → IsActionStatus answer.status
+does_status job contents source answer is done = action_status (source_action_of job contents) is.program (execution job contents source) answer (done_so job contents source answer is done)
 
 -- a refusal's line was written with 5
 refused_with : (job : Job) (contents : List (List ℕ)) (line : List ℕ) (answer : Answer) (ob on : SinkAt) (result : ℕ) → IsRefusal (source_text job contents) line → OutcomeOf job contents answer →
-    Came answer.status answer.text ob on result → Came 5 line ob on result
+    Printed answer.status answer.text ob on result → Printed 5 line ob on result
 refused_with job contents line answer ob on result why (does source has told only free) came = absurd (free line why)
 refused_with job contents line answer ob on result why (refuses other cause only none is) came =
     let text : answer.text ≡ line = ap (λ (a : Answer). a.text) is ∙ sym (only line why) in
@@ -127,16 +128,16 @@ refused_with job contents line answer ob on result why (refuses other cause only
 
 -- bytes that are no source are refused with some line
 refused_somehow : (job : Job) (contents : List (List ℕ)) (answer : Answer) (ob on : SinkAt) (result : ℕ) → IsNoSource (source_text job contents) → OutcomeOf job contents answer →
-    Came answer.status answer.text ob on result → (line : List ℕ) × IsRefusal (source_text job contents) line × Came 5 line ob on result
+    Printed answer.status answer.text ob on result → (line : List ℕ) × IsRefusal (source_text job contents) line × Printed 5 line ob on result
 refused_somehow job contents answer ob on result none (does source has told only free) came = absurd (none source has)
 refused_somehow job contents answer ob on result none (refuses line why only _ is) came =
     (line, why, (came.0 ∙ ap (λ (a : Answer). a.status) is, came.1 ∙ ap (λ (a : Answer). then_bytes ob.taken a.text) is))
 
 -- which is that of no fault of a source, a file, a sink or memory
-deed_no_fault : (fault : ℕ) → 5 ≤ fault → fault ≤ 8 → (status : ℕ) → IsDeedStatus status → status ≡ fault → ⊥
-deed_no_fault fault least most status deed is = elim deed.few [ inl few ↦ omega (arith, few, is, least) | inr nine ↦ omega (arith, nine, is, most) ]
+action_no_fault : (fault : ℕ) → 5 ≤ fault → fault ≤ 8 → (status : ℕ) → IsActionStatus status → status ≡ fault → ⊥
+action_no_fault fault least most status action is = elim action.few [ inl few ↦ omega (arith, few, is, least) | inr nine ↦ omega (arith, nine, is, most) ]
 
--- what is told where the status of a deed came
+-- what is told where the status of a action came
 record EndedSo (status : ℕ) (before now : FilesAt) (ob on : SinkAt) (asks : Option Job) : Type 0 where
   unfailed : now.failed ≡ before.failed
   asked : Job
@@ -148,12 +149,12 @@ record EndedSo (status : ℕ) (before now : FilesAt) (ob on : SinkAt) (asks : Op
   x : Execution
   run : IsExecution asked contents source x
   own : UsesOwnSlots x.source
-  told : DeedTold (deed_of asked contents) is.program x answer
-  by : status_by (deed_of asked contents) x ≡ status
+  told : ActionTold (source_action_of asked contents) is.program x answer
+  by : status_by (source_action_of asked contents) x ≡ status
   taken : on.taken ≡ then_bytes ob.taken answer.text
 
 -- a source is run once on each of several inputs for a job that asks for that alone
-many_task : (task : Task) (job : Job) (beside : Beside) → IsMany (deed_by task job beside) → task ≡ tasks.RunsEach
+many_task : (task : Task) (job : Job) (beside : Beside) → IsMany (action_by task job beside) → task ≡ tasks.RunsEach
 many_task (tasks.Tells telling) job beside several = absurd several
 many_task (tasks.Runs course showing) job beside several = absurd several
 many_task tasks.Explains job beside several = absurd several
@@ -161,13 +162,13 @@ many_task tasks.Records job beside several = absurd several
 many_task tasks.Replays job beside several = absurd several
 many_task tasks.RunsEach job beside several = refl
 
--- the status of a deed comes of a deed alone, where the words don't ask for several runs
+-- the status of a action comes of a action alone, where the words don't ask for several runs
 ended_so : (status : ℕ) → status < 5 → (status ≡ 2 → ⊥) → (ask : Option Job) (before now : FilesAt) (ob on : SinkAt) (result : ℕ) → Ran ask before now ob on result → (IsBatchAsked ask → ⊥) → result ≡ status
     → EndedSo status before now ob on ask
 ended_so status few apart ask before now ob on result ran alone came_so = by_wrote ask (wrote ask before now ob on result ran) alone came_so where
-  by_deed : (job : Job) (contents : List (List ℕ)) (source : Source) (answer : Answer) → (IsBatchAsked (Some job) → ⊥) → now.failed ≡ before.failed → AreContents before.held (reads_of job) contents → (is : IsSource (source_text job contents) source)
-      → DeedOf job contents is.program source answer → Came answer.status answer.text ob on result → result ≡ status → EndedSo status before now ob on (Some job)
-  by_deed job contents source answer alone same are is (ends x own run only free told) came so = record {
+  by_action : (job : Job) (contents : List (List ℕ)) (source : Source) (answer : Answer) → (IsBatchAsked (Some job) → ⊥) → now.failed ≡ before.failed → AreContents before.held (reads_of job) contents → (is : IsSource (source_text job contents) source)
+      → ActionOf job contents is.program source answer → Printed answer.status answer.text ob on result → result ≡ status → EndedSo status before now ob on (Some job)
+  by_action job contents source answer alone same are is (ends x own run only free told) came so = record {
     unfailed = same;
     asked = job;
     contents = contents;
@@ -182,15 +183,15 @@ ended_so status few apart ask before now ob on result ran alone came_so = by_wro
     by = sym told.status ∙ (sym came.0 ∙ so);
     taken = came.1;
   }
-  by_deed job contents source answer alone same are is (stays line why only none refused) came so = absurd (let e : answer.status ≡ 9 = ap (λ (a : Answer). a.status) refused in omega (arith, e, came.0, so, few))
-  by_deed job contents source answer alone same are is (many several end none free) came so = absurd (alone (job, refl, many_task (row_of job.mode).task job (beside_in job contents) several))
+  by_action job contents source answer alone same are is (stays line why only none refused) came so = absurd (let e : answer.status ≡ 9 = ap (λ (a : Answer). a.status) refused in omega (arith, e, came.0, so, few))
+  by_action job contents source answer alone same are is (many several end none free) came so = absurd (alone (job, refl, many_task (row_of job.mode).task job (beside_in job contents) several))
 
   by_source : (job : Job) (contents : List (List ℕ)) (answer : Answer) → (IsBatchAsked (Some job) → ⊥) → now.failed ≡ before.failed → AreContents before.held (reads_of job) contents → OutcomeOf job contents answer
-      → Came answer.status answer.text ob on result → result ≡ status → EndedSo status before now ob on (Some job)
-  by_source job contents answer alone same are (does source has done only free) came so = by_deed job contents source answer alone same are has (done_so job contents source answer has done) came so
+      → Printed answer.status answer.text ob on result → result ≡ status → EndedSo status before now ob on (Some job)
+  by_source job contents answer alone same are (does source has done only free) came so = by_action job contents source answer alone same are has (done_so job contents source answer has done) came so
   by_source job contents answer alone same are (refuses line why only none is) came so = absurd (let e : answer.status ≡ 5 = ap (λ (a : Answer). a.status) is in omega (arith, e, came.0, so, few))
 
-  by_saw : (job : Job) (answer : Answer) (saw : Saw) → (IsBatchAsked (Some job) → ⊥) → WasSeen (reads_of job) before now saw → AnswersSaw job saw answer → Came answer.status answer.text ob on result → result ≡ status
+  by_saw : (job : Job) (answer : Answer) (saw : FilesResult) → (IsBatchAsked (Some job) → ⊥) → WasSeen (reads_of job) before now saw → AnswersSaw job saw answer → Printed answer.status answer.text ob on result → result ≡ status
       → EndedSo status before now ob on (Some job)
   by_saw job answer (all contents) alone (are, same) is came so = by_source job contents answer alone same are (answered_source job contents answer is) came so
   by_saw job answer (unread_file r) alone seen is came so = absurd (let e : answer.status ≡ 6 = ap (λ (a : Answer). a.status) is in omega (arith, e, came.0, so, few))
@@ -202,7 +203,7 @@ ended_so status few apart ask before now ob on result ran alone came_so = by_wro
   by_wrote None (answered answer (same, is) came) alone so = absurd (apart (let e : answer.status ≡ 2 = ap (λ (a : Answer). a.status) is in omega (arith, e, came.0, so)))
   by_wrote (Some job) (answered answer (saw, looks, is) came) alone so = by_saw job answer saw alone (was_seen (reads_of job) before now saw looks) is came so
 
--- what came where the status of a deed may come, with or without the text that it comes with
+-- what came where the status of a action may come, with or without the text that it comes with
 abbrev CameOrLacked : Type 0 → Job → FilesAt → FilesAt → ℕ → Type 0
 CameOrLacked Text job before now result = Text ⊎ (result ≡ 7) ⊎ (result ≡ 8) ⊎ ((result ≡ 6) × OneReadFailed (reads_of job) before now)
 
@@ -214,10 +215,10 @@ end_row status Cause tell few apart whole ask before now ob on result ran = reco
 } where
   only : EndedSo status before now ob on ask → result ≡ status
       → (now.failed ≡ before.failed) × (job : Job) × (contents : List (List ℕ)) × (source : Source) × WasRead ask job before contents × (is : IsSource (source_text job contents) source)
-      × (x : Execution) × IsExecution job contents source x × EndsBy status Cause (deed_of job contents) x × IsReached (deed_of job contents) x
-      × (status_by (deed_of job contents) x ≡ status) × CameWithText status (deed_of job contents) is.program x ob on result
+      × (x : Execution) × IsExecution job contents source x × EndsBy status Cause (source_action_of job contents) x × IsReached (source_action_of job contents) x
+      × (status_by (source_action_of job contents) x ≡ status) × PrintedWithText status (source_action_of job contents) is.program x ob on result
   only e came =
-      let deed = deed_of e.asked e.contents in (
+      let action = source_action_of e.asked e.contents in (
         e.unfailed,
         e.asked,
         e.contents,
@@ -226,30 +227,30 @@ end_row status Cause tell few apart whole ask before now ob on result ran = reco
         e.is,
         e.x,
         e.run,
-        ends_by status Cause tell deed (execution e.asked e.contents e.source) e.x e.run e.own e.by,
-        deed_reached deed (execution e.asked e.contents e.source) e.x e.run,
+        ends_by status Cause tell action (execution e.asked e.contents e.source) e.x e.run e.own e.by,
+        action_reached action (execution e.asked e.contents e.source) e.x e.run,
         e.by,
         (e.answer.text, e.told.whole (λ four. whole (sym e.by ∙ four)), (came, e.taken)),
       )
 
-  comes : (deed : Deed) (program : Program) (x : Execution) (answer : Answer) → UsesOwnSlots x.source → EndsBy status Cause deed x → DeedTold deed program x answer → Came answer.status answer.text ob on result
-      → CameWithText status deed program x ob on result
-  comes deed program x answer own cause told came =
-      let by : status_by deed x ≡ status = status_is status Cause tell deed x own cause in
+  comes : (action : SourceAction) (program : Program) (x : Execution) (answer : Answer) → UsesOwnSlots x.source → EndsBy status Cause action x → ActionTold action program x answer → Printed answer.status answer.text ob on result
+      → PrintedWithText status action program x ob on result
+  comes action program x answer own cause told came =
+      let by : status_by action x ≡ status = status_is status Cause tell action x own cause in
       (answer.text, told.whole (λ four. whole (sym by ∙ four)), (came.0 ∙ (told.status ∙ by), came.1))
 
-  when : (job : Job) (contents : List (List ℕ)) (source : Source) (x : Execution) (is : IsSource (source_text job contents) source) → IsExecution job contents source x → EndsBy status Cause (deed_of job contents) x
-      → CameOf job contents before now ob on result → CameOrLacked (CameWithText status (deed_of job contents) is.program x ob on result) job before now result
+  when : (job : Job) (contents : List (List ℕ)) (source : Source) (x : Execution) (is : IsSource (source_text job contents) source) → IsExecution job contents source x → EndsBy status Cause (source_action_of job contents) x
+      → CameOf job contents before now ob on result → CameOrLacked (PrintedWithText status (source_action_of job contents) is.program x ob on result) job before now result
   when job contents source x is run cause (of_source answer outcome came) =
       let told = told_so job contents source x answer is run outcome in
-      inl (comes (deed_of job contents) is.program x answer told.0 cause told.1 came)
+      inl (comes (source_action_of job contents) is.program x answer told.0 cause told.1 came)
   when job contents source x is run cause (unreadable six read) = inr (inr (inr (six, read)))
   when job contents source x is run cause (wanting eight) = inr (inr (inl eight))
   when job contents source x is run cause (unwritten seven rose) = inr (inl seven)
 
 -- what is told of a run that was stopped came
-came_stopped : (deed : Deed) (x : Execution) (text : List ℕ) (ob on : SinkAt) (result : ℕ) → ToldStopped deed x text → Came 4 text ob on result → CameStopped deed x ob on result
-came_stopped deed x text ob on result s came = (read_off x s.tree, s.may, text, s.shown, came)
+came_stopped : (action : SourceAction) (x : Execution) (text : List ℕ) (ob on : SinkAt) (result : ℕ) → ToldStopped action x text → Printed 4 text ob on result → CameStopped action x ob on result
+came_stopped action x text ob on result s came = (read_off x s.tree, s.may, text, s.shown, came)
 
 pub spent_row : (ask : Option Job) (before now : FilesAt) (ob on : SinkAt) (result : ℕ) → Ran ask before now ob on result → SpentRow ask before now ob on result
 spent_row ask before now ob on result ran = record {
@@ -258,10 +259,10 @@ spent_row ask before now ob on result ran = record {
 } where
   only : EndedSo 4 before now ob on ask → result ≡ 4
       → (now.failed ≡ before.failed) × (job : Job) × (contents : List (List ℕ)) × (source : Source) × WasRead ask job before contents × IsSource (source_text job contents) source
-      × (x : Execution) × IsExecution job contents source x × EndsBy 4 IsSpent (deed_of job contents) x × IsReached (deed_of job contents) x
-      × (status_by (deed_of job contents) x ≡ 4) × CameStopped (deed_of job contents) x ob on result
+      × (x : Execution) × IsExecution job contents source x × EndsBy 4 IsSpent (source_action_of job contents) x × IsReached (source_action_of job contents) x
+      × (status_by (source_action_of job contents) x ≡ 4) × CameStopped (source_action_of job contents) x ob on result
   only e came =
-      let deed = deed_of e.asked e.contents in (
+      let action = source_action_of e.asked e.contents in (
         e.unfailed,
         e.asked,
         e.contents,
@@ -270,23 +271,23 @@ spent_row ask before now ob on result ran = record {
         e.is,
         e.x,
         e.run,
-        ends_by 4 IsSpent tells_spent deed (execution e.asked e.contents e.source) e.x e.run e.own e.by,
-        deed_reached deed (execution e.asked e.contents e.source) e.x e.run,
+        ends_by 4 IsSpent tells_spent action (execution e.asked e.contents e.source) e.x e.run e.own e.by,
+        action_reached action (execution e.asked e.contents e.source) e.x e.run,
         e.by,
-        came_stopped deed e.x e.answer.text ob on result (e.told.part e.by) (came, e.taken),
+        came_stopped action e.x e.answer.text ob on result (e.told.part e.by) (came, e.taken),
       )
 
-  comes : (deed : Deed) (program : Program) (x : Execution) (answer : Answer) → UsesOwnSlots x.source → EndsBy 4 IsSpent deed x → DeedTold deed program x answer → Came answer.status answer.text ob on result
-      → CameStopped deed x ob on result
-  comes deed program x answer own cause told came =
-      let four : status_by deed x ≡ 4 = status_is 4 IsSpent tells_spent deed x own cause in
-      came_stopped deed x answer.text ob on result (told.part four) (came.0 ∙ (told.status ∙ four), came.1)
+  comes : (action : SourceAction) (program : Program) (x : Execution) (answer : Answer) → UsesOwnSlots x.source → EndsBy 4 IsSpent action x → ActionTold action program x answer → Printed answer.status answer.text ob on result
+      → CameStopped action x ob on result
+  comes action program x answer own cause told came =
+      let four : status_by action x ≡ 4 = status_is 4 IsSpent tells_spent action x own cause in
+      came_stopped action x answer.text ob on result (told.part four) (came.0 ∙ (told.status ∙ four), came.1)
 
-  when : (job : Job) (contents : List (List ℕ)) (source : Source) (x : Execution) → IsSource (source_text job contents) source → IsExecution job contents source x → EndsBy 4 IsSpent (deed_of job contents) x
-      → CameOf job contents before now ob on result → CameOrLacked (CameStopped (deed_of job contents) x ob on result) job before now result
+  when : (job : Job) (contents : List (List ℕ)) (source : Source) (x : Execution) → IsSource (source_text job contents) source → IsExecution job contents source x → EndsBy 4 IsSpent (source_action_of job contents) x
+      → CameOf job contents before now ob on result → CameOrLacked (CameStopped (source_action_of job contents) x ob on result) job before now result
   when job contents source x is run cause (of_source answer outcome came) =
       let told = told_so job contents source x answer is run outcome in
-      inl (comes (deed_of job contents) is.program x answer told.0 cause told.1 came)
+      inl (comes (source_action_of job contents) is.program x answer told.0 cause told.1 came)
   when job contents source x is run cause (unreadable six read) = inr (inr (inr (six, read)))
   when job contents source x is run cause (wanting eight) = inr (inr (inl eight))
   when job contents source x is run cause (unwritten seven rose) = inr (inl seven)
@@ -294,8 +295,8 @@ spent_row ask before now ob on result ran = record {
 pub count_row : (ask : Option Job) (before now : FilesAt) (ob on : SinkAt) (result : ℕ) → Ran ask before now ob on result → CountRow ask before ob on result
 count_row ask before now ob on result ran alone four = counts (ended_so 4 (omega arith) (λ e. omega (arith, e)) ask before now ob on result ran alone four) where
   counts : EndedSo 4 before now ob on ask → (job : Job) × (contents : List (List ℕ)) × (source : Source) × WasRead ask job before contents × IsSource (source_text job contents) source
-      × (x : Execution) × IsExecution job contents source x × IsReachedIn x.budget x × (e : Ended) × IsStoppedBy (deed_of job contents) x e × (printed_steps e ≡ x.budget)
-      × (text : List ℕ) × IsShown (deed_of job contents) x e text × (on.taken ≡ then_bytes ob.taken text)
+      × (x : Execution) × IsExecution job contents source x × IsReachedIn x.budget x × (e : Ended) × IsStoppedBy (source_action_of job contents) x e × (printed_steps e ≡ x.budget)
+      × (text : List ℕ) × IsShown (source_action_of job contents) x e text × (on.taken ≡ then_bytes ob.taken text)
   counts e =
       let s = e.told.part e.by in (
         e.asked,
@@ -305,7 +306,7 @@ count_row ask before now ob on result ran alone four = counts (ended_so 4 (omega
         e.is,
         e.x,
         e.run,
-        deed_spent (deed_of e.asked e.contents) e.x e.own e.by,
+        action_spent (source_action_of e.asked e.contents) e.x e.own e.by,
         read_off e.x s.tree,
         s.may,
         stopped_counts e.x s.tree s.at,
@@ -318,7 +319,7 @@ pub beginning_row : (ask : Option Job) (before now : FilesAt) (ob on : SinkAt) (
 beginning_row ask before now ob on result ran alone four = begins (ended_so 4 (omega arith) (λ e. omega (arith, e)) ask before now ob on result ran alone four) where
   begins : EndedSo 4 before now ob on ask → (job : Job) × (contents : List (List ℕ)) × (source : Source) × WasRead ask job before contents × IsSource (source_text job contents) source
       × (x : Execution) × IsExecution job contents source x × (t : Tree LocalState) × IsStoppedAt x t × IsBeginning x t
-      × (text : List ℕ) × IsShownAt (deed_of job contents) x t text × (on.taken ≡ then_bytes ob.taken text)
+      × (text : List ℕ) × IsShownAt (source_action_of job contents) x t text × (on.taken ≡ then_bytes ob.taken text)
   begins e = let s = e.told.part e.by in (e.asked, e.contents, e.source, e.was, e.is, e.x, e.run, s.tree, s.at, s.begins, e.answer.text, s.shown_there, e.taken)
 
 -- ---- runs on several inputs
@@ -332,7 +333,7 @@ end_of_one : (x : Execution) (e : Ended) → UsesOwnSlots x.source → IsEnd InS
 end_of_one x e own end = record {
   is = end;
   causes = (tells_exactly 0 _ tells_done x own, tells_exactly 1 _ tells_failed x own, tells_exactly 3 _ tells_blocked x own, tells_exactly 4 _ tells_spent x own);
-  reached = deed_reached records x x refl;
+  reached = action_reached records x x refl;
   stopped = parts end;
 } where
   parts : IsEnd InSomeOrder x e → status_of x ≡ 4 → (t : Tree LocalState) × IsStoppedAt x t × IsBeginning x t × (e ≡ read_off x t) × (printed_steps e ≡ x.budget)
@@ -351,16 +352,16 @@ ends_of_each x (input ∷ inputs) (e ∷ es) own each = (end_of_one (record x { 
 abbrev AnswersRuns : Job → List (List ℕ) → Source → Answer → Type 0
 AnswersRuns job contents source answer = AnswersEach job.inputs (execution job contents source) (inputs_in job contents) answer
 
-as_runs : (job : Job) (contents : List (List ℕ)) (source : Source) (program : Program) (answer : Answer) → IsBatch job → AnswersProgram (deed_of job contents) program (execution job contents source) answer
+as_runs : (job : Job) (contents : List (List ℕ)) (source : Source) (program : Program) (answer : Answer) → IsBatch job → AnswersProgram (source_action_of job contents) program (execution job contents source) answer
     → AnswersRuns job contents source answer
-as_runs job contents source program answer task done = subst (λ (t : Task). AnswersProgram (deed_by t job (beside_in job contents)) program (execution job contents source) answer) task done
+as_runs job contents source program answer task done = subst (λ (t : Task). AnswersProgram (action_by t job (beside_in job contents)) program (execution job contents source) answer) task done
 
 -- with the greatest of the statuses of their meanings
 runs_status : (job : Job) (contents : List (List ℕ)) (source : Source) (answer : Answer) → AnswersRuns job contents source answer → answer.status ≡ greatest (map status_of (executions job contents source))
 runs_status job contents source answer (named, es, each, is) = ap (λ (a : Answer). a.status) is ∙ each_status (executions job contents source) es each
 
 came_of_each : (job : Job) (contents : List (List ℕ)) (source : Source) (answer : Answer) (ob on : SinkAt) (result : ℕ) → UsesOwnSlots source → AnswersRuns job contents source answer
-    → Came answer.status answer.text ob on result → CameOfEach job contents source ob on result
+    → Printed answer.status answer.text ob on result → CameOfEach job contents source ob on result
 came_of_each job contents source answer ob on result own (named, es, each, is) came = (
   es,
   ends_of_each (execution job contents source) (inputs_in job contents) es own each,
@@ -378,7 +379,7 @@ batch_row ask before now ob on result ran = record {
   when = λ job contents source asks task h is. when job contents source task is (came_of ask job contents before now ob on result ran asks h);
 } where
   by_source : (job : Job) (contents : List (List ℕ)) (answer : Answer) → ask ≡ Some job → IsBatch job → now.failed ≡ before.failed → AreContents before.held (reads_of job) contents → OutcomeOf job contents answer
-      → Came answer.status answer.text ob on result → IsEndStatus result → BatchSo before now ob on result ask
+      → Printed answer.status answer.text ob on result → IsEndStatus result → BatchSo before now ob on result ask
   by_source job contents answer asks task same are (does source has done others free) came end = (
     same,
     job,
@@ -392,7 +393,7 @@ batch_row ask before now ob on result ran = record {
   )
   by_source job contents answer asks task same are (refuses line why others none is) came end = absurd (let e : answer.status ≡ 5 = ap (λ (a : Answer). a.status) is in omega (arith, e, came.0, end.0))
 
-  by_saw : (job : Job) (answer : Answer) (saw : Saw) → ask ≡ Some job → IsBatch job → WasSeen (reads_of job) before now saw → AnswersSaw job saw answer → Came answer.status answer.text ob on result → IsEndStatus result
+  by_saw : (job : Job) (answer : Answer) (saw : FilesResult) → ask ≡ Some job → IsBatch job → WasSeen (reads_of job) before now saw → AnswersSaw job saw answer → Printed answer.status answer.text ob on result → IsEndStatus result
       → BatchSo before now ob on result ask
   by_saw job answer (all contents) asks task (are, same) is came end = by_source job contents answer asks task same are (answered_source job contents answer is) came end
   by_saw job answer (unread_file r) asks task seen is came end = absurd (let e : answer.status ≡ 6 = ap (λ (a : Answer). a.status) is in omega (arith, e, came.0, end.0))
@@ -417,8 +418,8 @@ batch_row ask before now ob on result ran = record {
 
 -- ---- a journal that is refused
 
--- the deed of a task whose journal may be refused is to replay it
-refused_task : (task : Task) (job : Job) (beside : Beside) (asked : Execution) (line : List ℕ) → IsRefusedBy (deed_by task job beside) asked line
+-- the action of a task whose journal may be refused is to replay it
+refused_task : (task : Task) (job : Job) (beside : Beside) (asked : Execution) (line : List ℕ) → IsRefusedBy (action_by task job beside) asked line
     → (task ≡ tasks.Replays) × IsJournalRefused asked.source asked.input beside.journal line
 refused_task (tasks.Tells telling) job beside asked line why = absurd why
 refused_task (tasks.Runs course showing) job beside asked line why = absurd why
@@ -427,12 +428,12 @@ refused_task tasks.Records job beside asked line why = absurd why
 refused_task tasks.Replays job beside asked line why = (refl, why)
 refused_task tasks.RunsEach job beside asked line why = absurd why
 
-refused_as : (job : Job) (contents : List (List ℕ)) (source : Source) (line : List ℕ) → IsRefusedBy (deed_of job contents) (execution job contents source) line → IsJobRefused job contents source line
+refused_as : (job : Job) (contents : List (List ℕ)) (source : Source) (line : List ℕ) → IsRefusedBy (source_action_of job contents) (execution job contents source) line → IsJobRefused job contents source line
 refused_as job contents source line why = refused_task (row_of job.mode).task job (beside_in job contents) (execution job contents source) line why
 
-refused_by : (job : Job) (contents : List (List ℕ)) (source : Source) (line : List ℕ) → IsJobRefused job contents source line → IsRefusedBy (deed_of job contents) (execution job contents source) line
+refused_by : (job : Job) (contents : List (List ℕ)) (source : Source) (line : List ℕ) → IsJobRefused job contents source line → IsRefusedBy (source_action_of job contents) (execution job contents source) line
 refused_by job contents source line (task, why) =
-    subst (λ (t : Task). IsRefusedBy (deed_by t job (beside_in job contents)) (execution job contents source) line) (sym task) why
+    subst (λ (t : Task). IsRefusedBy (action_by t job (beside_in job contents)) (execution job contents source) line) (sym task) why
 
 -- what is told where a journal was refused
 abbrev JournalRefusedSo : FilesAt → FilesAt → SinkAt → SinkAt → Option Job → Type 0
@@ -444,35 +445,35 @@ journal_row ask before now ob on result ran = record {
   only = λ nine. by_wrote ask (wrote ask before now ob on result ran) nine;
   when = λ job contents source line asks h is why. when job contents source line is why (came_of ask job contents before now ob on result ran asks h);
 } where
-  line_came : (job : Job) (contents : List (List ℕ)) (source : Source) (line : List ℕ) (program : Program) (answer : Answer) → IsRefusedBy (deed_of job contents) (execution job contents source) line
-      → DeedOf job contents program source answer → Came answer.status answer.text ob on result → Came 9 line ob on result
+  line_came : (job : Job) (contents : List (List ℕ)) (source : Source) (line : List ℕ) (program : Program) (answer : Answer) → IsRefusedBy (source_action_of job contents) (execution job contents source) line
+      → ActionOf job contents program source answer → Printed answer.status answer.text ob on result → Printed 9 line ob on result
   line_came job contents source line program answer why (ends x own run only free told) came = absurd (free line why)
   line_came job contents source line program answer why (stays other cause only none is) came =
       (came.0 ∙ ap (λ (a : Answer). a.status) is, came.1 ∙ ap (λ (t : List ℕ). then_bytes ob.taken t) (ap (λ (a : Answer). a.text) is ∙ only line why))
   line_came job contents source line program answer why (many several end none free) came = absurd (free line why)
 
   when : (job : Job) (contents : List (List ℕ)) (source : Source) (line : List ℕ) → IsSource (source_text job contents) source → IsJobRefused job contents source line → CameOf job contents before now ob on result
-      → ComesUnlessUnread 9 line job before now ob on result
+      → PrintedUnlessUnread 9 line job before now ob on result
   when job contents source line is why (of_source answer outcome came) =
-      inl (inl (line_came job contents source line is.program answer (refused_by job contents source line why) (deed_of_source job contents source answer is outcome) came))
+      inl (inl (line_came job contents source line is.program answer (refused_by job contents source line why) (action_of_source job contents source answer is outcome) came))
   when job contents source line is why (unreadable six read) = inr (six, read)
   when job contents source line is why (wanting eight) = inl (inr (inr eight))
   when job contents source line is why (unwritten seven rose) = inl (inr (inl seven))
 
-  by_deed : (job : Job) (contents : List (List ℕ)) (source : Source) (answer : Answer) → now.failed ≡ before.failed → AreContents before.held (reads_of job) contents → (is : IsSource (source_text job contents) source)
-      → DeedOf job contents is.program source answer → Came answer.status answer.text ob on result → result ≡ 9 → JournalRefusedSo before now ob on (Some job)
-  by_deed job contents source answer same are is (ends x own run only free told) came nine =
-      absurd (let h = deed_below (deed_of job contents) x in let e = told.status in omega (arith, h, e, came.0, nine))
-  by_deed job contents source answer same are is (stays line why only none refused) came nine =
+  by_action : (job : Job) (contents : List (List ℕ)) (source : Source) (answer : Answer) → now.failed ≡ before.failed → AreContents before.held (reads_of job) contents → (is : IsSource (source_text job contents) source)
+      → ActionOf job contents is.program source answer → Printed answer.status answer.text ob on result → result ≡ 9 → JournalRefusedSo before now ob on (Some job)
+  by_action job contents source answer same are is (ends x own run only free told) came nine =
+      absurd (let h = action_below (source_action_of job contents) x in let e = told.status in omega (arith, h, e, came.0, nine))
+  by_action job contents source answer same are is (stays line why only none refused) came nine =
       (same, job, contents, source, line, record { asked = refl; read = are }, is, refused_as job contents source line why, came.1 ∙ ap (λ (a : Answer). then_bytes ob.taken a.text) refused)
-  by_deed job contents source answer same are is (many several end none free) came nine = absurd (omega (arith, end.0, came.0, nine))
+  by_action job contents source answer same are is (many several end none free) came nine = absurd (omega (arith, end.0, came.0, nine))
 
   by_source : (job : Job) (contents : List (List ℕ)) (answer : Answer) → now.failed ≡ before.failed → AreContents before.held (reads_of job) contents → OutcomeOf job contents answer
-      → Came answer.status answer.text ob on result → result ≡ 9 → JournalRefusedSo before now ob on (Some job)
-  by_source job contents answer same are (does source has done only free) came nine = by_deed job contents source answer same are has (done_so job contents source answer has done) came nine
+      → Printed answer.status answer.text ob on result → result ≡ 9 → JournalRefusedSo before now ob on (Some job)
+  by_source job contents answer same are (does source has done only free) came nine = by_action job contents source answer same are has (done_so job contents source answer has done) came nine
   by_source job contents answer same are (refuses line why only none is) came nine = absurd (let e : answer.status ≡ 5 = ap (λ (a : Answer). a.status) is in omega (arith, e, came.0, nine))
 
-  by_saw : (job : Job) (answer : Answer) (saw : Saw) → WasSeen (reads_of job) before now saw → AnswersSaw job saw answer → Came answer.status answer.text ob on result → result ≡ 9
+  by_saw : (job : Job) (answer : Answer) (saw : FilesResult) → WasSeen (reads_of job) before now saw → AnswersSaw job saw answer → Printed answer.status answer.text ob on result → result ≡ 9
       → JournalRefusedSo before now ob on (Some job)
   by_saw job answer (all contents) (are, same) is came nine = by_source job contents answer same are (answered_source job contents answer is) came nine
   by_saw job answer (unread_file r) seen is came nine = absurd (let e : answer.status ≡ 6 = ap (λ (a : Answer). a.status) is in omega (arith, e, came.0, nine))
@@ -497,26 +498,26 @@ refused_row ask before now ob on result ran = record {
   when = λ job contents line asks h why. when job contents line why (came_of ask job contents before now ob on result ran asks h);
   wherever = λ job contents asks h none. wherever job contents none (came_of ask job contents before now ob on result ran asks h);
 } where
-  when : (job : Job) (contents : List (List ℕ)) (line : List ℕ) → IsRefusal (source_text job contents) line → CameOf job contents before now ob on result → ComesUnlessUnread 5 line job before now ob on result
+  when : (job : Job) (contents : List (List ℕ)) (line : List ℕ) → IsRefusal (source_text job contents) line → CameOf job contents before now ob on result → PrintedUnlessUnread 5 line job before now ob on result
   when job contents line why (of_source answer is came) = inl (inl (refused_with job contents line answer ob on result why is came))
   when job contents line why (unreadable is read) = inr (is, read)
   when job contents line why (wanting is) = inl (inr (inr is))
   when job contents line why (unwritten is rose) = inl (inr (inl is))
 
   wherever : (job : Job) (contents : List (List ℕ)) → IsNoSource (source_text job contents) → CameOf job contents before now ob on result →
-      ((line : List ℕ) × IsRefusal (source_text job contents) line × Came 5 line ob on result) ⊎ (result ≡ 7) ⊎ (result ≡ 8) ⊎ ((result ≡ 6) × OneReadFailed (reads_of job) before now)
+      ((line : List ℕ) × IsRefusal (source_text job contents) line × Printed 5 line ob on result) ⊎ (result ≡ 7) ⊎ (result ≡ 8) ⊎ ((result ≡ 6) × OneReadFailed (reads_of job) before now)
   wherever job contents none (of_source answer is came) = inl (refused_somehow job contents answer ob on result none is came)
   wherever job contents none (unreadable is read) = inr (inr (inr (is, read)))
   wherever job contents none (wanting is) = inr (inr (inl is))
   wherever job contents none (unwritten is rose) = inr (inl is)
 
   by_source : (job : Job) (contents : List (List ℕ)) (answer : Answer) → now.failed ≡ before.failed → AreContents before.held (reads_of job) contents → OutcomeOf job contents answer
-      → Came answer.status answer.text ob on result → result ≡ 5 → RefusedSo before now ob on (Some job)
-  by_source job contents answer same are (does source has done only free) came five = absurd (deed_no_fault 5 (omega arith) (omega arith) answer.status (does_status job contents source answer has done) (sym came.0 ∙ five))
+      → Printed answer.status answer.text ob on result → result ≡ 5 → RefusedSo before now ob on (Some job)
+  by_source job contents answer same are (does source has done only free) came five = absurd (action_no_fault 5 (omega arith) (omega arith) answer.status (does_status job contents source answer has done) (sym came.0 ∙ five))
   by_source job contents answer same are (refuses line why only none is) came five =
       (same, job, contents, line, record { asked = refl; read = are }, none, why, came.1 ∙ ap (λ (a : Answer). then_bytes ob.taken a.text) is)
 
-  by_saw : (job : Job) (answer : Answer) (saw : Saw) → WasSeen (reads_of job) before now saw → AnswersSaw job saw answer → Came answer.status answer.text ob on result → result ≡ 5
+  by_saw : (job : Job) (answer : Answer) (saw : FilesResult) → WasSeen (reads_of job) before now saw → AnswersSaw job saw answer → Printed answer.status answer.text ob on result → result ≡ 5
       → RefusedSo before now ob on (Some job)
   by_saw job answer (all contents) (are, same) is came five = by_source job contents answer same are (answered_source job contents answer is) came five
   by_saw job answer (unread_file r) seen is came five = absurd (let e : answer.status ≡ 6 = ap (λ (a : Answer). a.status) is in omega (arith, e, came.0, five))
@@ -529,7 +530,7 @@ refused_row ask before now ob on result ran = record {
   by_wrote (Some job) (answered answer (saw, looks, is) came) five = by_saw job answer saw (was_seen (reads_of job) before now saw looks) is came five
 
 -- an answer's status and text, where both are known
-came_as : (answer : Answer) (status : ℕ) (text : List ℕ) (ob on : SinkAt) (result : ℕ) → answer ≡ record { status = status; text = text } → Came answer.status answer.text ob on result → Came status text ob on result
+came_as : (answer : Answer) (status : ℕ) (text : List ℕ) (ob on : SinkAt) (result : ℕ) → answer ≡ record { status = status; text = text } → Printed answer.status answer.text ob on result → Printed status text ob on result
 came_as answer status text ob on result is came = (came.0 ∙ ap (λ (a : Answer). a.status) is, came.1 ∙ ap (λ (a : Answer). then_bytes ob.taken a.text) is)
 
 pub file_row : (ask : Option Job) (before now : FilesAt) (ob on : SinkAt) (result : ℕ) → Ran ask before now ob on result → FileRow ask before now ob on result
@@ -537,11 +538,11 @@ file_row ask before now ob on result ran = record {
   only = λ six. by_wrote ask (wrote ask before now ob on result ran) six;
   when = λ job r bytes asks up h over. when job r bytes up h over (ran_job ask job before now ob on result ran asks);
 } where
-  by_source : (job : Job) (contents : List (List ℕ)) (answer : Answer) → OutcomeOf job contents answer → Came answer.status answer.text ob on result → result ≡ 6 → FileCause (Some job) before now ob on
-  by_source job contents answer (does source has done only free) came six = absurd (deed_no_fault 6 (omega arith) (omega arith) answer.status (does_status job contents source answer has done) (sym came.0 ∙ six))
+  by_source : (job : Job) (contents : List (List ℕ)) (answer : Answer) → OutcomeOf job contents answer → Printed answer.status answer.text ob on result → result ≡ 6 → FileCause (Some job) before now ob on
+  by_source job contents answer (does source has done only free) came six = absurd (action_no_fault 6 (omega arith) (omega arith) answer.status (does_status job contents source answer has done) (sym came.0 ∙ six))
   by_source job contents answer (refuses line why only none is) came six = absurd (let e : answer.status ≡ 5 = ap (λ (a : Answer). a.status) is in omega (arith, e, came.0, six))
 
-  by_saw : (job : Job) (answer : Answer) (saw : Saw) → WasSeen (reads_of job) before now saw → AnswersSaw job saw answer → Came answer.status answer.text ob on result → result ≡ 6
+  by_saw : (job : Job) (answer : Answer) (saw : FilesResult) → WasSeen (reads_of job) before now saw → AnswersSaw job saw answer → Printed answer.status answer.text ob on result → result ≡ 6
       → FileCause (Some job) before now ob on
   by_saw job answer (all contents) (are, same) is came six = by_source job contents answer (answered_source job contents answer is) came six
   by_saw job answer (unread_file r) (comes, read) is came six = (job, r, refl, comes, inl (read, came.1 ∙ ap (λ (a : Answer). then_bytes ob.taken a.text) is))
@@ -553,17 +554,17 @@ file_row ask before now ob on result ran = record {
   by_wrote None (answered answer (same, is) came) six = absurd (let e : answer.status ≡ 2 = ap (λ (a : Answer). a.status) is in omega (arith, e, came.0, six))
   by_wrote (Some job) (answered answer (saw, looks, is) came) six = by_saw job answer saw (was_seen (reads_of job) before now saw looks) is came six
 
-  when_saw : (job : Job) (r : FileView) (bytes : List ℕ) (answer : Answer) (saw : Saw) → HoldsUpTo before.held (reads_of job) r → Holds before.held r.name bytes → r.limit < length bytes
-      → WasSeen (reads_of job) before now saw → AnswersSaw job saw answer → Came answer.status answer.text ob on result
-      → ComesUnlessUnread 6 (longer_line r.name r.limit) job before now ob on result
+  when_saw : (job : Job) (r : FileView) (bytes : List ℕ) (answer : Answer) (saw : FilesResult) → HoldsUpTo before.held (reads_of job) r → Holds before.held r.name bytes → r.limit < length bytes
+      → WasSeen (reads_of job) before now saw → AnswersSaw job saw answer → Printed answer.status answer.text ob on result
+      → PrintedUnlessUnread 6 (longer_line r.name r.limit) job before now ob on result
   when_saw job r bytes answer (all contents) up h over (are, same) is came = absurd (not_all_read before.held (reads_of job) contents r bytes up h over are)
   when_saw job r bytes answer (unread_file q) up h over (comes, read) is came = inr (came.0 ∙ ap (λ (a : Answer). a.status) is, (q, comes, read))
   when_saw job r bytes answer (longer_file q) up h over (comes, same, long) is came =
-      let P : FileView → Type 0 = λ (y : FileView). Came 6 (longer_line y.name y.limit) ob on result in
+      let P : FileView → Type 0 = λ (y : FileView). Printed 6 (longer_line y.name y.limit) ob on result in
       inl (inl (subst P (one_too_long before.held (reads_of job) q r bytes up h over comes long) (came_as answer 6 (longer_line q.name q.limit) ob on result is came)))
 
   when : (job : Job) (r : FileView) (bytes : List ℕ) → HoldsUpTo before.held (reads_of job) r → Holds before.held r.name bytes → r.limit < length bytes
-      → Wrote (Some job) before now ob on result → ComesUnlessUnread 6 (longer_line r.name r.limit) job before now ob on result
+      → Wrote (Some job) before now ob on result → PrintedUnlessUnread 6 (longer_line r.name r.limit) job before now ob on result
   when job r bytes up h over (answered answer (saw, looks, is) came) = when_saw job r bytes answer saw up h over (was_seen (reads_of job) before now saw looks) is came
   when job r bytes up h over (lacked came) = inl (inr (inr came.0))
   when job r bytes up h over (failed answer may is rose part) = inl (inr (inl is))
@@ -573,10 +574,10 @@ answers_no_fault : (fault : ℕ) → 7 ≤ fault → fault ≤ 8 → (ask : Opti
 answers_no_fault fault least most None before now answer (same, is) told = let e : answer.status ≡ 2 = ap (λ (a : Answer). a.status) is in omega (arith, e, told, least)
 answers_no_fault fault least most (Some job) before now answer (saw, looks, is) told = by_saw saw is where
   by_source : (contents : List (List ℕ)) → OutcomeOf job contents answer → ⊥
-  by_source contents (does source has done only free) = deed_no_fault fault (omega (arith, least)) most answer.status (does_status job contents source answer has done) told
+  by_source contents (does source has done only free) = action_no_fault fault (omega (arith, least)) most answer.status (does_status job contents source answer has done) told
   by_source contents (refuses line why only none same) = let e : answer.status ≡ 5 = ap (λ (a : Answer). a.status) same in omega (arith, e, told, least)
 
-  by_saw : (seen : Saw) → AnswersSaw job seen answer → ⊥
+  by_saw : (seen : FilesResult) → AnswersSaw job seen answer → ⊥
   by_saw (all contents) done = by_source contents (answered_source job contents answer done)
   by_saw (unread_file r) same = let e : answer.status ≡ 6 = ap (λ (a : Answer). a.status) same in omega (arith, e, told, least)
   by_saw (longer_file r) same = let e : answer.status ≡ 6 = ap (λ (a : Answer). a.status) same in omega (arith, e, told, least)
@@ -616,7 +617,7 @@ words_row ask before now ob on result ran = record {
   by_source job contents answer (does source has done only free) two = (does_status job contents source answer has done).apart two
   by_source job contents answer (refuses line why only none is) two = let e : answer.status ≡ 5 = ap (λ (a : Answer). a.status) is in omega (arith, e, two)
 
-  by_saw : (job : Job) (answer : Answer) (saw : Saw) → AnswersSaw job saw answer → answer.status ≡ 2 → ⊥
+  by_saw : (job : Job) (answer : Answer) (saw : FilesResult) → AnswersSaw job saw answer → answer.status ≡ 2 → ⊥
   by_saw job answer (all contents) is two = by_source job contents answer (answered_source job contents answer is) two
   by_saw job answer (unread_file r) is two = let e : answer.status ≡ 6 = ap (λ (a : Answer). a.status) is in omega (arith, e, two)
   by_saw job answer (longer_file r) is two = let e : answer.status ≡ 6 = ap (λ (a : Answer). a.status) is in omega (arith, e, two)
@@ -627,7 +628,7 @@ words_row ask before now ob on result ran = record {
   only None (answered answer (same, is) came) two = (refl, came.1 ∙ ap (λ (a : Answer). then_bytes ob.taken a.text) is)
   only (Some job) (answered answer (saw, looks, is) came) two = absurd (by_saw job answer saw is (sym came.0 ∙ two))
 
-  when : Wrote None before now ob on result → Comes 2 usage_line ob on result
+  when : Wrote None before now ob on result → PrintedOrFailed 2 usage_line ob on result
   when (answered answer (same, is) came) = inl (came_as answer 2 usage_line ob on result is came)
   when (lacked came) = inr (inr came.0)
   when (failed answer may is rose part) = inr (inl is)
@@ -644,9 +645,9 @@ files_row ask before now ob on result ran = record { held = ran.files.held; soun
 pub complete : (ask : Option Job) (before now : FilesAt) (ob on : SinkAt) (result : ℕ) → Ran ask before now ob on result → IsComplete ask before ob on result
 complete ask before now ob on result ran job contents source asks sound h is calm = by_came (came_of ask job contents before now ob on result ran asks h) where
   by_came : CameOf job contents before now ob on result
-      → ((answer : Answer) × AnswersProgram (deed_of job contents) is.program (execution job contents source) answer
-      × ((x : Execution) → IsExecution job contents source x → answer.status ≡ status_by (deed_of job contents) x)
-      × (IsBatch job → answer.status ≡ greatest (map status_of (executions job contents source))) × Came answer.status answer.text ob on result)
+      → ((answer : Answer) × AnswersProgram (source_action_of job contents) is.program (execution job contents source) answer
+      × ((x : Execution) → IsExecution job contents source x → answer.status ≡ status_by (source_action_of job contents) x)
+      × (IsBatch job → answer.status ≡ greatest (map status_of (executions job contents source))) × Printed answer.status answer.text ob on result)
       ⊎ (result ≡ 8)
   by_came (of_source answer outcome came) =
       let done = program_of job contents source answer is outcome in

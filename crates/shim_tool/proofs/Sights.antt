@@ -3,67 +3,67 @@ use Rattle.std.proofs.Common.{ℕ, ◌≡◌, ◌<◌, ◌≤◌, ◌++◌, List
 use Rattle.shim_edge.specs.Files.{file_of, HasFile}
 use Rattle.shim_tool.specs.Moments.{FilesAt, KeepsFiles}
 use Rattle.shim_tool.specs.Modes.{FileView}
-use Rattle.shim_tool.specs.Reads.{AreContents, ComesToRead, GrewByOneOf, Holds, HoldsAll, HoldsUpTo, IsContent, IsTooLong, Looks, OneReadFailed, ReadFailed, Saw, all, longer_file, then_saw, unread_file, longer, unread, whole, Told}
+use Rattle.shim_tool.specs.Reads.{AreContents, ComesToRead, GrewByOneOf, Holds, HoldsAll, HoldsUpTo, IsContent, IsTooLong, ReadsAll, OneReadFailed, ReadFailed, FilesResult, all, longer_file, then_saw, unread_file, longer, unread, whole, KnownFiles}
 
 -- the bytes that were read are those that the files hold
-held_bytes : (held : Told) (r : FileView) (bytes content : List ℕ) → Holds held r.name content → IsContent r held bytes → bytes ≡ content
+held_bytes : (held : KnownFiles) (r : FileView) (bytes content : List ℕ) → Holds held r.name content → IsContent r held bytes → bytes ≡ content
 held_bytes held r bytes content h is = agree held h.told is.1 where
-  agree : (o : Told) → o ≡ Some h.files → IfSome o (λ files. file_of files r.name ≡ Some bytes) → bytes ≡ content
+  agree : (o : KnownFiles) → o ≡ Some h.files → IfSome o (λ files. file_of files r.name ≡ Some bytes) → bytes ≡ content
   agree None e c = absurd (cc)
   agree (Some files) e c = let f : file_of files r.name ≡ Some content = ap (λ (l : List (List ℕ × List ℕ)). file_of l r.name) (let g : files ≡ h.files = cc in g) ∙ h.found in cc
 
 -- a file that is told and too long has more bytes than it may have
-held_too_long : (held : Told) (r : FileView) (content : List ℕ) → Holds held r.name content → IsTooLong r held → r.limit < length content
+held_too_long : (held : KnownFiles) (r : FileView) (content : List ℕ) → Holds held r.name content → IsTooLong r held → r.limit < length content
 held_too_long held r content h long = agree held h.told long where
-  agree : (o : Told) → o ≡ Some h.files → IfSome o (λ files. IsSomeAnd (file_of files r.name) (λ bytes. r.limit < length bytes)) → r.limit < length content
+  agree : (o : KnownFiles) → o ≡ Some h.files → IfSome o (λ files. IsSomeAnd (file_of files r.name) (λ bytes. r.limit < length bytes)) → r.limit < length content
   agree None e c = absurd (cc)
   agree (Some files) e c =
       let f : file_of files r.name ≡ Some content = ap (λ (l : List (List ℕ × List ℕ)). file_of l r.name) (let g : files ≡ h.files = cc in g) ∙ h.found in
       let P : Option (List ℕ) → Type 0 = λ o. IsSomeAnd o (λ bytes. r.limit < length bytes) in subst P f c
 
-is_held : (held : Told) (name content : List ℕ) → Holds held name content → HasFile held name
+is_held : (held : KnownFiles) (name content : List ℕ) → Holds held name content → HasFile held name
 is_held held name content h = agree held h.told where
-  agree : (o : Told) → o ≡ Some h.files → HasFile o name
+  agree : (o : KnownFiles) → o ≡ Some h.files → HasFile o name
   agree None e = absurd (cc)
   agree (Some files) e =
       let f : file_of files name ≡ Some content = ap (λ (l : List (List ℕ × List ℕ)). file_of l name) (let g : files ≡ h.files = cc in g) ∙ h.found in
       let P : Option (List ℕ) → Type 0 = λ o. IsSome o in subst P (sym f) refl
 
-not_too_long : (held : Told) (r : FileView) (content : List ℕ) → Holds held r.name content → length content ≤ r.limit → IsTooLong r held → ⊥
+not_too_long : (held : KnownFiles) (r : FileView) (content : List ℕ) → Holds held r.name content → length content ≤ r.limit → IsTooLong r held → ⊥
 not_too_long held r content h within long = let over : r.limit < length content = held_too_long held r content h long in omega (arith, within, over)
 
 -- a read that failed after others had been done failed
 failed_later : (name : List ℕ) (before between now : FilesAt) → KeepsFiles before between → between.failed ≡ before.failed → ReadFailed name between now → ReadFailed name before now
 failed_later name before between now keeps same (grew, unheld) = (
   grew ∙ ap (λ (l : List (List ℕ)). l ++ name ∷ []) same,
-  λ sound held. unheld (subst IsTrue (sym keeps.sound) sound) (subst (λ (o : Told). HasFile o name) (sym keeps.held) held),
+  λ sound held. unheld (subst IsTrue (sym keeps.sound) sound) (subst (λ (o : KnownFiles). HasFile o name) (sym keeps.held) held),
 )
 
 -- What reads came to, in one go: all files were read; or one of them failed, or is too long, with those before it read.
-abbrev pub WasSeen : List FileView → FilesAt → FilesAt → Saw → Type 0
+abbrev pub WasSeen : List FileView → FilesAt → FilesAt → FilesResult → Type 0
 WasSeen rs before now (all contents) = AreContents before.held rs contents × (now.failed ≡ before.failed)
 WasSeen rs before now (unread_file r) = ComesToRead before.held rs r × ReadFailed r.name before now
 WasSeen rs before now (longer_file r) = ComesToRead before.held rs r × (now.failed ≡ before.failed) × IsTooLong r before.held
 
-seen_later : (r : FileView) (rs : List FileView) (before between now : FilesAt) (bytes : List ℕ) (rest : Saw) → KeepsFiles before between → between.failed ≡ before.failed → IsContent r before.held bytes
+seen_later : (r : FileView) (rs : List FileView) (before between now : FilesAt) (bytes : List ℕ) (rest : FilesResult) → KeepsFiles before between → between.failed ≡ before.failed → IsContent r before.held bytes
     → WasSeen rs between now rest → WasSeen (r ∷ rs) before now (then_saw bytes rest)
-seen_later r rs before between now bytes (all contents) keeps same is (are, later) = ((is, subst (λ (o : Told). AreContents o rs contents) keeps.held are), later ∙ same)
+seen_later r rs before between now bytes (all contents) keeps same is (are, later) = ((is, subst (λ (o : KnownFiles). AreContents o rs contents) keeps.held are), later ∙ same)
 seen_later r rs before between now bytes (unread_file x) keeps same is (comes, read) =
-    (inr (bytes, is, subst (λ (o : Told). ComesToRead o rs x) keeps.held comes), failed_later x.name before between now keeps same read)
+    (inr (bytes, is, subst (λ (o : KnownFiles). ComesToRead o rs x) keeps.held comes), failed_later x.name before between now keeps same read)
 seen_later r rs before between now bytes (longer_file x) keeps same is (comes, later, long) =
-    (inr (bytes, is, subst (λ (o : Told). ComesToRead o rs x) keeps.held comes), later ∙ same, subst (λ (o : Told). IsTooLong x o) keeps.held long)
+    (inr (bytes, is, subst (λ (o : KnownFiles). ComesToRead o rs x) keeps.held comes), later ∙ same, subst (λ (o : KnownFiles). IsTooLong x o) keeps.held long)
 
-pub was_seen : (rs : List FileView) (before now : FilesAt) (saw : Saw) → Looks rs before now saw → WasSeen rs before now saw
-was_seen [] before now saw (is, none) = subst (λ (s : Saw). WasSeen [] before now s) (sym none) (tt, ap (λ (f : FilesAt). f.failed) is)
+pub was_seen : (rs : List FileView) (before now : FilesAt) (saw : FilesResult) → ReadsAll rs before now saw → WasSeen rs before now saw
+was_seen [] before now saw (is, none) = subst (λ (s : FilesResult). WasSeen [] before now s) (sym none) (tt, ap (λ (f : FilesAt). f.failed) is)
 was_seen (r ∷ rs) before now saw (between, unread, keeps, sees, on) =
-    subst (λ (s : Saw). WasSeen (r ∷ rs) before now s) (sym on.1) (inl refl, subst (λ (f : FilesAt). ReadFailed r.name before f) (sym on.0) sees)
+    subst (λ (s : FilesResult). WasSeen (r ∷ rs) before now s) (sym on.1) (inl refl, subst (λ (f : FilesAt). ReadFailed r.name before f) (sym on.0) sees)
 was_seen (r ∷ rs) before now saw (between, longer, keeps, sees, on) =
-    subst (λ (s : Saw). WasSeen (r ∷ rs) before now s) (sym on.1) (inl refl, ap (λ (f : FilesAt). f.failed) on.0 ∙ sees.0, sees.1)
+    subst (λ (s : FilesResult). WasSeen (r ∷ rs) before now s) (sym on.1) (inl refl, ap (λ (f : FilesAt). f.failed) on.0 ∙ sees.0, sees.1)
 was_seen (r ∷ rs) before now saw (between, whole b, keeps, sees, on) =
-    subst (λ (s : Saw). WasSeen (r ∷ rs) before now s) (sym on.2) (seen_later r rs before between now b on.0 keeps sees.0 sees.1 (was_seen rs between now on.0 on.1))
+    subst (λ (s : FilesResult). WasSeen (r ∷ rs) before now s) (sym on.2) (seen_later r rs before between now b on.0 keeps sees.0 sees.1 (was_seen rs between now on.0 on.1))
 
 -- contents that were read are those that the files hold
-pub same_contents : (held : Told) (rs : List FileView) (read contents : List (List ℕ)) → AreContents held rs read → HoldsAll held rs contents → read ≡ contents
+pub same_contents : (held : KnownFiles) (rs : List FileView) (read contents : List (List ℕ)) → AreContents held rs read → HoldsAll held rs contents → read ≡ contents
 same_contents held [] [] [] are h = refl
 same_contents held [] [] (c ∷ cs) are h = absurd h
 same_contents held [] (b ∷ bs) contents are h = absurd are
@@ -73,7 +73,7 @@ same_contents held (r ∷ rs) (b ∷ bs) (c ∷ cs) (is, are) (h, within, hs) =
     ap (λ (x : List ℕ). x ∷ bs) (held_bytes held r b c h is) ∙ ap (λ (xs : List (List ℕ)). c ∷ xs) (same_contents held rs bs cs are hs)
 
 -- none of the files that are held is too long
-pub none_too_long : (held : Told) (rs : List FileView) (contents : List (List ℕ)) (r : FileView) → HoldsAll held rs contents → ComesToRead held rs r → IsTooLong r held → ⊥
+pub none_too_long : (held : KnownFiles) (rs : List FileView) (contents : List (List ℕ)) (r : FileView) → HoldsAll held rs contents → ComesToRead held rs r → IsTooLong r held → ⊥
 none_too_long held [] contents r h comes long = comes
 none_too_long held (x ∷ xs) [] r h comes long = h
 none_too_long held (x ∷ xs) (c ∷ cs) r (h, within, hs) (inl is) long = not_too_long held x c h within (subst (λ (q : FileView). IsTooLong q held) is long)
@@ -89,7 +89,7 @@ none_failed rs contents before now sound h (r, comes, read) = read.1 sound (one_
   one_is_held (x ∷ xs) (c ∷ cs) (held, within, hs) (inr (b, content, later)) = one_is_held xs cs hs later
 
 -- a file that is too long, with those before it held, isn't read
-pub not_all_read : (held : Told) (rs : List FileView) (read : List (List ℕ)) (r : FileView) (bytes : List ℕ) → HoldsUpTo held rs r → Holds held r.name bytes → r.limit < length bytes
+pub not_all_read : (held : KnownFiles) (rs : List FileView) (read : List (List ℕ)) (r : FileView) (bytes : List ℕ) → HoldsUpTo held rs r → Holds held r.name bytes → r.limit < length bytes
     → AreContents held rs read → ⊥
 not_all_read held [] read r bytes up h over are = up
 not_all_read held (x ∷ xs) [] r bytes up h over are = are
@@ -100,7 +100,7 @@ not_all_read held (x ∷ xs) (b ∷ bs) r bytes (inl is) h over (content, are) =
 not_all_read held (x ∷ xs) (b ∷ bs) r bytes (inr (c, holds, within, up)) h over (content, are) = not_all_read held xs bs r bytes up h over are
 
 -- and it is the one that was found too long
-pub one_too_long : (held : Told) (rs : List FileView) (q r : FileView) (bytes : List ℕ) → HoldsUpTo held rs r → Holds held r.name bytes → r.limit < length bytes
+pub one_too_long : (held : KnownFiles) (rs : List FileView) (q r : FileView) (bytes : List ℕ) → HoldsUpTo held rs r → Holds held r.name bytes → r.limit < length bytes
     → ComesToRead held rs q → IsTooLong q held → q ≡ r
 one_too_long held [] q r bytes up h over comes long = absurd up
 one_too_long held (x ∷ xs) q r bytes (inl is) h over (inl its) long = its ∙ sym is
@@ -116,7 +116,7 @@ grew_later : (r : FileView) (rs : List FileView) (before between now : FilesAt) 
 grew_later r rs before between now same (inl e) = inl (e ∙ same)
 grew_later r rs before between now same (inr (x, among, e)) = inr (x, inr among, e ∙ ap (λ (l : List (List ℕ)). l ++ x.name ∷ []) same)
 
-pub looks_grew : (rs : List FileView) (before now : FilesAt) (saw : Saw) → Looks rs before now saw → GrewByOneOf rs before now
+pub looks_grew : (rs : List FileView) (before now : FilesAt) (saw : FilesResult) → ReadsAll rs before now saw → GrewByOneOf rs before now
 looks_grew [] before now saw (is, none) = inl (ap (λ (f : FilesAt). f.failed) is)
 looks_grew (r ∷ rs) before now saw (between, unread, keeps, sees, on) = inr (r, inl refl, ap (λ (f : FilesAt). f.failed) on.0 ∙ sees.0)
 looks_grew (r ∷ rs) before now saw (between, longer, keeps, sees, on) = inl (ap (λ (f : FilesAt). f.failed) on.0 ∙ sees.0)

@@ -1,10 +1,10 @@
 -- What the tool answers, from what it was asked and what it saw.
 use Rattle.std.specs.Prelude.{ℕ, ◌≡◌, ◌⊎◌, List, ◌++◌, Option, Some, None, codes, decimal}
 use Rattle.shim_command.specs.declared.job.Job.{Job}
-use Rattle.shim_answers.specs.Answer.{Answer, AnswersSource}
+use Rattle.shim_results.specs.Answer.{Answer, AnswersSource}
 use Rattle.shim_tool.specs.Moments.{FilesAt}
-use Rattle.shim_tool.specs.Modes.{deed_of, execution, reads_of, source_text}
-use Rattle.shim_tool.specs.Reads.{GrewByOneOf, Looks, Saw, all, longer_file, unread_file}
+use Rattle.shim_tool.specs.Modes.{source_action_of, execution, reads_of, source_text}
+use Rattle.shim_tool.specs.Reads.{GrewByOneOf, ReadsAll, FilesResult, all, longer_file, unread_file}
 
 unfoldable pub usage_line : List ℕ
 usage_line = codes "usage: shim MODE FILE [INPUT]... [--input FILE] [--workers N] [--budget B] [--quantum Q] [--size N] [--journal FILE] [--steal]\n"
@@ -31,14 +31,14 @@ abbrev pub no_memory : Answer
 no_memory = record { status = 8; text = memory_line }
 
 -- the answer to what was seen of the files of a job
-abbrev pub AnswersSaw : Job → Saw → Answer → Type 0
-AnswersSaw job (all contents) answer = AnswersSource (deed_of job contents) (execution job contents) (source_text job contents) answer
+abbrev pub AnswersSaw : Job → FilesResult → Answer → Type 0
+AnswersSaw job (all contents) answer = AnswersSource (source_action_of job contents) (execution job contents) (source_text job contents) answer
 AnswersSaw job (unread_file r) answer = answer ≡ file_failed r.name
 AnswersSaw job (longer_file r) answer = answer ≡ file_too_long r.name r.limit
 
 -- the files of a job are read, and what was seen of them is answered
 abbrev pub AnswersJob : Job → FilesAt → FilesAt → Answer → Type 0
-AnswersJob job before now answer = (saw : Saw) × Looks (reads_of job) before now saw × AnswersSaw job saw answer
+AnswersJob job before now answer = (saw : FilesResult) × ReadsAll (reads_of job) before now saw × AnswersSaw job saw answer
 
 -- an answer that is no want of memory
 abbrev pub Answers : Option Job → FilesAt → FilesAt → Answer → Type 0

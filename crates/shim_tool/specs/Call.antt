@@ -4,7 +4,7 @@ use Rattle.shim_edge.specs.Count.{HasRisen}
 use Rattle.shim_edge.specs.Sink.{then_bytes, TakesPart}
 use Rattle.shim_command.specs.declared.job.Job.{Job}
 use Rattle.shim_tool.specs.Moments.{FilesAt, KeepsFiles, SinkAt}
-use Rattle.shim_answers.specs.Answer.{Answer}
+use Rattle.shim_results.specs.Answer.{Answer}
 use Rattle.shim_tool.specs.Answer.{MayAnswer}
 
 -- The text was written, without a fault of the sink, and its status answered; or the sink failed in the call, with a part of the text taken.

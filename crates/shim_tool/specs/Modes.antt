@@ -11,10 +11,11 @@ use Rattle.shim_command.specs.declared.mode.Origin.TheVariants.{Stored, Generate
 use Rattle.shim_command.specs.declared.mode.Task.TheVariants.{RunsEach}
 use Rattle.shim_command.specs.Modes.{row_of}
 use Rattle.shim_front_end.specs.Source.{Source}
-use Rattle.shim_answers.specs.Batches.{on_each}
-use Rattle.shim_answers.specs.Deeds.{Beside, Deed, deed_by, executed}
-use Rattle.shim_answers.specs.DeedEnds.{IsRunBy}
-use Rattle.shim_answers.specs.RunEnds.{Execution}
+use Rattle.shim_results.specs.Batches.{on_each}
+use Rattle.shim_answers.specs.Tasks.{Beside, action_by}
+use Rattle.shim_results.specs.SourceActions.{SourceAction, executed}
+use Rattle.shim_results.specs.SourceActionEnds.{IsRunBy}
+use Rattle.shim_results.specs.RunEnds.{Execution}
 
 -- a file that is read, and the most bytes that it may have
 pub record FileView : Type 0 where
@@ -125,8 +126,8 @@ abbrev pub source_text : Job → List (List ℕ) → List ℕ
 source_text job contents = text_from (row_of job.mode).origin job (first_content contents)
 
 -- what is done with the source of a job whose files have these contents
-abbrev pub deed_of : Job → List (List ℕ) → Deed
-deed_of job contents = deed_by (row_of job.mode).task job (beside_in job contents)
+abbrev pub source_action_of : Job → List (List ℕ) → SourceAction
+source_action_of job contents = action_by (row_of job.mode).task job (beside_in job contents)
 
 -- what is asked to be run for it
 abbrev pub execution : Job → List (List ℕ) → Source → Execution
@@ -134,7 +135,7 @@ execution job contents source = executed job (input_in job contents) source
 
 -- what is run for it
 abbrev pub IsExecution : Job → List (List ℕ) → Source → Execution → Type 0
-IsExecution job contents source x = IsRunBy (deed_of job contents) (execution job contents source) x
+IsExecution job contents source x = IsRunBy (source_action_of job contents) (execution job contents source) x
 
 -- the source of a job is run once on each input
 abbrev pub IsBatch : Job → Type 0

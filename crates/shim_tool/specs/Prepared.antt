@@ -11,11 +11,12 @@ use Rattle.shim_command.specs.Modes.{row_of}
 use Rattle.shim_answers.specs.declared.runs.PreparedRun.{PreparedRun}
 use Rattle.shim_answers.specs.declared.runs.RunOfEach.{RunOfEach}
 use Rattle.shim_answers.specs.declared.runs.RunToRecord.{RunToRecord}
-use Rattle.shim_answers.specs.Answer.{Answer, AnswersEach, AnswersProgram, AnswersRecord, AnswersRun, OfBytes, refused}
-use Rattle.shim_answers.specs.Deeds.{Beside, deed_by, executed, shown_of}
+use Rattle.shim_results.specs.Answer.{Answer, AnswersEach, AnswersProgram, AnswersRecord, AnswersRun, OfBytes, refused}
+use Rattle.shim_answers.specs.Tasks.{Beside, action_by}
+use Rattle.shim_results.specs.SourceActions.{executed, shown_of}
 use Rattle.shim_tool.specs.Moments.{FilesAt}
 use Rattle.shim_tool.specs.Modes.{IsBatch, beside_in, input_in, inputs_in, reads_of, source_text}
-use Rattle.shim_tool.specs.Reads.{HoldsAll, Looks, OneReadFailed, Saw, all, longer_file, unread_file}
+use Rattle.shim_tool.specs.Reads.{HoldsAll, ReadsAll, OneReadFailed, FilesResult, all, longer_file, unread_file}
 use Rattle.shim_tool.specs.Answer.{file_failed, file_too_long, usage}
 use Rattle.shim_tool.specs.Rows.{WasRead}
 
@@ -36,7 +37,7 @@ IsToRecord job = (row_of job.mode).task ≡ Records
 -- a source is kept to be run, with its input or with its inputs, where workers run it, and is answered where they don't
 abbrev pub PreparesProgram : Job → Beside → Program → Source → Prepared → Type 0
 PreparesProgram job beside program source (answered answer) = ((showing : Showing) → IsForWorkers job showing → ⊥) × (IsToRecord job → ⊥) × (IsBatch job → ⊥)
-    × AnswersProgram (deed_by (row_of job.mode).task job beside) program (executed job beside.input source) answer
+    × AnswersProgram (action_by (row_of job.mode).task job beside) program (executed job beside.input source) answer
 PreparesProgram job beside program source (to_run r) = IsForWorkers job r.showing × (r ≡ record { job = job; showing = r.showing; source = source; input = beside.input })
 PreparesProgram job beside program source (to_record r) = IsToRecord job × (r ≡ record { job = job; source = source; input = beside.input })
 PreparesProgram job beside program source (to_run_each r) = IsBatch job × (r ≡ record { job = job; source = source; inputs = beside.inputs })
@@ -65,13 +66,13 @@ abbrev pub PreparesRun : Job → List ℕ → List ℕ → Prepared → Type 0
 PreparesRun job input bytes p = (beside : Beside) → beside.input ≡ input → PreparesSource job beside bytes p
 
 -- what comes of what was seen of the files of a job
-abbrev pub PreparesSaw : Job → Saw → Prepared → Type 0
+abbrev pub PreparesSaw : Job → FilesResult → Prepared → Type 0
 PreparesSaw job (all contents) p = PreparesSource job (beside_in job contents) (source_text job contents) p
 PreparesSaw job (unread_file r) p = p ≡ answered (file_failed r.name)
 PreparesSaw job (longer_file r) p = p ≡ answered (file_too_long r.name r.limit)
 
 abbrev pub PreparesJob : Job → FilesAt → FilesAt → Prepared → Type 0
-PreparesJob job before now p = (saw : Saw) × Looks (reads_of job) before now saw × PreparesSaw job saw p
+PreparesJob job before now p = (saw : FilesResult) × ReadsAll (reads_of job) before now saw × PreparesSaw job saw p
 
 abbrev pub Prepares : Option Job → FilesAt → FilesAt → Prepared → Type 0
 Prepares None before now p = (now.failed ≡ before.failed) × (p ≡ answered usage)

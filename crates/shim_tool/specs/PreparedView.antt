@@ -2,7 +2,7 @@
 use Rattle.shim_tool.specs.declared.prepared.Prepared.{Prepared as Made}
 use Rattle.shim_tool.specs.declared.prepared.Prepared.TheVariants.{Answered, ToRun, ToRecord, ToRunEach}
 use Rattle.shim_tool.specs.Prepared.{Prepared, answered, to_run, to_record, to_run_each}
-use Rattle.shim_answers.specs.Views.{answer_view}
+use Rattle.shim_results.specs.Views.{answer_view}
 
 abbrev pub prepared_view : Made → Prepared
 prepared_view (Answered answer) = answered (answer_view answer)

@@ -5,83 +5,83 @@ use Rattle.shim_tool.specs.Moments.{FilesAt, KeepsFiles}
 use Rattle.shim_tool.specs.Modes.{FileView}
 
 -- names and contents of files, where they are told
-abbrev pub Told : Type 0
-Told = Option (List (List ℕ × List ℕ))
+abbrev pub KnownFiles : Type 0
+KnownFiles = Option (List (List ℕ × List ℕ))
 
 -- what was seen of one file
-pub data Seen : Type 0 where
-  unread : Seen
-  longer : Seen
-  whole : List ℕ → Seen
+pub data FileResult : Type 0 where
+  unread : FileResult
+  longer : FileResult
+  whole : List ℕ → FileResult
 
 -- One read of this name failed: the name was added to the failed ones, and the files didn't hold it if they are sound.
 abbrev pub ReadFailed : List ℕ → FilesAt → FilesAt → Type 0
 ReadFailed name before now = (now.failed ≡ before.failed ++ name ∷ []) × (IsTrue before.sound → HasFile before.held name → ⊥)
 
 -- the file is told and has more bytes than it may have, or isn't told
-abbrev pub IsTooLong : FileView → Told → Type 0
+abbrev pub IsTooLong : FileView → KnownFiles → Type 0
 IsTooLong r held = IfSome held (λ files. IsSomeAnd (file_of files r.name) (λ content. r.limit < length content))
 
 -- the bytes are those of the file, where it is told, and no more than it may have
-abbrev pub IsContent : FileView → Told → List ℕ → Type 0
+abbrev pub IsContent : FileView → KnownFiles → List ℕ → Type 0
 IsContent r held bytes = (length bytes ≤ r.limit) × IfSome held (λ files. file_of files r.name ≡ Some bytes)
 
 -- one read saw this
-abbrev pub Sees : FileView → FilesAt → FilesAt → Seen → Type 0
-Sees r before now unread = ReadFailed r.name before now
-Sees r before now longer = (now.failed ≡ before.failed) × IsTooLong r before.held
-Sees r before now (whole bytes) = (now.failed ≡ before.failed) × IsContent r before.held bytes
+abbrev pub ReadsOne : FileView → FilesAt → FilesAt → FileResult → Type 0
+ReadsOne r before now unread = ReadFailed r.name before now
+ReadsOne r before now longer = (now.failed ≡ before.failed) × IsTooLong r before.held
+ReadsOne r before now (whole bytes) = (now.failed ≡ before.failed) × IsContent r before.held bytes
 
 -- what was seen of several files: the contents of all; or one couldn't be read, or has more bytes than it may have
-pub data Saw : Type 0 where
-  all : List (List ℕ) → Saw
-  unread_file : FileView → Saw
-  longer_file : FileView → Saw
+pub data FilesResult : Type 0 where
+  all : List (List ℕ) → FilesResult
+  unread_file : FileView → FilesResult
+  longer_file : FileView → FilesResult
 
-abbrev pub then_saw : List ℕ → Saw → Saw
+abbrev pub then_saw : List ℕ → FilesResult → FilesResult
 then_saw content (all rest) = all (content ∷ rest)
 then_saw content (unread_file r) = unread_file r
 then_saw content (longer_file r) = longer_file r
 
 -- what one read saw is all, or the files behind it are read, too
-abbrev pub Follows : FileView → (FilesAt → FilesAt → Saw → Type 0) → FilesAt → FilesAt → Saw → Seen → Type 0
+abbrev pub Follows : FileView → (FilesAt → FilesAt → FilesResult → Type 0) → FilesAt → FilesAt → FilesResult → FileResult → Type 0
 Follows r on between now saw unread = (now ≡ between) × (saw ≡ unread_file r)
 Follows r on between now saw longer = (now ≡ between) × (saw ≡ longer_file r)
-Follows r on between now saw (whole bytes) = (rest : Saw) × on between now rest × (saw ≡ then_saw bytes rest)
+Follows r on between now saw (whole bytes) = (rest : FilesResult) × on between now rest × (saw ≡ then_saw bytes rest)
 
 -- the reads, one after the other, saw this
-abbrev pub Looks : List FileView → FilesAt → FilesAt → Saw → Type 0
-Looks [] before now saw = (now ≡ before) × (saw ≡ all [])
-Looks (r ∷ rs) before now saw = (between : FilesAt) × (seen : Seen) × KeepsFiles before between × Sees r before between seen
-    × Follows r (Looks rs) between now saw seen
+abbrev pub ReadsAll : List FileView → FilesAt → FilesAt → FilesResult → Type 0
+ReadsAll [] before now saw = (now ≡ before) × (saw ≡ all [])
+ReadsAll (r ∷ rs) before now saw = (between : FilesAt) × (seen : FileResult) × KeepsFiles before between × ReadsOne r before between seen
+    × Follows r (ReadsAll rs) between now saw seen
 
 -- the files are told, and hold these bytes under the name
-pub record Holds (held : Told) (name bytes : List ℕ) : Type 0 where
+pub record Holds (held : KnownFiles) (name bytes : List ℕ) : Type 0 where
   pub files : List (List ℕ × List ℕ)
   pub told : held ≡ Some files
   pub found : file_of files name ≡ Some bytes
 
 -- the files are told, and hold these contents, each of which is as short as it has to be
-abbrev pub HoldsAll : Told → List FileView → List (List ℕ) → Type 0
+abbrev pub HoldsAll : KnownFiles → List FileView → List (List ℕ) → Type 0
 HoldsAll held [] [] = Unit {0}
 HoldsAll held [] (content ∷ contents) = ⊥
 HoldsAll held (r ∷ rs) [] = ⊥
 HoldsAll held (r ∷ rs) (content ∷ contents) = Holds held r.name content × (length content ≤ r.limit) × HoldsAll held rs contents
 
 -- these are the contents of the files, where they are told
-abbrev pub AreContents : Told → List FileView → List (List ℕ) → Type 0
+abbrev pub AreContents : KnownFiles → List FileView → List (List ℕ) → Type 0
 AreContents held [] [] = Unit {0}
 AreContents held [] (content ∷ contents) = ⊥
 AreContents held (r ∷ rs) [] = ⊥
 AreContents held (r ∷ rs) (content ∷ contents) = IsContent r held content × AreContents held rs contents
 
 -- this is one of the files, and those before it have contents that are as short as they have to be
-abbrev pub ComesToRead : Told → List FileView → FileView → Type 0
+abbrev pub ComesToRead : KnownFiles → List FileView → FileView → Type 0
 ComesToRead held [] r = ⊥
 ComesToRead held (x ∷ xs) r = (r ≡ x) ⊎ ((content : List ℕ) × IsContent x held content × ComesToRead held xs r)
 
 -- the same of files that are told
-abbrev pub HoldsUpTo : Told → List FileView → FileView → Type 0
+abbrev pub HoldsUpTo : KnownFiles → List FileView → FileView → Type 0
 HoldsUpTo held [] r = ⊥
 HoldsUpTo held (x ∷ xs) r = (r ≡ x) ⊎ ((content : List ℕ) × Holds held x.name content × (length content ≤ x.limit) × HoldsUpTo held xs r)
 

@@ -1,7 +1,7 @@
 -- What was seen of files, and what was read beside a source, as the definitions name it.
 use Rattle.shim_edge.specs.declared.files.Got.{Got}
 use Rattle.shim_edge.specs.declared.files.Got.TheVariants.{Whole as GotWhole, Longer as GotLonger}
-use Rattle.shim_answers.specs.Deeds.{Beside}
+use Rattle.shim_answers.specs.Tasks.{Beside}
 use Rattle.shim_tool.specs.declared.files.Beside.{Beside as ReadBeside}
 use Rattle.shim_tool.specs.declared.files.FileToRead.{FileToRead}
 use Rattle.shim_tool.specs.declared.files.FilesRead.{FilesRead}
@@ -9,21 +9,21 @@ use Rattle.shim_tool.specs.declared.files.FilesRead.TheVariants.{All, Failed, To
 use Rattle.shim_tool.specs.declared.files.Found.{Found}
 use Rattle.shim_tool.specs.declared.files.Found.TheVariants.{Unread, Longer, Whole}
 use Rattle.shim_tool.specs.Modes.{FileView}
-use Rattle.shim_tool.specs.Reads.{Saw, Seen, all, longer, longer_file, unread, unread_file, whole}
+use Rattle.shim_tool.specs.Reads.{FilesResult, FileResult, all, longer, longer_file, unread, unread_file, whole}
 
-abbrev pub found_view : Found → Seen
+abbrev pub found_view : Found → FileResult
 found_view Unread = unread
 found_view Longer = longer
 found_view (Whole bytes) = whole bytes
 
-abbrev pub seen_of : Got → Seen
+abbrev pub seen_of : Got → FileResult
 seen_of (GotWhole bytes) = whole bytes
 seen_of GotLonger = longer
 
 abbrev pub reading_view : FileToRead → FileView
 reading_view file = record { name = file.name.now; limit = file.limit }
 
-abbrev pub read_view : FilesRead → Saw
+abbrev pub read_view : FilesRead → FilesResult
 read_view (All contents) = all contents
 read_view (Failed file) = unread_file (reading_view file)
 read_view (TooLong file) = longer_file (reading_view file)

@@ -4,15 +4,16 @@ ghost use Rattle.shim_command.specs.Jobs.{job, texts_of};
 ghost use Rattle.shim_tool.specs.Moments.{files_at, sink_at, KeepsFiles};
 ghost use Rattle.shim_tool.specs.Answer as answers;
 ghost use Rattle.shim_tool.specs.Call.{Ran, Writes};
-ghost use Rattle.shim_answers.specs.RunEnds.{IsDone, IsFailed, IsBlocked};
+ghost use Rattle.shim_results.specs.RunEnds.{IsDone, IsFailed, IsBlocked};
 ghost use Rattle.shim_tool.specs.Rows.{EndRow, SpentRow, CountRow, BeginningRow, BatchRow, WordsRow, RefusedRow, FileRow, SinkRow, MemoryRow, JournalRow, FilesRow, IsComplete};
-ghost use Rattle.shim_answers.specs.AnswerView.{exit_code};
-ghost use Rattle.shim_answers.specs.Views.{answer_view};
+ghost use Rattle.shim_results.specs.AnswerView.{exit_code};
+ghost use Rattle.shim_results.specs.Views.{answer_view};
 
 use crate::prepared::{Prepared, prepare};
-use shim_answers::{Answer, ExitStatus, answer_each, answer_record, answer_run};
+use shim_answers::{answer_each, answer_record, answer_run};
 use shim_base::NoMemory;
 use shim_edge::{Files, Sink, write_all};
+use shim_results::{Answer, ExitStatus};
 use shim_workers::Gate;
 use std::alloc::Global;
 use std::sync::Wait;
@@ -97,8 +98,8 @@ fn run_tool<F: Files, K: Sink, G: Gate, R: Threads + Wait + Sync>(
 /// status is the greatest that a meaning has. No clause says that the source is compiled once for all of
 /// them.
 ///
-/// Answers the status that the program ends with. Want of memory may come in place of any status but
-/// 7, and a failed write, which is 7, in place of any.
+/// Answers the status that the program ends with. A failed write, which is 7, may come in place of any status,
+/// want of memory, which is 8, in place of any but 7, and a failed read, which is 6, of any but 2, 7 and 8.
 pub fn shim<F: Files, K: Sink, G: Gate, R: Threads + Wait + Sync>(
     rt: &R,
     alloc: Global,
@@ -123,7 +124,7 @@ pub fn shim<F: Files, K: Sink, G: Gate, R: Threads + Wait + Sync>(
     ensures failed { EndRow 1 IsFailed (job (texts_of words.now)) (files_at F.held F.sound F.failed files.old)
         (files_at F.held F.sound F.failed files.new) (sink_at K.taken K.faults out.old)
         (sink_at K.taken K.faults out.new) result }
-    // 2: exactly where the words ask for nothing.
+    // 2: exactly where the words have no job.
     ensures words { WordsRow (job (texts_of words.now)) (sink_at K.taken K.faults out.old)
         (sink_at K.taken K.faults out.new) result }
     // 3: exactly where nothing can happen any more and the root has neither ended nor died; with that
@@ -131,8 +132,8 @@ pub fn shim<F: Files, K: Sink, G: Gate, R: Threads + Wait + Sync>(
     ensures blocked { EndRow 3 IsBlocked (job (texts_of words.now)) (files_at F.held F.sound F.failed files.old)
         (files_at F.held F.sound F.failed files.new) (sink_at K.taken K.faults out.old)
         (sink_at K.taken K.faults out.new) result }
-    // 4: exactly where something can still happen in the meaning after the budget's events. `ref` tells the
-    // meaning itself, and `run` and `gen` a tree that some run of just the budget's events reaches; `trace`
+    // 4: exactly where something can still happen in the meaning after the budget's events. `ref` and
+    // `why` tell the meaning itself, and `run` and `gen` a tree that some run of just the budget's events reaches; `trace`
     // tells the journal of a run to such a tree, and `replay` the tree to which its journal leads.
     ensures spent { SpentRow (job (texts_of words.now)) (files_at F.held F.sound F.failed files.old)
         (files_at F.held F.sound F.failed files.new) (sink_at K.taken K.faults out.old)

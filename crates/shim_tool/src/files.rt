@@ -3,7 +3,7 @@ ghost use Rattle.std.specs.Prelude.{◌≡◌, ◌≤◌, ◌++◌, IfOk, OnErr,
 ghost use Rattle.shim_command.specs.Modes.{row_of};
 ghost use Rattle.shim_tool.specs.Moments.{files_at, KeepsFiles};
 ghost use Rattle.shim_tool.specs.Modes as modes;
-ghost use Rattle.shim_tool.specs.Reads.{Looks, Sees};
+ghost use Rattle.shim_tool.specs.Reads.{ReadsAll, ReadsOne};
 ghost use Rattle.shim_tool.specs.Views.{beside_view, found_view, read_view, reading_view, seen_of};
 
 use shim_base::{List, NoMemory};
@@ -148,7 +148,7 @@ fn files_of<'a>(alloc: Global, job: &'a Job) -> Result<List<FileToRead<'a>>, NoM
 
 // Reads a file, and says what was seen.
 fn look<F: Files>(alloc: Global, file: FileToRead<'_>, files: &mut F) -> Result<Found, NoMemory>
-    ensures found { IfOk result (λ found. Sees (reading_view file.entry) (files_at F.held F.sound F.failed files.old)
+    ensures found { IfOk result (λ found. ReadsOne (reading_view file.entry) (files_at F.held F.sound F.failed files.old)
         (files_at F.held F.sound F.failed files.new) (found_view found)) }
     ensures same { OnErr result (F.failed files.new ≡ F.failed files.old) }
     ensures kept { KeepsFiles (files_at F.held F.sound F.failed files.old) (files_at F.held F.sound F.failed files.new) }
@@ -166,7 +166,7 @@ fn read_all<'a, F: Files>(
     to_read: &[FileToRead<'a>],
     files: &mut F,
 ) -> Result<FilesRead<'a>, NoMemory>
-    ensures seen { IfOk result (λ read. Looks (map reading_view to_read.now) (files_at F.held F.sound F.failed files.old)
+    ensures seen { IfOk result (λ read. ReadsAll (map reading_view to_read.now) (files_at F.held F.sound F.failed files.old)
         (files_at F.held F.sound F.failed files.new) (read_view read)) }
     ensures same { OnErr result (F.failed files.new ≡ F.failed files.old) }
     ensures kept { KeepsFiles (files_at F.held F.sound F.failed files.old) (files_at F.held F.sound F.failed files.new) }
@@ -189,7 +189,7 @@ pub(crate) fn read_files<'a, F: Files>(
     job: &'a Job,
     files: &mut F,
 ) -> Result<FilesRead<'a>, NoMemory>
-    ensures seen { IfOk result (λ read. Looks (modes.reads_of job.now) (files_at F.held F.sound F.failed files.old)
+    ensures seen { IfOk result (λ read. ReadsAll (modes.reads_of job.now) (files_at F.held F.sound F.failed files.old)
         (files_at F.held F.sound F.failed files.new) (read_view read)) }
     ensures same { OnErr result (F.failed files.new ≡ F.failed files.old) }
     ensures kept { KeepsFiles (files_at F.held F.sound F.failed files.old) (files_at F.held F.sound F.failed files.new) }

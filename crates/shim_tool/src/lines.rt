@@ -1,10 +1,10 @@
 // The answers to words and to files, of which no source comes.
 ghost use Rattle.std.specs.Prelude.{◌≡◌, IfOk};
-ghost use Rattle.shim_answers.specs.Views.{answer_view};
+ghost use Rattle.shim_results.specs.Views.{answer_view};
 ghost use Rattle.shim_tool.specs.Answer as answers;
 
-use shim_answers::{Answer, ExitStatus};
 use shim_base::{List, NoMemory, push_decimal};
+use shim_results::{Answer, ExitStatus};
 use std::alloc::Global;
 
 /// The answer to words that ask for nothing.

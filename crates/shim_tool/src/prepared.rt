@@ -15,15 +15,13 @@ ghost use Rattle.shim_tool.specs.PreparedView.{prepared_view};
 
 use crate::files::{Beside, Contents, FilesRead, contents_of, read_files};
 use crate::lines::{file_failed, file_too_long, usage};
-use shim_answers::{
-    Answer, PreparedRun, RunOfEach, RunToRecord, answer_meaning, answer_reasons, answer_replay,
-    answer_telling, refused,
-};
+use shim_answers::{PreparedRun, RunOfEach, RunToRecord, answer_replay, answer_telling};
 use shim_base::{List, NoMemory};
 use shim_command::{Course, Job, Kind, Origin, Showing, Task, WordsFault, read_words};
 use shim_edge::Files;
 use shim_front_end::read_source;
 use shim_generator::generate;
+use shim_results::{Answer, answer_meaning, answer_reasons, refused};
 use std::alloc::Global;
 
 /// What a call comes to before any thread is wanted.

@@ -5,8 +5,8 @@ use Rattle.shim_local.specs.declared.Ended.{Ended}
 use Rattle.shim_process.specs.Forks.{root}
 use Rattle.shim_net.specs.Nets.{started}
 use Rattle.shim_vm.proofs.Sends.{body_send}
-use Rattle.shim_answers.specs.Batches.{greatest, reports_of, statuses_of}
-use Rattle.shim_answers.specs.Deeds.{executed}
+use Rattle.shim_results.specs.Batches.{greatest, reports_of, statuses_of}
+use Rattle.shim_results.specs.SourceActions.{executed}
 use Rattle.shim_answers.proofs.BatchNets.{each_answered, have_stopped}
 use Rattle.shim_answers.proofs.batched.answer_each.Goals as goal
 

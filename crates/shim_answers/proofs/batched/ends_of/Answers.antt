@@ -4,7 +4,7 @@ use Rattle.shim_base.proofs.Facts.{no_items}
 use Rattle.shim_local.specs.declared.Ended.{Ended}
 use Rattle.shim_reference.specs.Naming.{named}
 use Rattle.shim_vm.proofs.Sends.{body_send}
-use Rattle.shim_answers.specs.Recorded.{end_of_net}
+use Rattle.shim_answers.specs.EndedNets.{end_of_net}
 use Rattle.shim_answers.proofs.BatchNets.{maps_none, maps_one, rest_stopped, stopped_first}
 use Rattle.shim_answers.proofs.batched.ends_of.Goals as goal
 

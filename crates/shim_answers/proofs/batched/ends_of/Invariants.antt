@@ -1,4 +1,4 @@
-use Rattle.shim_answers.specs.Recorded.{end_of_net}
+use Rattle.shim_answers.specs.EndedNets.{end_of_net}
 use Rattle.shim_answers.proofs.BatchNets.{HaveStopped, MapsOn}
 use Rattle.shim_answers.proofs.batched.ends_of.Given as goal
 

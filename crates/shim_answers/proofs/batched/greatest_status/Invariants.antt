@@ -1,6 +1,6 @@
 use Rattle.std.proofs.Common.{◌≡◌, drop, max}
-use Rattle.shim_answers.specs.AnswerView.{exit_code}
-use Rattle.shim_answers.specs.Batches.{greatest, statuses_of}
+use Rattle.shim_results.specs.AnswerView.{exit_code}
+use Rattle.shim_results.specs.Batches.{greatest, statuses_of}
 use Rattle.shim_answers.proofs.batched.greatest_status.Given as goal
 
 -- the greatest so far, and of what is left, is the greatest of all

@@ -5,7 +5,7 @@ use Rattle.shim_process.specs.LocalState.{LocalState}
 use Rattle.shim_net.specs.Nets.{started}
 use Rattle.shim_reference.proofs.RootChannels.{main_shares_its_own}
 use Rattle.shim_vm.proofs.Sends.{body_send}
-use Rattle.shim_answers.proofs.ExecuteLemmas.{if_ok_weaker}
+use Rattle.shim_results.proofs.ExecuteLemmas.{if_ok_weaker}
 use Rattle.shim_answers.proofs.NetEnds.{root_path}
 use Rattle.shim_answers.proofs.batched.net_of.Goals as goal
 

@@ -1,7 +1,7 @@
 use Rattle.std.proofs.Common.{ℕ, List, ◌++◌, ap, ◌∙◌}
 use Rattle.std.proofs.lemmas.Slice.Zip.{Zip-more, either_empty_from_Zip}
-use Rattle.shim_answers.specs.Batches.{input_line}
-use Rattle.shim_answers.specs.RunEnds.{report_of}
+use Rattle.shim_results.specs.Batches.{input_line}
+use Rattle.shim_results.specs.RunEnds.{report_of}
 use Rattle.shim_answers.proofs.BatchNets.{reports_none, reports_one}
 use Rattle.shim_answers.proofs.batched.reports.Goals as goal
 

@@ -1,9 +1,9 @@
 use Rattle.std.proofs.Common.{◌≡◌, refl, sym, subst}
 use Rattle.shim_command.specs.declared.mode.Telling.TheVariants.{Functions}
-use Rattle.shim_answers.specs.Answer.{Answer, AnswersTelling, AnswersTold, refused}
-use Rattle.shim_answers.specs.Deeds.{telling_of}
-use Rattle.shim_answers.specs.Views.{answer_view}
-use Rattle.shim_answers.proofs.ExecuteLemmas.{if_ok_weaker, of_accepted, of_refused}
+use Rattle.shim_results.specs.Answer.{Answer, AnswersTelling, refused}
+use Rattle.shim_answers.specs.Tasks.{AnswersTold, telling_of}
+use Rattle.shim_results.specs.Views.{answer_view}
+use Rattle.shim_results.proofs.ExecuteLemmas.{if_ok_weaker, of_accepted, of_refused}
 use Rattle.shim_answers.proofs.execute.answer_check.Goals as goal
 
 pub returns-in_ok-count_line-in-Ok : goal.returns-in_ok-count_line-in-Ok

@@ -2,7 +2,7 @@ use denote.Param.Send.{sendable}
 use Rattle.std.proofs.Common.{◌∙◌}
 use Rattle.shim_reference.specs.Naming.{named}
 use Rattle.shim_vm.proofs.Sends.{body_send}
-use Rattle.shim_answers.specs.Deeds.{executed}
+use Rattle.shim_results.specs.SourceActions.{executed}
 use Rattle.shim_answers.proofs.JournalAnswers.{journal_in_range, record_answered}
 use Rattle.shim_answers.proofs.execute.answer_record.Goals as goal
 

@@ -1,7 +1,7 @@
 use Rattle.std.proofs.Common.{refl}
 use Rattle.shim_command.specs.declared.mode.Course.TheVariants.{InSomeOrder}
-use Rattle.shim_answers.specs.Deeds.{shown_of}
-use Rattle.shim_answers.proofs.ExecuteLemmas.{answers_run}
+use Rattle.shim_results.specs.SourceActions.{shown_of}
+use Rattle.shim_results.proofs.ExecuteLemmas.{answers_run}
 use Rattle.shim_answers.proofs.execute.answer_run.Goals as goal
 
 pub returns : goal.returns

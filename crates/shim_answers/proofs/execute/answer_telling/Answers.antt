@@ -1,7 +1,7 @@
 use Rattle.std.proofs.Common.{IfOk, subst, sym}
 use Rattle.shim_command.specs.declared.mode.Telling.{Telling}
-use Rattle.shim_answers.specs.Answer.{AnswersTold}
-use Rattle.shim_answers.specs.Views.{answer_view}
+use Rattle.shim_answers.specs.Tasks.{AnswersTold}
+use Rattle.shim_results.specs.Views.{answer_view}
 use Rattle.shim_answers.proofs.execute.answer_telling.Goals as goal
 
 pub returns-in-Version2 : goal.returns-in-Version2

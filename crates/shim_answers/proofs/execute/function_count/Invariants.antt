@@ -1,5 +1,5 @@
 use Rattle.std.proofs.Common.{◌≡◌, drop}
-use Rattle.shim_answers.specs.Deeds.{functions_from}
+use Rattle.shim_results.specs.SourceActions.{functions_from}
 use Rattle.shim_answers.proofs.execute.function_count.Given as goal
 
 abbrev pub invariant-loop-number : goal.invariant-loop-number

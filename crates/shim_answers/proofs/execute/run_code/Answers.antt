@@ -3,7 +3,7 @@ use Rattle.std.proofs.Common.{◌∙◌}
 use Rattle.shim_process.specs.Forks.{root}
 use Rattle.shim_reference.proofs.RootChannels.{main_shares_its_own}
 use Rattle.shim_vm.proofs.Sends.{body_send}
-use Rattle.shim_answers.specs.Deeds.{executed}
+use Rattle.shim_results.specs.SourceActions.{executed}
 use Rattle.shim_answers.proofs.NetEnds.{net_was, root_path}
 use Rattle.shim_answers.proofs.execute.run_code.Goals as goal
 

@@ -1,4 +1,4 @@
-use Rattle.shim_answers.proofs.ExecuteLemmas.{if_ok_weaker}
+use Rattle.shim_results.proofs.ExecuteLemmas.{if_ok_weaker}
 use Rattle.shim_answers.proofs.execute.text_in_version_2.Goals as goal
 
 pub returns : goal.returns

@@ -1,7 +1,7 @@
 use Rattle.std.proofs.Common.{◌≡◌}
-use Rattle.shim_answers.specs.Answer.{AnswersReplay, refused}
-use Rattle.shim_answers.specs.Views.{answer_view}
-use Rattle.shim_answers.proofs.ExecuteLemmas.{if_ok_weaker, of_accepted, of_refused}
+use Rattle.shim_results.specs.Answer.{AnswersReplay, refused}
+use Rattle.shim_results.specs.Views.{answer_view}
+use Rattle.shim_results.proofs.ExecuteLemmas.{if_ok_weaker, of_accepted, of_refused}
 use Rattle.shim_answers.proofs.replayed.answer_replay.Goals as goal
 
 pub returns-in-Ok : goal.returns-in-Ok

@@ -8,8 +8,8 @@ use Rattle.shim_replay.specs.Entries.{entries_of}
 use Rattle.shim_replay.specs.Replaying.{ReplayAnswers}
 use Rattle.shim_replay.specs.declared.fault.ReplayFault.{ReplayFault}
 use Rattle.shim_vm.proofs.Sends.{body_send}
-use Rattle.shim_answers.specs.Views.{answer_view}
-use Rattle.shim_answers.proofs.ExecuteLemmas.{if_ok_weaker}
+use Rattle.shim_results.specs.Views.{answer_view}
+use Rattle.shim_results.proofs.ExecuteLemmas.{if_ok_weaker}
 use Rattle.shim_answers.proofs.JournalAnswers.{entries_refused, entries_told}
 use Rattle.shim_answers.proofs.replayed.replay_entries_of.Goals as goal
 

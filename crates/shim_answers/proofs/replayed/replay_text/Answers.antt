@@ -3,10 +3,10 @@ use Rattle.std.proofs.Common.{◌≡◌, ℕ, inl, inr, ap, ◌∙◌}
 use Rattle.shim_replay.specs.Entries.{entries_of}
 use Rattle.shim_replay.specs.contracts.fault.JournalFault.{enum}
 use Rattle.shim_replay.specs.declared.fault.JournalFault.{JournalFault}
-use Rattle.shim_answers.specs.Answer.{journal_refused}
-use Rattle.shim_answers.specs.Recorded.{malformed_line}
-use Rattle.shim_answers.specs.Views.{answer_view}
-use Rattle.shim_answers.proofs.ExecuteLemmas.{if_ok_weaker}
+use Rattle.shim_results.specs.Answer.{journal_refused}
+use Rattle.shim_results.specs.Recorded.{malformed_line}
+use Rattle.shim_results.specs.Views.{answer_view}
+use Rattle.shim_results.proofs.ExecuteLemmas.{if_ok_weaker}
 use Rattle.shim_answers.proofs.JournalAnswers.{few_for_reading, journal_read, text_refused}
 use Rattle.shim_answers.proofs.replayed.replay_text.Goals as goal
 

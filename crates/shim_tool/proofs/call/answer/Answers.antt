@@ -1,6 +1,6 @@
 use Rattle.std.proofs.lemmas.Result.{IfOk-weaker}
 use Rattle.shim_command.specs.Jobs.{job, texts_of}
-use Rattle.shim_answers.specs.Views.{answer_view}
+use Rattle.shim_results.specs.Views.{answer_view}
 use Rattle.shim_tool.specs.Moments.{files_at}
 use Rattle.shim_tool.specs.PreparedView.{prepared_view}
 use Rattle.shim_tool.proofs.Preparing.{answered_done, completed, each_done, each_within, left_done, record_done}

@@ -1,5 +1,5 @@
 use Rattle.std.proofs.Common.{arith}
-use Rattle.shim_answers.proofs.Causes.{tells_done, tells_failed, tells_blocked}
+use Rattle.shim_results.proofs.Causes.{tells_done, tells_failed, tells_blocked}
 use Rattle.shim_tool.proofs.RowLemmas.{end_row, spent_row, count_row, beginning_row, batch_row, words_row, refused_row, file_row, sink_row, memory_row, journal_row, files_row, complete}
 use Rattle.shim_tool.proofs.call.shim.Goals as goal
 

@@ -1,6 +1,6 @@
 use Rattle.std.proofs.Common.{◌≡◌, ap, refl}
-use Rattle.shim_answers.specs.Answer.{refused}
-use Rattle.shim_answers.proofs.ExecuteLemmas.{of_accepted, of_refused}
+use Rattle.shim_results.specs.Answer.{refused}
+use Rattle.shim_results.proofs.ExecuteLemmas.{of_accepted, of_refused}
 use Rattle.shim_tool.specs.Prepared.{answered, to_run}
 use Rattle.shim_tool.proofs.prepared.leave_to_workers.Goals as goal
 

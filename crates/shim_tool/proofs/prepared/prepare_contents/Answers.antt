@@ -1,5 +1,5 @@
 use Rattle.std.proofs.Common.{◌∙◌}
-use Rattle.shim_answers.proofs.ExecuteLemmas.{if_ok_weaker}
+use Rattle.shim_results.proofs.ExecuteLemmas.{if_ok_weaker}
 use Rattle.shim_tool.specs.PreparedView.{prepared_view}
 use Rattle.shim_tool.specs.Views.{beside_view}
 use Rattle.shim_tool.proofs.Contents.{contents_prepared, journal_short}

@@ -2,7 +2,7 @@ use Rattle.std.proofs.Common.{ap, ◌∙◌}
 use Rattle.shim_command.specs.declared.mode.Course.{Course}
 use Rattle.shim_command.specs.declared.mode.Task.TheVariants.{Runs}
 use Rattle.shim_tool.specs.PreparedView.{prepared_view}
-use Rattle.shim_answers.proofs.ExecuteLemmas.{if_ok_weaker}
+use Rattle.shim_results.proofs.ExecuteLemmas.{if_ok_weaker}
 use Rattle.shim_tool.proofs.Preparing.{meaning_prepared, run_prepared}
 use Rattle.shim_tool.proofs.prepared.prepare_run.Goals as goal
 

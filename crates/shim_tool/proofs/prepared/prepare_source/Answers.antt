@@ -1,6 +1,6 @@
 use Rattle.std.proofs.Common.{ap, refl, sym, ◌∙◌}
 use Rattle.shim_command.specs.Modes.{ModeRow}
-use Rattle.shim_answers.proofs.ExecuteLemmas.{if_ok_weaker}
+use Rattle.shim_results.proofs.ExecuteLemmas.{if_ok_weaker}
 use Rattle.shim_tool.specs.PreparedView.{prepared_view}
 use Rattle.shim_tool.specs.Views.{beside_view}
 use Rattle.shim_tool.proofs.Preparing.{each_prepared, reasons_prepared, record_prepared, replay_prepared, told_prepared}

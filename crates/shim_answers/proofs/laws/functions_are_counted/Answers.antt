@@ -1,5 +1,0 @@
-use Rattle.shim_answers.proofs.FunctionUnits as units
-use Rattle.shim_answers.proofs.laws.functions_are_counted.Goals as goal
-
-pub returns : goal.returns
-returns c = units.functions_are_counted

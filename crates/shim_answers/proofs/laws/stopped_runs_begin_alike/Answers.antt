@@ -1,5 +1,0 @@
-use Rattle.shim_answers.proofs.Beginnings.{begin_alike}
-use Rattle.shim_answers.proofs.laws.stopped_runs_begin_alike.Goals as goal
-
-pub returns : goal.returns
-returns c = begin_alike

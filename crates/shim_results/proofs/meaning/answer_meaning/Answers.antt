@@ -1,0 +1,17 @@
+use Rattle.std.proofs.Common.{◌≡◌}
+use Rattle.shim_command.specs.declared.mode.Course.TheVariants.{ByFirstEvents}
+use Rattle.shim_results.specs.Answer.{AnswersRun, refused}
+use Rattle.shim_results.specs.SourceActions.{executed, shown_of}
+use Rattle.shim_results.specs.Views.{answer_view}
+use Rattle.shim_results.proofs.ExecuteLemmas.{if_ok_weaker, of_accepted, of_refused}
+use Rattle.shim_results.proofs.meaning.answer_meaning.Goals as goal
+
+pub returns-in-Ok : goal.returns-in-Ok
+returns-in-Ok c = if_ok_weaker c.answer_reference.result _ _
+    (λ a h. of_accepted (λ program source b. AnswersRun ByFirstEvents (shown_of c.args.showing c.args.job.now) (executed c.args.job.now c.args.input source) b) (λ fault b. b ≡ refused fault)
+    c.args.bytes.now c.in-Ok.source (answer_view a) c.in-Ok.ensures (λ program. h)) c.answer_reference.ensures
+
+pub returns-in-Err : goal.returns-in-Err
+returns-in-Err c = if_ok_weaker c.refused.result _ _
+    (λ a is. of_refused (λ program source b. AnswersRun ByFirstEvents (shown_of c.args.showing c.args.job.now) (executed c.args.job.now c.args.input source) b) (λ fault b. b ≡ refused fault)
+    c.args.bytes.now c.in-Err.fault (answer_view a) is.0 is.1 is.2 c.in-Err.ensures is.3) c.refused.ensures

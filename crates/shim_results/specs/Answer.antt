@@ -1,0 +1,111 @@
+-- What is answered to a source, from what is done with it.
+use Rattle.std.specs.Prelude.{ℕ, ◌≡◌, ◌⊎◌, List, length, Ok, Err}
+use Rattle.std.specs.List.{AllZip}
+use Rattle.shim_syntax.specs.declared.Program.{Program}
+use Rattle.shim_syntax.specs.Text.{IsText}
+use Rattle.shim_parser.specs.declared.ParseFault.{ParseFault}
+use Rattle.shim_parser.specs.Parsing.{IsFaultOf}
+use Rattle.shim_front_end.specs.declared.SourceFault.{SourceFault}
+use Rattle.shim_front_end.specs.declared.SourceFault.TheVariants.{Parse}
+use Rattle.shim_front_end.specs.FrontEnd.{IsOnlyText, IsOnlyFault}
+use Rattle.shim_front_end.specs.Source.{Source, IsSource, checked}
+use Rattle.shim_report.specs.Refusal.{refusal_text}
+use Rattle.shim_command.specs.declared.job.Job.{Job}
+use Rattle.shim_command.specs.declared.mode.Course.{Course}
+use Rattle.shim_command.specs.declared.mode.Course.TheVariants.{ByFirstEvents, InSomeOrder}
+use Rattle.shim_local.specs.declared.Ended.{Ended}
+use Rattle.shim_process.specs.LocalState.{LocalState}
+use Rattle.shim_semantics.specs.Trees.{Tree}
+use Rattle.shim_laws_replay.specs.Journals.{Entry}
+use Rattle.shim_laws_journals.specs.Accepting.{JournalRefusal}
+use Rattle.shim_results.specs.RunEnds.{Execution, read_off, report_of, status_of_outcome, IsEnd}
+use Rattle.shim_results.specs.Batches.{greatest, on_each, reports_of, statuses_of}
+use Rattle.shim_results.specs.Recorded.{IsJournalOf, IsNoJournal, IsNoRun, IsOnlyJournal, IsRunTo, execution_within, malformed_line, refusal_line}
+use Rattle.shim_results.specs.SourceActions.{SourceAction, runs, tells, records, replays, runs_each, executed}
+
+-- a status and the text that goes with it
+pub record Answer : Type 0 where
+  pub status : ℕ
+  pub text : List ℕ
+
+abbrev pub refused : SourceFault → Answer
+refused fault = record { status = 5; text = refusal_text fault }
+
+abbrev pub journal_refused : List ℕ → Answer
+journal_refused line = record { status = 9; text = line }
+
+-- the report of what was read off a run of a source, with the status that tells how it ended
+abbrev pub reported : Source → Ended → Answer
+reported source e = record { status = status_of_outcome e.outcome; text = report_of source e }
+
+-- the bytes are the text of no program that is accepted
+abbrev pub IsNoSource : List ℕ → Type 0
+IsNoSource bytes = (source : Source) → IsSource bytes source → ⊥
+
+-- why bytes are refused with this line: they are the text of a program that isn't accepted, with this first fault, or they are the text of none, with this fault
+abbrev pub IsRefusal : List ℕ → List ℕ → Type 0
+IsRefusal bytes line =
+    ((program : Program) × IsText bytes program × (fault : SourceFault) × (checked program ≡ Err fault) × (line ≡ refusal_text fault))
+    ⊎ ((fault : ParseFault) × IsFaultOf bytes fault × (line ≡ refusal_text (Parse fault)))
+
+-- a run is answered with the status that tells how it ended, and with this text
+abbrev pub AnswersRun : Course → (Execution → Ended → List ℕ) → Execution → Answer → Type 0
+AnswersRun course shown x answer = (e : Ended) × IsEnd course x e × (answer ≡ record { status = status_of_outcome e.outcome; text = shown x e })
+
+-- a source of which something is told is answered with 0 and that
+abbrev pub AnswersTelling : (Program → Source → List ℕ → Type 0) → Program → Source → Answer → Type 0
+AnswersTelling told program source answer = (answer.status ≡ 0) × told program source answer.text
+
+-- a run whose journal is told is answered with that, and with the status that tells how it ended
+abbrev pub AnswersRecord : Execution → Answer → Type 0
+AnswersRecord x answer = (t : Tree LocalState) × IsJournalOf x t answer.text × (answer.status ≡ status_of_outcome (read_off x t).outcome)
+
+-- Entries of a journal are answered with the report of the tree to which they lead, where they are a run of the execution that ends there, and else with the line of the first that isn't done.
+abbrev pub AnswersEntries : Execution → List Entry → Answer → Type 0
+AnswersEntries x es answer =
+    ((t : Tree LocalState) × IsRunTo x es t × (answer ≡ reported x.source (read_off x t)))
+    ⊎ ((r : JournalRefusal) × IsNoRun x es r × (answer ≡ journal_refused (refusal_line r)))
+
+-- a journal is answered as its entries, within its own budget, and a text that is none with its first faulty line
+abbrev pub AnswersReplay : Source → List ℕ → List ℕ → Answer → Type 0
+AnswersReplay source input journal answer =
+    ((b : ℕ) × (es : List Entry) × IsOnlyJournal journal b es × AnswersEntries (execution_within source input b) es answer)
+    ⊎ ((n : ℕ) × IsNoJournal journal n × (answer ≡ journal_refused (malformed_line n)))
+
+-- Runs of one source on each of these inputs, of which there is one for each of these names, are answered with what they come to: the greatest of the statuses that tell how they ended, and their reports in order.
+abbrev pub AnswersEach : List (List ℕ) → Execution → List (List ℕ) → Answer → Type 0
+AnswersEach names x inputs answer =
+    (length inputs ≡ length names) × (es : List Ended) × AllZip (IsEnd InSomeOrder) (on_each x inputs) es
+    × (answer ≡ record { status = greatest (statuses_of es); text = reports_of x.source names es })
+
+-- an accepted program is answered with what is done with it: with what is read off its run, with what is told of it, with the journal of its run, as a journal is, or with what is read off its runs on each input
+abbrev pub AnswersProgram : SourceAction → Program → Execution → Answer → Type 0
+AnswersProgram (runs course shown) program x answer = AnswersRun course shown x answer
+AnswersProgram (tells told) program x answer = AnswersTelling told program x.source answer
+AnswersProgram records program x answer = AnswersRecord x answer
+AnswersProgram (replays journal) program x answer = AnswersReplay x.source x.input journal answer
+AnswersProgram (runs_each names inputs) program x answer = AnswersEach names x inputs answer
+
+-- What comes of a program: this of it and of its units, where it is accepted, and else that of its first fault.
+abbrev pub OfProgram : {A : Type 0} → (Program → Source → A → Type 0) → (SourceFault → A → Type 0) → Program → A → Type 0
+OfProgram OfSource OfFault program a =
+    ((source : Source) × (checked program ≡ Ok source) × OfSource program source a)
+    ⊎ ((fault : SourceFault) × (checked program ≡ Err fault) × OfFault fault a)
+
+-- What comes of bytes: of the text of a program what comes of that, and of other bytes what comes of their fault.
+abbrev pub OfBytes : {A : Type 0} → (Program → Source → A → Type 0) → (SourceFault → A → Type 0) → List ℕ → A → Type 0
+OfBytes OfSource OfFault bytes a =
+    ((program : Program) × IsOnlyText bytes program × OfProgram OfSource OfFault program a)
+    ⊎ ((fault : ParseFault) × IsOnlyFault bytes fault × OfFault (Parse fault) a)
+
+-- a source is answered as its program, and other bytes with the line of their first fault
+abbrev pub AnswersSource : SourceAction → (Source → Execution) → List ℕ → Answer → Type 0
+AnswersSource action as_run bytes answer = OfBytes (λ program source a. AnswersProgram action program (as_run source) a) (λ fault a. a ≡ refused fault) bytes answer
+
+-- a source whose meaning is told, by this text
+abbrev pub AnswersMeaning : (Execution → Ended → List ℕ) → Job → List ℕ → List ℕ → Answer → Type 0
+AnswersMeaning shown job input bytes answer = OfBytes (λ program source a. AnswersRun ByFirstEvents shown (executed job input source) a) (λ fault a. a ≡ refused fault) bytes answer
+
+-- a source that is run as a journal tells
+abbrev pub AnswersReplaySource : List ℕ → List ℕ → List ℕ → Answer → Type 0
+AnswersReplaySource input journal bytes answer = OfBytes (λ program source a. AnswersReplay source input journal a) (λ fault a. a ≡ refused fault) bytes answer
