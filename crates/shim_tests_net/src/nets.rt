@@ -16,7 +16,7 @@ use std::test::Fail;
 
 // What is changed in a parcel before it is done.
 #[derive(Clone, Copy, Debug, PartialEq, Eq)]
-enum Change {
+pub(crate) enum Change {
     Slot,
     Round,
     Pid,
@@ -27,7 +27,7 @@ enum Change {
 
 // What is done with a net and the parcels that it gave.
 #[derive(Clone, Copy, Debug, PartialEq, Eq)]
-enum Call {
+pub(crate) enum Call {
     // Asks for work of so many steps at most, with this slot.
     Grant(u64, u64),
     // The last parcel is done and taken in.
@@ -106,7 +106,7 @@ fn add_ended(told: &mut List<u8>, ended: &Ended) -> Result<(), NoMemory> {
 fn add_standing<L: Local>(told: &mut List<u8>, net: &Net<L>) -> Result<(), NoMemory> {
     match net.standing() {
         Standing::Running => told.extend_from_slice(b" running")?,
-        Standing::Quiet => add_ended(told, &net.ended()?)?,
+        Standing::Quiescent => add_ended(told, &net.ended()?)?,
         Standing::Spent => add_ended(told, &net.ended()?)?,
     }
     told.extend_from_slice(b";")
@@ -286,9 +286,14 @@ fn tell(alloc: Global, left: &[Step], budget: u8, calls: &[Call]) -> Result<List
 }
 
 // A budget, the calls, and what is told then.
-type Row<'a> = (u8, &'a [Call], &'a str);
+pub(crate) type Row<'a> = (u8, &'a [Call], &'a str);
 
-fn expect(rt: &impl Abort, alloc: Global, left: &[Step], rows: &[Row<'_>]) -> Result<(), Fail> {
+pub(crate) fn expect(
+    rt: &impl Abort,
+    alloc: Global,
+    left: &[Step],
+    rows: &[Row<'_>],
+) -> Result<(), Fail> {
     for row in rows {
         let told = tell(alloc, left, row.0, row.1)?;
         assert_eq!(rt; str::from_utf8(told.as_slice())?, row.2);

@@ -6,10 +6,6 @@ use Rattle.shim_semantics.specs.Nodes.{Dead, death, death_with, no_node, node_an
 pub leftmost : {S : Type 0} (a b c : S) → prevailing_death (node_and (Dead a (death 1)) (node_and (Dead b (death_with 1 (pos 7))) (node_and (Dead c (death_with 1 (pos 9))) no_node))) ≡ Some (death_with 1 (pos 7))
 leftmost a b c = refl
 
--- of one label, with 9 and with 7: the first, and not the least
-pub first_not_least : {S : Type 0} (a b : S) → prevailing_death (node_and (Dead a (death_with 1 (pos 9))) (node_and (Dead b (death_with 1 (pos 7))) no_node)) ≡ Some (death_with 1 (pos 9))
-first_not_least a b = refl
-
 -- label 2 with 7 and label 1 with 9: the label is 1 and the number 9
 pub least : {S : Type 0} (a b : S) → prevailing_death (node_and (Dead a (death_with 2 (pos 7))) (node_and (Dead b (death_with 1 (pos 9))) no_node)) ≡ Some (death_with 1 (pos 9))
 least a b = refl

@@ -13,12 +13,14 @@ same_branch = branch_test.ghosts.eq
 
 branch_refl : (a : Branch) → same_branch a a ≡ true
 branch_refl branch.Next = refl
+branch_refl branch.Quiet = refl
 branch_refl (branch.Throw label number) = and_from _ _ (eq-eqb label label refl) (eq-eqb number number refl)
 branch_refl (branch.Outer label number) = and_from _ _ (eq-eqb label label refl) (eq-eqb number number refl)
 branch_refl branch.Nothing = refl
 
 branch_is : (a b : Branch) → same_branch a b ≡ true → a ≡ b
 branch_is branch.Next branch.Next e = refl
+branch_is branch.Quiet branch.Quiet e = refl
 branch_is (branch.Throw label number) (branch.Throw label1 number1) e =
     let both = and_parts _ _ e in
     λ i. branch.Throw (eqb-true label label1 both.0 i) (eqb-true number number1 both.1 i)

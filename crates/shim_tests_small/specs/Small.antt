@@ -110,6 +110,7 @@ number_computed s = record s { left = computed s.left }
 -- what a branch has to do
 abbrev pub steps_of : Branch → List Step
 steps_of branch.Next = step.Next ∷ []
+steps_of branch.Quiet = step.Quiet ∷ step.Quiet ∷ step.Next ∷ []
 steps_of (branch.Throw label number) = step.Throw label number ∷ []
 steps_of (branch.Outer label number) = step.Three (branch.Throw label number) branch.Nothing branch.Nothing ∷ []
 steps_of branch.Nothing = []

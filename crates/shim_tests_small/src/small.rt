@@ -14,6 +14,8 @@ use std::marker::Model;
 pub enum Branch {
     /// A `next`.
     Next,
+    /// Two quiet steps, and then a `next`.
+    Quiet,
     /// It throws the exception of this label with this number.
     Throw(u32, u32),
     /// It forks, and the first branch of that fork throws so; the two others have nothing to do.
@@ -213,6 +215,7 @@ fn steps_of(alloc: Global, branch: Branch) -> Result<Vec<Step>, NoMemory>
 {
     match branch {
         Branch::Next => alone(alloc, Step::Next),
+        Branch::Quiet => Ok(Vec::from_slice(alloc, &[Step::Quiet, Step::Quiet, Step::Next])?),
         Branch::Throw(label, number) => alone(alloc, Step::Throw(label, number)),
         Branch::Outer(label, number) => alone(
             alloc,

@@ -31,7 +31,7 @@ fn nets(alloc: Global, pairs: &[(u64, u8)]) -> Result<List<Net<Small>>, NoMemory
 fn standing_word(standing: Standing) -> &'static [u8] {
     match standing {
         Standing::Running => b"running ",
-        Standing::Quiet => b"quiet ",
+        Standing::Quiescent => b"quiet ",
         Standing::Spent => b"spent ",
     }
 }

@@ -1,7 +1,7 @@
 // One net, run by any number of workers in rounds, over a board and out of lanes: what is told in the end, and what a
 // gate sees. All three are asked for the same.
 ghost use Rattle.std.specs.Prelude.{◌⊎◌, IfOk};
-ghost use Rattle.shim_net.specs.Standings.{IsQuietNet, IsSpentNet};
+ghost use Rattle.shim_net.specs.Standings.{IsQuiescentNet, IsSpentNet};
 
 use crate::gates::CountingGate;
 use crate::nets::{WANTING, net, quiet};
@@ -63,7 +63,7 @@ fn run<L: Local, G: Gate, R: Threads + Wait + Sync>(
     runner: Runner,
     gate: &G,
 ) -> Result<Net<L>, NoMemory>
-    ensures { IfOk result (λ n. IsQuietNet L.ops n ⊎ IsSpentNet L.ops n) }
+    ensures { IfOk result (λ n. IsQuiescentNet L.ops n ⊎ IsSpentNet L.ops n) }
 {
     let workers = workers.clamp(1, 16);
     let quantum = quantum.clamp(1, 10000);
@@ -76,7 +76,7 @@ fn run<L: Local, G: Gate, R: Threads + Wait + Sync>(
 
 // Tells how a net ended, and how many pieces were taken in.
 fn tell_net<L: Local>(told: &mut List<u8>, net: &Net<L>) -> Result<(), NoMemory>
-    requires { IsQuietNet L.ops net.now ⊎ IsSpentNet L.ops net.now }
+    requires { IsQuiescentNet L.ops net.now ⊎ IsSpentNet L.ops net.now }
 {
     let ended = net.ended()?;
     told.extend_from_slice(outcome_word(ended.outcome))?;

@@ -1,6 +1,0 @@
-use denote.Param.Send.{sendable}
-use Rattle.shim_vm.proofs.Sends.{body_send}
-use Rattle.shim_tests_bodies.proofs.worker_rows.two_workers_in_rounds_come_to_the_report_of_a_filter.Goals as goal
-
-pub expect_by_rounds-requires-send-L : goal.expect_by_rounds-requires-send-L
-expect_by_rounds-requires-send-L g c κs = search (body_send, sendable)
