@@ -158,11 +158,6 @@ no_pass_of_none over rest h = by_kind (one_of_three [] over rest h) where
   by_kind (inr (inl s)) = absurd (let w = s.whole in cc)
   by_kind (inr (inr s)) = absurd (let w = s.whole in cc)
 
--- a comment begins with a slash
-pub comment_head : (b : ℕ) (bytes : List ℕ) → IsComment (b ∷ bytes) → b ≡ 47
-comment_head b bytes (inl c) = let e = c.1 in cc
-comment_head b bytes (inr c) = let e = c.1 in cc
-
 -- a line comment is a comment
 line_is : (bytes over rest : List ℕ) → IsLine bytes over rest → IsComment bytes
 line_is bytes over rest s = inl (s.inside ++ rest, s.whole)

@@ -1,35 +1,13 @@
 -- Lists in parts: cut, joined, and held against another list value by value.
-use Rattle.std.proofs.Common.{◌≡◌, ◌<◌, ℕ, Result, Ok, Err, IfOk, List, [], ◌∷◌, ◌++◌, length, take, drop, suc, refl, sym, ap, subst, ◌∙◌, arith, slice_index_or}
+use Rattle.std.proofs.Common.{◌≡◌, ◌<◌, ℕ, Result, Ok, Err, IfOk, List, [], ◌∷◌, ◌++◌, length, suc, refl, sym, ap, subst, ◌∙◌, arith, slice_index_or}
 use Rattle.std.specs.List.{AllZip}
-use Rattle.std.proofs.lemmas.List.{append_assoc, append-nil, take-append-drop}
+use Rattle.std.proofs.lemmas.List.{append_assoc, append-nil}
 use Rattle.shim_batch.specs.Parts.{joined, JoinsTo}
-
-module _ {T : Type 0} where
-  one_part_more : (parts : List (List T)) (part : List T) → joined (parts ++ part ∷ []) ≡ joined parts ++ part
-  one_part_more [] part = append-nil part
-  one_part_more (p ∷ ps) part = ap (λ (l : List T). p ++ l) (one_part_more ps part) ∙ sym (append_assoc p (joined ps) part)
-
-  -- what was left is cut once more
-  pub cut_once : (parts parts' : List (List T)) (rest part behind values : List T) (size : ℕ) → part ≡ take size rest → behind ≡ drop size rest → parts' ≡ parts ++ part ∷ [] → joined parts ++ rest ≡ values
-      → joined parts' ++ behind ≡ values
-  cut_once parts parts' rest part behind values size front back more whole =
-      ap (λ (l : List (List T)). joined l ++ behind) more
-      ∙ ap (λ (l : List T). l ++ behind) (one_part_more parts part)
-      ∙ append_assoc (joined parts) part behind
-      ∙ ap (λ (l : List T). joined parts ++ l) ((λ i. front i ++ back i) ∙ take-append-drop size rest)
-      ∙ whole
-
-  -- what is left is the last part
-  pub all_cut : (parts parts' : List (List T)) (rest values : List T) → parts' ≡ parts ++ rest ∷ [] → joined parts ++ rest ≡ values → joined parts' ≡ values
-  all_cut parts parts' rest values more whole = ap joined more ∙ one_part_more parts rest ∙ whole
 
 module _ {T E : Type 0} where
   -- what the parts that are left join to, stands behind what was joined
   abbrev pub JoinsOn : List (Result (List T) E) → List T → List (Result (List T) E) → Type 0
   JoinsOn parts values rest = (later : List T) → JoinsTo rest later → JoinsTo parts (values ++ later)
-
-  pub joins_all : (parts : List (Result (List T) E)) (values : List T) (rest : List (Result (List T) E)) → values ≡ [] → rest ≡ parts → JoinsOn parts values rest
-  joins_all parts values rest none same later h = subst (λ l. JoinsTo l (values ++ later)) same (subst (λ l. JoinsTo rest (l ++ later)) (sym none) h)
 
   pub joins_one : (parts : List (Result (List T) E)) (values values' part : List T) (run : Result (List T) E) (rest rest' : List (Result (List T) E)) → rest ≡ run ∷ rest' → run ≡ Ok part → values' ≡ values ++ part
       → JoinsOn parts values rest → JoinsOn parts values' rest'

@@ -4,10 +4,10 @@ use Rattle.std.specs.List.{AllZip}
 use Rattle.std.proofs.lemmas.List.{append_assoc, append-nil}
 use Rattle.shim_local.specs.Process.{Ops}
 use Rattle.shim_net.specs.Nets.{NetView, IsNet}
-use Rattle.shim_net.specs.Standings.{IsQuietNet, IsSpentNet}
+use Rattle.shim_net.specs.Standings.{IsQuiescentNet, IsSpentNet}
 use Rattle.shim_batch.specs.Runs.{HasRun}
 
-pub has_run : {S E : Type 0} (o : Ops S) (net : NetView S) (r : Result (NetView S) E) → IfOk r (λ n. n.root ≡ net.root) → IfOk r (λ n. n.budget ≡ net.budget) → IfOk r (λ n. IsQuietNet o n ⊎ IsSpentNet o n)
+pub has_run : {S E : Type 0} (o : Ops S) (net : NetView S) (r : Result (NetView S) E) → IfOk r (λ n. n.root ≡ net.root) → IfOk r (λ n. n.budget ≡ net.budget) → IfOk r (λ n. IsQuiescentNet o n ⊎ IsSpentNet o n)
     → IfOk r (λ n. IsNet o n) → IfOk r (λ n. HasRun o net n)
 has_run o net (Ok n) root budget stands keeps = record { root = root; budget = budget; stands = stands; keeps = keeps }
 has_run o net (Err e) root budget stands keeps = tt
@@ -16,9 +16,6 @@ module _ {A B : Type 0} (R : A → B → Type 0) where
   -- what is held against the values that are left, stands behind what was held against those before them
   abbrev pub ZipsOn : List A → List B → List A → Type 0
   ZipsOn xs ys rest = (later : List B) → AllZip R rest later → AllZip R xs (ys ++ later)
-
-  pub zips_all : (xs : List A) (ys : List B) (rest : List A) → ys ≡ [] → rest ≡ xs → ZipsOn xs ys rest
-  zips_all xs ys rest none same later h = subst (λ l. AllZip R l (ys ++ later)) same (subst (λ l. AllZip R rest (l ++ later)) (sym none) h)
 
   pub zips_one : (xs : List A) (ys ys' : List B) (x : A) (y : B) (rest rest' : List A) → rest ≡ x ∷ rest' → R x y → ys' ≡ ys ++ y ∷ [] → ZipsOn xs ys rest → ZipsOn xs ys' rest'
   zips_one xs ys ys' x y rest rest' first holds more on later h =

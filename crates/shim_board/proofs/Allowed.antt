@@ -219,14 +219,6 @@ module _ {T N M : Type 0} where
   pub gives_carried : (v : View M) (k r : ℕ) (cs : List (ℕ × Content T N)) → cs ≡ carried v → v.claimed ≡ Some (k, r) → rest cs ≡ carried (after_give v)
   gives_carried v k r cs is has = ap rest is ∙ ap (λ o. rest (out_claimed o (out_turn v.turn))) has
 
-  -- what is out with a chair that takes the turn: the net's place goes behind its claimed slot
-  pub takes_carried : (v : View M) (cs : List (ℕ × Content T N)) → cs ≡ carried v → v.turn ≡ 0 → turned ((0, Nothing) ∷ cs) ≡ carried (after_take v)
-  takes_carried v cs is idle = ap (λ c. turned ((0, Nothing) ∷ c)) (is ∙ ap (λ n. out_claimed v.claimed (out_turn n)) idle) ∙ by v.claimed
-    where
-      by : (o : Option (ℕ × ℕ)) → turned ((0, Nothing) ∷ out_claimed o (out_turn 0)) ≡ out_claimed {T = T} {N = N} o (out_turn 1)
-      by None = refl
-      by (Some p) = refl
-
 pub at_slot-append : (k : ℕ) (xs : List ℕ) (x : ℕ) → at_slot k (xs ++ x ∷ []) ≡ at_slot k xs ++ (k, x) ∷ []
 at_slot-append k [] x = refl
 at_slot-append k (y ∷ ys) x = ap (λ l. (k, y) ∷ l) (at_slot-append k ys x)

@@ -1,6 +1,5 @@
 -- Sums over all views, and counts in lists.
 use Rattle.std.proofs.Common.{◌≡◌, ◌≢◌, ℕ, zero, suc, ◌+◌, ◌<◌, ◌≤◌, cond, eq-eqb, ne_eqb, subst, List, [], ◌∷◌, ◌++◌, All, length, take, drop, get_or, set, refl, sym, ap, ◌∙◌, arith}
-use Rattle.std.proofs.lemmas.List.{at_drop_more}
 use mathlib.Core.Logic.{dite}
 use native.Mathlib.Decide.{ℕ_discrete}
 use mathlib.Core.Option.{some, some-injective, some-ne-none}
@@ -67,10 +66,6 @@ each-snoc P (y ∷ ys) x h = let r = each-snoc P ys x h.1 in ((h.0, r.0), r.1)
 pub each-add : {V : Type 0} (P : V → Type 0) (xs : List V) (x : V) → Each P xs → P x → Each P (xs ++ x ∷ [])
 each-add P [] x h p = (p, tt)
 each-add P (y ∷ ys) x h p = (h.0, each-add P ys x h.1 p)
-
--- the sum goes on where an element counts for nothing
-pub total-drop_more : {V : Type 0} (f : V → ℕ) (xs : List V) (at : ℕ) (d : V) → at < length xs → f (get_or xs at d) ≡ 0 → total f (drop at xs) ≡ total f (drop (at + 1) xs)
-total-drop_more f xs at d inside none_here = at_drop_more (total f) xs at d inside ∙ (let e = none_here in omega arith)
 
 -- one element is taken out
 total-removed : {V : Type 0} (f : V → ℕ) (xs : List V) (at : ℕ) (d : V) → at < length xs → total f (take at xs ++ drop (suc at) xs) + f (get_or xs at d) ≡ total f xs

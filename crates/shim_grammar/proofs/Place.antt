@@ -9,7 +9,7 @@ use Rattle.shim_syntax.specs.declared.limits.Many.TheVariants as many
 use Rattle.shim_syntax.specs.declared.tree.Program.{Program as ProgramTree}
 use Rattle.shim_syntax.specs.Terminals.{Terminal, Name, Number, Sort, Key, Sign, End, Broken, terminal_place}
 use Rattle.shim_syntax.specs.Limits.{Limit, Nesting, Count, Limits, limits, no_limits, nesting_alone, nesting_and, is_same, until}
-use Rattle.shim_syntax.specs.Grammar.{TextCounts, nothing_read, IsProgram, Derives}
+use Rattle.shim_syntax.specs.Grammar.{TextCounts, nothing_read, IsProgram}
 use Rattle.shim_syntax.specs.Text.{BeginsProgram, FaultCause, Lexical, Unexpected, TooDeep, TooMany, IsFaultAt, HasCause as CauseOf}
 use Rattle.shim_grammar.specs.Machine.{Source, SymbolStack, Want, At, Cause, Unwanted, Past, AllTaken, run_parser, wants}
 use Rattle.shim_grammar.proofs.Gives.{Takes, Step, Free}
@@ -113,11 +113,6 @@ ends c p f b x s e (more, fs, d) =
     b (Source ∷ []) nothing_read e in
     let w : AllTaken ≡ At f (x ∷ more) = sym (program_runs d') ∙ e' in
     cc
-
--- a run that halts at a terminal reads no program
-pub none_derived : (c : Limits) (cause : Cause) (s : List Terminal) (x : Terminal) (behind : List Terminal) → run_parser c s (Source ∷ []) nothing_read ≡ At cause (x ∷ behind)
-    → (p : ProgramTree) → Derives c s p → ⊥
-none_derived c f s x behind e fs d = let w : AllTaken ≡ At f (x ∷ behind) = sym (program_runs d) ∙ e in cc
 
 pub limits_plain : Plain limits
 limits_plain s t limit n = refl

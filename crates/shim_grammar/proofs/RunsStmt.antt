@@ -161,15 +161,6 @@ pub stmt_runs : {c : Limits} {l : ℕ} {w : TextCounts} {s r : List Terminal} {x
     → run_parser c s (Statement l ∷ k) v ≡ run_parser c r k w
 stmt_runs v h d k = stmt_open v h d k ∙ begun_runs d k
 
-pub plain_runs : {c : Limits} {l : ℕ} {w : TextCounts} {s r : List Terminal} {xs : List Stmt} (v : TextCounts) → c s Nesting l ≡ true → IsPlain c l (at_level l v) w s r xs → (k : SymbolStack)
-    → run_parser c s (Statement l ∷ k) v ≡ run_parser c r k w
-plain_runs v h d k = plain_open v h d k ∙ plain_begun_runs d k
-
--- as the body of an `if`, a `while` or a `for`
-pub plain_body_runs : {c : Limits} {l : ℕ} {w : TextCounts} {s r : List Terminal} {xs : List Stmt} (v : TextCounts) → c s Nesting l ≡ true → IsPlain c l (at_level l v) w s r xs → (k : SymbolStack)
-    → run_parser c s (Body l ∷ k) v ≡ run_parser c r k w
-plain_body_runs {l = l} v h d k = body_open d l v k ∙ plain_runs v h d k
-
 parameter_runs : (c : Limits) {s r : List Terminal} {x : Param} → IsParam s r x → (n : ℕ) → c s (Count many.Parameters) n ≡ true → (w : TextCounts) (k : SymbolStack)
     → run_parser c s (Parameter n ∷ k) w ≡ run_parser c r (MoreParameters n ∷ k) w
 parameter_runs c is.param n h w k = rw h refl

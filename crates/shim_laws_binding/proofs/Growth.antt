@@ -389,7 +389,3 @@ module _ (w : Whole) where
   pub body_grows : (body : List Stmt) → Grows w.names (first_declares (map (stmt_meaning w) body)) (declarations_in body) (tries_among body) (bind_stmts w body)
   body_grows [] a b r is = stays w.names [] b r is
   body_grows (s ∷ body) a b r is = one_then s body (stmt_grows s) (body_grows body) a b r is
-
-  pub fork_grows : (bs : List Branch) → Grows w.names no_locals (concat (map declared_by_branch bs)) (concat (map tried_by_branch bs)) (bind_fork (map (bind_branch w) bs))
-  fork_grows [] a b r is = stays w.names [] b r is
-  fork_grows (c ∷ bs) a b r is = one_branch_then c bs (branch_grows c) (fork_grows bs) a b r is

@@ -6,9 +6,6 @@ use Rattle.shim_semantics.specs.Places.{at, child_at}
 use Rattle.shim_semantics.proofs.HowMany.{bit, no_less_than, count_one, count_both, counts, rest_counts}
 use Rattle.shim_base.proofs.Facts.{some_same, none_some}
 
-both_count : (whole x y a b : ℕ) → whole ≡ x + y → a ≤ x → b ≤ y → a + b ≤ whole
-both_count whole x y a b e f g = omega arith
-
 first_counts : (whole x y n : ℕ) → whole ≡ x + y → n ≤ x → n ≤ whole
 first_counts whole x y n e f = omega arith
 

@@ -128,10 +128,6 @@ under_upto (suc n) i h = elim (among_either (upto n) (n ∷ []) i h) [
 
 -- each of some
 
-pub all_are_among : (xs : List ℕ) (ys : List ℕ) → ((y : ℕ) → Among ys y → Among xs y) → are_among xs ys ≡ true
-all_are_among xs [] f = refl
-all_are_among xs (y ∷ ys) f = both_hold (is_among xs y) (are_among xs ys) (f y (first_of y ys)) (all_are_among xs ys (λ z h. f z (among_behind y ys z h)))
-
 pub places_are_among : (all xs ys : List ℕ) → ((y : ℕ) → Among ys y → Among xs (slot_index_of all y)) → are_among xs (slot_indices_of all ys) ≡ true
 places_are_among all xs [] f = refl
 places_are_among all xs (y ∷ ys) f = both_hold (is_among xs (slot_index_of all y)) (are_among xs (slot_indices_of all ys)) (f y (first_of y ys)) (places_are_among all xs ys (λ z h. f z (among_behind y ys z h)))

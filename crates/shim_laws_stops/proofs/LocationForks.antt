@@ -36,7 +36,7 @@ use Rattle.shim_laws_stops.specs.InScope.{arguments_right, references, distinct,
 use Rattle.shim_laws_stops.specs.FrameLocations.{scoped_kind, item_right, ItemScoped, ItemsScoped, next_declares, FrameScoped, HasLocations}
 use Rattle.shim_laws_stops.proofs.Among.{Among, none_among}
 use Rattle.shim_laws_stops.proofs.ScopeItems.{scoped_out}
-use Rattle.shim_laws_stops.proofs.ScopeFrames.{Covers, covers_same, covers_both, covers_onward, inner_scoped, unwind_has}
+use Rattle.shim_laws_stops.proofs.ScopeFrames.{Covers, covers_onward, inner_scoped, unwind_has}
 use Rattle.shim_laws_stops.proofs.ScopeEntries.{GivenThere, given_covered, given_there, HasFrom, has_less, branch_params, empties_many, numbers_many, params_fit, entered_scoped}
 use Rattle.shim_laws_stops.proofs.ScopeUnits.{get_below}
 use Rattle.shim_laws_stops.proofs.LocationSteps.{Has, covered_has, gone_on_has, quiet_has, put_has, thrown_has, receive_has, fork_trapped_has}
@@ -169,10 +169,6 @@ all_given l xs (b ∷ bs) given has right suit e =
 
 lending_covers : (l : LocalState) (b : UBranch) → Covers l.locations (lending l b).locations
 lending_covers l b = covers_onward l.locations (lending l b).locations (lent_onward l.frame.slots (unit_at l.program b.call.unit).params b.call.args l.locations)
-
-all_lending_covers : (l : LocalState) (bs : List UBranch) → Covers l.locations (all_lending l bs).locations
-all_lending_covers l [] = covers_same l.locations
-all_lending_covers l (b ∷ bs) = covers_both l.locations (lending l b).locations (all_lending (lending l b) bs).locations (lending_covers l b) (all_lending_covers (lending l b) bs)
 
 lending_has : (l : LocalState) (b : UBranch) → HasLocations l → HasLocations (lending l b)
 lending_has l b h = let w = covered_has l (lending l b).locations (lending_covers l b) h in record { own = w.own; units = w.units; frames = w.frames }

@@ -165,9 +165,6 @@ itself_named x = or_false (nat_eq x x) (same x)
     same : (x : ℕ) → (nat_eq x x || false) ≡ true
     same x = first_of x []
 
-pub itself_written : (x : ℕ) → Names (used Written x ∷ []) x
-itself_written x = first_of x []
-
 pub bare_named : {ls : List LocalDeclaration} {a : Expr} {r : UExpr} → BindsExpr ls a r → (x : ℕ) → bare r ≡ Some x → Names (names_in r) x
 bare_named (is.number {n = n}) x e = absurd (none_is (u.Number n) x (bare_number n) e)
 bare_named (is.variable {slot = slot} i) x e = subst (λ us. Names us x) (sym (names_variable slot)) (subst (λ y. Names (used Named slot ∷ []) y) (some_is (u.Var slot) slot x (bare_variable slot) e) (itself_named slot))

@@ -7,7 +7,6 @@ use Rattle.shim_base.specs.declared.TokenKind.{TokenKind}
 use Rattle.shim_base.specs.declared.LexKind.{LexKind}
 use Rattle.shim_base.specs.Tokens.{Token, Place, place_after, Fault, Cuts, ended, passed, token, faulty, Skips, IsFault, Spells, IsWithinLimits}
 use Rattle.shim_base.proofs.FirstToken.{token_has_no_feed}
-use Rattle.shim_base.proofs.Front.{pass_takes}
 use Rattle.shim_base.proofs.Cutting.{first_takes, token_at}
 use Rattle.shim_lexer.specs.Scanned.{IsPassed, IsFittingToken}
 use Rattle.shim_lexer.specs.Lexing.{IsNext, token_of}
@@ -52,14 +51,6 @@ passed_more text rest over from at line len feeds h rest_is p over_is feeds_are 
           (subst R place (subst Q (sym (drop-drop len at text)) c))
           );
     }
-
--- what is passed over takes a byte at least
-pub passed_some : (rest : List ℕ) (len : ℕ) → IsPassed rest len → 1 ≤ len
-passed_some rest len p =
-    let takes = pass_takes rest (take len rest) (drop len rest) p.passes in
-    let size = length-take-le len rest p.within in
-    let some = takes.0 in
-    omega (arith, some, size)
 
 -- where nothing is left, there is no token
 pub passed_all : (text rest : List ℕ) (from : Place) (at line : ℕ) → IsPassedTo text from at line → rest ≡ drop at text → rest ≡ [] → Cuts from (drop from.at text) [] None

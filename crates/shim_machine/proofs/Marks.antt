@@ -484,11 +484,5 @@ mark_tells u e pc m h =
     let found : Found (IsTold u.body) u pc m = found_at (IsTold u.body) (told_followed u.body) u e (told_first u.body) pc (Mark m) h in
     subst (λ k. Here u pc k m.halfway) (sym found.told) found.here
 
--- what holds where a unit begins, and stays, holds at each mark
-pub mark_keeps : (u : CodedUnit) → u.code ≡ machine_unit u.units u.body → (Q : List Item → Type 0) → Q (items_all u.body 0) → ((c : Successor) (k : List Item) → Q k → Q (followed c k)) → (pc : ℕ) (m : MarkOf) → fetch u pc ≡ Some (Mark m) → Q (left_all u.body m.number)
-mark_keeps u e Q first stays pc m h =
-    let found : Found (λ k. IsTold u.body k × Q k) u pc m = found_at (λ k. IsTold u.body k × Q k) (λ c k both. (told_followed u.body c k both.0, stays c k both.1)) u e (told_first u.body, first) pc (Mark m) h in
-    subst Q (sym found.told.0) found.told.1
-
 pub end_tells : (u : CodedUnit) → u.code ≡ machine_unit u.units u.body → (pc n : ℕ) → fetch u pc ≡ Some (End n) → n ≡ size_all u.body
 end_tells u e pc n h = found_at (IsTold u.body) (told_followed u.body) u e (told_first u.body) pc (End n) h

@@ -1,5 +1,5 @@
 -- The exits of the functions that read the arguments of a call.
-use Rattle.std.proofs.Common.{◌≡◌, ◌≤◌, ℕ, suc, List, [], ◌∷◌, ◌++◌, length, true, false, None, refl, sym, ◌∙◌, ap, subst, arith, append_assoc}
+use Rattle.std.proofs.Common.{◌≡◌, ℕ, suc, List, [], ◌∷◌, ◌++◌, true, false, None, refl, sym, ◌∙◌, ap, subst, append_assoc}
 use Rattle.std.specs.Prelude.{Result, IsSome}
 use Rattle.shim_base.specs.declared.token.Sign.TheVariants as g
 use Rattle.shim_base.specs.Tokens.{Place}
@@ -8,19 +8,19 @@ use Rattle.shim_syntax.specs.declared.Expr.{Expr}
 use Rattle.shim_syntax.specs.Terminals.{Terminal, Name, Number, Sign, first}
 use Rattle.shim_syntax.specs.Limits.{Count, limits, is_within}
 use Rattle.shim_syntax.specs.Grammar as is
-use Rattle.shim_syntax.specs.Grammar.{TextCounts, new_expression, IsWhole, IsArguments, IsMoreArguments}
+use Rattle.shim_syntax.specs.Grammar.{TextCounts, IsWhole, IsArguments, IsMoreArguments}
 use Rattle.shim_grammar.specs.declared.punctuation.Punctuation.TheVariants as punctuation
-use Rattle.shim_grammar.specs.Machine.{SymbolStack, Unwanted, Past, Fixed, Expression, Operators, Argument, Arguments, MoreArguments, is_operator, operand, more_arguments, run_parser}
+use Rattle.shim_grammar.specs.Machine.{SymbolStack, Unwanted, Fixed, Expression, Operators, Argument, Arguments, MoreArguments, is_operator, operand, more_arguments, run_parser}
 use Rattle.shim_grammar.proofs.Runs.{is_right_paren, argument_runs, arguments_open, arguments_skips, arguments_runs}
 use Rattle.shim_parser.specs.declared.terminal.Terminal as read
 use Rattle.shim_parser.specs.declared.terminal.Terminal.TheVariants as here
 use Rattle.shim_parser.specs.TerminalView.{terminal_view}
 use Rattle.shim_parser.specs.declared.fault.ParseFault.{ParseFault}
 use Rattle.shim_parser.specs.Parts.{begins_operand}
-use Rattle.shim_parser.specs.Calls.{IsArgument, IsCall}
+use Rattle.shim_parser.specs.Calls.{IsArgument}
 use Rattle.shim_parser.specs.Reading.{ReaderView, Blames, Fails, Reads}
-use Rattle.shim_parser.proofs.Exits.{Leads, Took, took, fails_as, reads_as, refused, unwanted}
-use Rattle.shim_parser.proofs.ExprExits.{whole_leads, expr_shorter}
+use Rattle.shim_parser.proofs.Exits.{Leads, Took, took, fails_as, reads_as, unwanted}
+use Rattle.shim_parser.proofs.ExprExits.{whole_leads}
 
 pub no_operand : (t : Terminal) (l : ℕ) (k : SymbolStack) (w : TextCounts) → begins_operand t ≡ false → operand t l k w ≡ None
 no_operand (Number n p) l k w h = absurd (cc)
@@ -39,17 +39,6 @@ some_operand (Sign g.Minus p) l k w h = refl
 some_operand (Sign g.Bang p) l k w h = refl
 some_operand (Sign g.Tilde p) l k w h = refl
 some_operand _ l k w h = absurd (cc)
-
--- an argument that doesn't begin, and one too many
-pub argument_unwanted : (n l : ℕ) (a : ReaderView) (err : ParseFault) → begins_operand (first a.rest) ≡ false → Blames err Unwanted (first a.rest) → Fails (Argument l n ∷ []) a a err
-argument_unwanted n l a err h b = unwanted (Argument l n) [] a err (λ k. rw (no_operand (first a.rest) l (Operators l ∷ MoreArguments l n ∷ k) (new_expression a.counts) h) refl) b
-
-pub argument_refused : (n l : ℕ) (a : ReaderView) (err : ParseFault) → begins_operand (first a.rest) ≡ true → is_within (Count many.Arguments) n ≡ false
-    → Blames err (Past (Count many.Arguments)) (first a.rest)
-    → Fails (Argument l n ∷ []) a a err
-argument_refused n l a err h f b = refused (Argument l n) [] a err (Count many.Arguments) n (λ k. operand (first a.rest) l (Operators l ∷ MoreArguments l n ∷ k) (new_expression a.counts))
-    begins_operand h refl
-    (λ k. refl) (λ k. some_operand (first a.rest) l (Operators l ∷ MoreArguments l n ∷ k) (new_expression a.counts) h) f b
 
 pub argument_reads : (n l : ℕ) (a b : ReaderView) (r : Result Expr ParseFault) → is_within (Count many.Arguments) n ≡ true → Reads (IsWhole limits l) (Expression l ∷ Operators l ∷ []) r a b
     → Reads (IsArgument n l) (Argument l n ∷ []) r a b
@@ -137,14 +126,3 @@ more_unwanted l n a b xs err t p c v h i m = fails_as (Arguments l ∷ []) (More
 pub call_punctuation_fails : (l : ℕ) (a b at : ReaderView) (xs : List Expr) (err : ParseFault) → IsArguments limits l a.counts b.counts a.rest b.rest xs → Fails (Fixed punctuation.Semicolon ∷ []) b at err
     → Fails (Arguments l ∷ Fixed punctuation.Semicolon ∷ []) a at err
 call_punctuation_fails l a b at xs err d f = fails_as (Arguments l ∷ Fixed punctuation.Semicolon ∷ []) (Fixed punctuation.Semicolon ∷ []) a b at err (λ k. arguments_runs d (Fixed punctuation.Semicolon ∷ k)) f
-
-more_arguments_shorter : {l n : ℕ} {v w : TextCounts} {s r : List Terminal} {xs : List Expr} → IsMoreArguments limits l n v w s r xs → suc (length r) ≤ length s
-more_arguments_shorter is.arguments_end = omega arith
-more_arguments_shorter (is.argument h d t) = omega (arith, expr_shorter d, more_arguments_shorter t)
-
-pub arguments_shorter : {l : ℕ} {v w : TextCounts} {s r : List Terminal} {xs : List Expr} → IsArguments limits l v w s r xs → suc (length r) ≤ length s
-arguments_shorter is.no_arguments = omega arith
-arguments_shorter (is.arguments h d t) = omega (arith, expr_shorter d, more_arguments_shorter t)
-
-pub call_shorter : {l : ℕ} {v w : TextCounts} {s r : List Terminal} {xs : List Expr} → IsCall l v w s r xs → length r ≤ length s
-call_shorter h = omega (arith, arguments_shorter h.1)

@@ -136,7 +136,3 @@ module _ (l : ℕ) (ty : Ty) (line : ℕ) (a b d : ReaderView) (xs ys : List Stm
 pub declared_shorter : {l : ℕ} {v w : TextCounts} {s r : List Terminal} {x : List ℕ} {value : Option Expr} → IsDeclared limits l v w s r x value → suc (length r) ≤ length s
 declared_shorter (is.without_value h) = omega arith
 declared_shorter (is.with_value h d) = omega (arith, expr_shorter d)
-
-pub declarations_shorter : {l line : ℕ} {ty : Ty} {v w : TextCounts} {s r : List Terminal} {xs : List Stmt} → IsDeclarations limits l ty line v w s r xs → suc (length r) ≤ length s
-declarations_shorter (is.last_declared d) = omega (arith, declared_shorter d)
-declarations_shorter (is.declared d t) = omega (arith, declared_shorter d, declarations_shorter t)

@@ -10,16 +10,15 @@ use Rattle.shim_syntax.specs.Limits.{Count, limits, is_within}
 use Rattle.shim_syntax.specs.Grammar as is
 use Rattle.shim_syntax.specs.Grammar.{TextCounts, with_local, IsWhole, IsThrowRest, IsCatchRest}
 use Rattle.shim_grammar.specs.declared.punctuation.Punctuation.TheVariants as punctuation
-use Rattle.shim_grammar.specs.Machine.{SymbolStack, Unwanted, Past, Fixed, Expression, Operators, ThrowRest, CatchRest, ask, catch_rest, go, throw_rest, run_parser, wants}
+use Rattle.shim_grammar.specs.Machine.{SymbolStack, Past, Fixed, Expression, Operators, ThrowRest, CatchRest, ask, catch_rest, go, run_parser, wants}
 use Rattle.shim_grammar.proofs.Runs.{run_on, asked, whole_runs}
 use Rattle.shim_parser.specs.declared.terminal.Terminal as read
 use Rattle.shim_parser.specs.declared.terminal.Terminal.TheVariants as here
-use Rattle.shim_parser.specs.TerminalView.{terminal_view}
 use Rattle.shim_parser.specs.declared.fault.ParseFault.{ParseFault}
 use Rattle.shim_parser.specs.Parts.{IsPunctuation, IsWholeBefore}
 use Rattle.shim_parser.specs.Statements.{IsSignAt}
 use Rattle.shim_parser.specs.Reading.{ReaderView, Blames, Fails, reader_with}
-use Rattle.shim_parser.proofs.Exits.{Leads, Took, took, fails_as, fails_under, refused, unwanted}
+use Rattle.shim_parser.proofs.Exits.{Leads, Took, took, fails_as, fails_under, refused}
 use Rattle.shim_parser.proofs.ExprExits.{Counted, counted_took}
 use Rattle.shim_parser.proofs.Sequences.{then, punctuation_leads}
 
@@ -28,26 +27,10 @@ pub no_number_reads : (l : ℕ) (a b : ReaderView) (p : Place) → Sign g.Semico
     → IsThrowRest limits l a.counts b.counts a.rest b.rest None
 no_number_reads l a b p h q = let w = took {t = Sign g.Semicolon p} {a = a} {b = b} h q in rw (w.rest, w.counts) is.no_number
 
-no_throw_rest : (t : read.Terminal) (p : Place) (l : ℕ) (k : SymbolStack) (w : TextCounts) → (t ≡ here.Sign g.Semicolon → ⊥) → (t ≡ here.Sign g.LeftParen → ⊥) → throw_rest (terminal_view t p) l k w ≡ None
-no_throw_rest (here.Sign g.Semicolon) p l k w h i = absurd (h refl)
-no_throw_rest (here.Sign g.LeftParen) p l k w h i = absurd (i refl)
-no_throw_rest _ p l k w h i = refl
-
-pub throw_rest_unwanted : (l : ℕ) (a : ReaderView) (err : ParseFault) (t : read.Terminal) (p : Place) → terminal_view t p ≡ first a.rest → (t ≡ here.Sign g.Semicolon → ⊥) → (t ≡ here.Sign g.LeftParen → ⊥)
-    → Blames err Unwanted (first a.rest) → Fails (ThrowRest l ∷ []) a a err
-throw_rest_unwanted l a err t p v h i m = unwanted (ThrowRest l) [] a err (λ k. ap (λ u. throw_rest u l k a.counts) (sym v) ∙ no_throw_rest t p l k a.counts h i) m
-
-version_1_number : (p : Place) (l : ℕ) (k : SymbolStack) (w : TextCounts) → w.two ≡ false → throw_rest (Sign g.LeftParen p) l k w ≡ None
-version_1_number p l k w h = rw h refl
-
 version_2_number : (p : Place) (s : List Terminal) (l : ℕ) (k : SymbolStack) (w : TextCounts) → w.two ≡ true
     → run_parser limits (Sign g.LeftParen p ∷ s) (ThrowRest l ∷ k) w ≡ run_parser limits s (Expression l ∷ Operators l ∷ Fixed punctuation.RightParen ∷ Fixed punctuation.Semicolon ∷ k) w
 version_2_number p s l k w h =
     ap (λ b. run_on limits (Sign g.LeftParen p) s (if b then go (Expression l ∷ Operators l ∷ Fixed punctuation.RightParen ∷ Fixed punctuation.Semicolon ∷ k) w else None)) h
-
--- a number in a text of version 1
-pub number_unwanted : (l : ℕ) (a : ReaderView) (err : ParseFault) → IsSignAt g.LeftParen (first a.rest) → a.counts.two ≡ false → Blames err Unwanted (first a.rest) → Fails (ThrowRest l ∷ []) a a err
-number_unwanted l a err h two m = unwanted (ThrowRest l) [] a err (λ k. ap (λ u. throw_rest u l k a.counts) h.1 ∙ version_1_number h.0 l k a.counts two) m
 
 -- in one of version 2: at b behind the parenthesis
 module _ (l : ℕ) (a b : ReaderView) (h : IsSignAt g.LeftParen (first a.rest)) (two : a.counts.two ≡ true) (q : a ≡ record { rest = first a.rest ∷ b.rest; counts = b.counts }) where
@@ -57,9 +40,6 @@ module _ (l : ℕ) (a b : ReaderView) (h : IsSignAt g.LeftParen (first a.rest)) 
   number_leads : Leads (ThrowRest l ∷ []) (Expression l ∷ Operators l ∷ Fixed punctuation.RightParen ∷ Fixed punctuation.Semicolon ∷ []) a b
   number_leads = λ k. ap (λ u. run_parser limits u (ThrowRest l ∷ k) a.counts) paren_took.rest ∙ version_2_number h.0 b.rest l k a.counts two
       ∙ ap (λ u. run_parser limits b.rest (Expression l ∷ Operators l ∷ Fixed punctuation.RightParen ∷ Fixed punctuation.Semicolon ∷ k) u) paren_took.counts
-
-  pub number_fails : (at : ReaderView) (err : ParseFault) → Fails (Expression l ∷ Operators l ∷ Fixed punctuation.RightParen ∷ []) b at err → Fails (ThrowRest l ∷ []) a at err
-  number_fails at err f = fails_under (ThrowRest l ∷ []) (Expression l ∷ Operators l ∷ Fixed punctuation.RightParen ∷ []) (Fixed punctuation.Semicolon ∷ []) a b at err number_leads f
 
   -- at d behind the number
   module _ (d : ReaderView) (x : Expr) (v : IsWholeBefore punctuation.RightParen l b.counts d.counts b.rest d.rest x) where
@@ -81,15 +61,8 @@ module _ (a b : ReaderView) (p : Place) (h : Sign g.RightParen p ≡ first a.res
   end_took : Took (Sign g.RightParen p) a b
   end_took = took h q
 
-  pub no_variable_fails : (at : ReaderView) (err : ParseFault) → Fails (Fixed punctuation.LeftBrace ∷ []) b at err → Fails (CatchRest ∷ []) a at err
-  no_variable_fails at err f = fails_as (CatchRest ∷ []) (Fixed punctuation.LeftBrace ∷ []) a b at err
-      (λ k. ap (λ u. run_parser limits u (CatchRest ∷ k) a.counts) end_took.rest ∙ ap (λ u. run_parser limits b.rest (Fixed punctuation.LeftBrace ∷ k) u) end_took.counts) f
-
   pub no_variable_reads : (d : ReaderView) → IsPunctuation punctuation.LeftBrace b.counts d.counts b.rest d.rest tt → IsCatchRest limits a.counts d.counts a.rest d.rest None
   no_variable_reads d m = rw (end_took.rest, end_took.counts, m.1, m.2) is.no_variable
-
-version_1_variable : (x : List ℕ) (p : Place) (k : SymbolStack) (w : TextCounts) → w.two ≡ false → catch_rest (Name x p) k w ≡ None
-version_1_variable x p k w h = rw h refl
 
 version_2_variable : (x : List ℕ) (p : Place) (k : SymbolStack) (w : TextCounts) → w.two ≡ true
     → catch_rest (Name x p) k w ≡ ask (Count many.Locals) (suc w.locals) (go (Fixed punctuation.RightParen ∷ Fixed punctuation.LeftBrace ∷ k) (with_local w))
@@ -101,10 +74,6 @@ is_name (Name x p) = true
 is_name _ = false
 
 module _ (a : ReaderView) (x : List ℕ) (p : Place) (h : Name x p ≡ first a.rest) where
-  -- a variable in a text of version 1
-  pub variable_unwanted : (err : ParseFault) → a.counts.two ≡ false → Blames err Unwanted (first a.rest) → Fails (CatchRest ∷ []) a a err
-  variable_unwanted err two m = unwanted CatchRest [] a err (λ k. ap (λ u. catch_rest u k a.counts) (sym h) ∙ version_1_variable x p k a.counts two) m
-
   -- in one of version 2
   module _ (two : a.counts.two ≡ true) where
     variable_refused_here : (err : ParseFault) → is_within (Count many.Locals) (suc a.counts.locals) ≡ false → Blames err (Past (Count many.Locals)) (first a.rest) → Fails (CatchRest ∷ []) a a err

@@ -15,15 +15,15 @@ use Rattle.shim_syntax.specs.Grammar as is
 use Rattle.shim_syntax.specs.Grammar.{TextCounts, new_expression, with_operator, at_level, operator_row, row_of_sign, operator_of_sign, IsExpr, IsChain, IsWhole}
 use Rattle.shim_grammar.specs.declared.punctuation.Punctuation.{Punctuation}
 use Rattle.shim_grammar.specs.declared.punctuation.Punctuation.TheVariants as punctuation
-use Rattle.shim_grammar.specs.Machine.{SymbolStack, Past, Fixed, Operand, Inside, Expression, Operators, go, ask, is_operator, wants, run_parser}
+use Rattle.shim_grammar.specs.Machine.{SymbolStack, Fixed, Operand, Inside, Expression, Operators, go, is_operator, run_parser}
 use Rattle.shim_grammar.proofs.Runs.{asked, inside_runs, expression_runs, operator_runs, operators_skip, expr_runs, whole_runs, joins_of_row}
 use Rattle.shim_parser.specs.declared.terminal.Terminal as read
 use Rattle.shim_parser.specs.declared.terminal.Terminal.TheVariants as here
 use Rattle.shim_parser.specs.TerminalView.{terminal_view}
 use Rattle.shim_parser.specs.declared.fault.ParseFault.{ParseFault}
 use Rattle.shim_parser.specs.Parts.{unary_sign, IsPunctuation, IsEntered, IsUnarySign, Stops}
-use Rattle.shim_parser.specs.Reading.{ReaderView, Blames, Fails, Reads, reader_with}
-use Rattle.shim_parser.proofs.Exits.{Leads, Took, took, fails_as, fails_under, reads_as, refused}
+use Rattle.shim_parser.specs.Reading.{ReaderView, Fails, Reads, reader_with}
+use Rattle.shim_parser.proofs.Exits.{Leads, Took, took, fails_as, fails_under, reads_as}
 
 -- a terminal that was counted and then taken
 pub record Counted (f : TextCounts → TextCounts) (t : Terminal) (a d : ReaderView) : Type 0 where
@@ -171,18 +171,6 @@ chain_ends k l a b x c h = (c.reads b.counts b.rest x is.stop, λ j e n. omega (
 
 -- an operator of the row at b
 module _ (k l : ℕ) (a b : ReaderView) (x : Expr) (c : ChainSoFar k l a b x) (o : SignOf) (p : Place) (h : Sign o p ≡ first b.rest) (s : row_of_sign o ≡ k) where
-  operator_joins : is_operator (first b.rest) ≡ true
-  operator_joins = ap is_operator (sym h) ∙ joins_of_row o c.row (s ∙ c.is_row)
-
-  operators_want : (j : SymbolStack) → wants (Operators l ∷ j) (first b.rest) b.counts ≡ ask (Count many.Operators) (suc b.counts.operators) (go (Operand l ∷ Operators l ∷ j) (with_operator b.counts))
-  operators_want j = rw operator_joins refl
-
-  pub operator_refused : (at : ReaderView) (err : ParseFault) → at ≡ b → is_within (Count many.Operators) (suc b.counts.operators) ≡ false → Blames err (Past (Count many.Operators)) (first b.rest)
-      → Fails (Operand l ∷ Operators l ∷ []) a at err
-  operator_refused at err n f m = subst (λ u. Fails (Operand l ∷ Operators l ∷ []) a u err) (sym n)
-      (fails_as (Operand l ∷ Operators l ∷ []) (Operators l ∷ []) a b b err c.runs
-      (refused (Operators l) [] b err (Count many.Operators) (suc b.counts.operators) (λ j. go (Operand l ∷ Operators l ∷ j) (with_operator b.counts)) is_operator operator_joins refl operators_want (λ j. refl) f m))
-
   module _ (b' d : ReaderView) (f : is_within (Count many.Operators) (suc b.counts.operators) ≡ true) (m : b' ≡ reader_with with_operator b)
       (q : b' ≡ record { rest = first b'.rest ∷ d.rest; counts = d.counts }) where
     operator_took : Counted with_operator (Sign o p) b d

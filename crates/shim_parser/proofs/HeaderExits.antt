@@ -1,5 +1,5 @@
 -- The exits of the functions that read the parentheses of a `for`.
-use Rattle.std.proofs.Common.{◌≡◌, ◌≤◌, ℕ, suc, List, [], ◌∷◌, length, true, false, Option, Some, None, refl, sym, ◌∙◌, ap, subst, arith}
+use Rattle.std.proofs.Common.{◌≡◌, ℕ, suc, List, [], ◌∷◌, true, false, Option, Some, None, refl, sym, ◌∙◌, ap, subst}
 use Rattle.shim_base.specs.declared.token.Sign.TheVariants as g
 use Rattle.shim_base.specs.declared.types.Ty.{Ty}
 use Rattle.shim_base.specs.Tokens.{Place}
@@ -10,7 +10,7 @@ use Rattle.shim_syntax.specs.declared.tree.What.TheVariants as st
 use Rattle.shim_syntax.specs.Terminals.{Terminal, Name, Sort, Sign, first}
 use Rattle.shim_syntax.specs.Limits.{Nesting, limits, is_within}
 use Rattle.shim_syntax.specs.Grammar as is
-use Rattle.shim_syntax.specs.Grammar.{TextCounts, at_level, IsWhole, IsDeclared, IsFirst, IsTest, IsStep}
+use Rattle.shim_syntax.specs.Grammar.{at_level, IsWhole, IsDeclared, IsFirst, IsTest, IsStep}
 use Rattle.shim_grammar.specs.declared.punctuation.Punctuation.TheVariants as punctuation
 use Rattle.shim_grammar.specs.Machine.{Fixed, Expression, Operators, Declaration, AfterDeclaration, First, Test, Step, go, run_parser}
 use Rattle.shim_grammar.proofs.Runs.{asked, is_semicolon, test_skips, test_runs}
@@ -18,16 +18,15 @@ use Rattle.shim_grammar.proofs.RunsStmt.{first_runs}
 use Rattle.shim_parser.specs.declared.terminal.Terminal as read
 use Rattle.shim_parser.specs.declared.terminal.Terminal.TheVariants as here
 use Rattle.shim_parser.specs.declared.name_value.Declared.{Declared}
-use Rattle.shim_parser.specs.declared.for_parts.ForParts.{ForParts}
 use Rattle.shim_parser.specs.TerminalView.{terminal_view}
 use Rattle.shim_parser.specs.declared.fault.ParseFault.{ParseFault}
 use Rattle.shim_parser.specs.Parts.{IsPunctuation, IsWholeBefore}
 use Rattle.shim_parser.specs.Declares.{IsDeclaredHere}
-use Rattle.shim_parser.specs.Headers.{IsValueBehind, IsHeader}
+use Rattle.shim_parser.specs.Headers.{IsValueBehind}
 use Rattle.shim_parser.specs.Reading.{ReaderView, Fails, reader_with}
 use Rattle.shim_parser.proofs.Exits.{Leads, took, fails_as, fails_under}
-use Rattle.shim_parser.proofs.ExprExits.{Counted, counted_took, expr_shorter}
-use Rattle.shim_parser.proofs.DeclareExits.{declared_leads, alone, declared_shorter}
+use Rattle.shim_parser.proofs.ExprExits.{Counted, counted_took}
+use Rattle.shim_parser.proofs.DeclareExits.{declared_leads, alone}
 
 -- the test
 pub no_test_reads : (l : ℕ) (a b : ReaderView) (p : Place) → Sign g.Semicolon p ≡ first a.rest → a ≡ record { rest = first a.rest ∷ b.rest; counts = b.counts }
@@ -114,19 +113,3 @@ module _ (l j : ℕ) (e : j ≡ suc l) (a b : ReaderView) (m : IsPunctuation pun
     pub header_step_fails : (i at : ReaderView) (x : Option Expr) (err : ParseFault) → IsTest limits l d.counts i.counts d.rest i.rest x → Fails (Step j ∷ []) i at err
         → Fails (Fixed punctuation.LeftParen ∷ First (suc l) ∷ Test l ∷ Step (suc l) ∷ []) a at err
     header_step_fails i at x err t f = fails_as (Fixed punctuation.LeftParen ∷ First (suc l) ∷ Test l ∷ Step (suc l) ∷ []) (Step j ∷ []) a i at err (λ k. first_leads k ∙ test_runs t (Step j ∷ k)) f
-
-pub first_shorter : {l : ℕ} {v w : TextCounts} {s r : List Terminal} {xs : List Stmt} → IsFirst limits l v w s r xs → suc (length r) ≤ length s
-first_shorter is.no_first = omega arith
-first_shorter (is.first_declare h d) = omega (arith, declared_shorter d)
-first_shorter (is.first_assign h d) = omega (arith, expr_shorter d)
-
-pub test_shorter : {l : ℕ} {v w : TextCounts} {s r : List Terminal} {x : Option Expr} → IsTest limits l v w s r x → suc (length r) ≤ length s
-test_shorter is.no_test = omega arith
-test_shorter (is.test d) = omega (arith, expr_shorter d)
-
-pub step_shorter : {l : ℕ} {v w : TextCounts} {s r : List Terminal} {xs : List Stmt} → IsStep limits l v w s r xs → suc (length r) ≤ length s
-step_shorter is.no_step = omega arith
-step_shorter (is.step h d) = omega (arith, expr_shorter d)
-
-pub header_shorter : {l : ℕ} {v w : TextCounts} {s r : List Terminal} {parts : ForParts} → IsHeader l v w s r parts → length r ≤ length s
-header_shorter h = omega (arith, ap length h.6, first_shorter h.7, test_shorter h.8, step_shorter h.9)

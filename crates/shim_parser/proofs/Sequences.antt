@@ -3,18 +3,18 @@ use Rattle.std.proofs.Common.{◌≡◌, ℕ, suc, List, ◌∷◌, ◌++◌, re
 use Rattle.shim_base.specs.Tokens.{Place}
 use Rattle.shim_syntax.specs.declared.Expr.{Expr}
 use Rattle.shim_syntax.specs.declared.Stmt.{Stmt}
-use Rattle.shim_syntax.specs.Terminals.{Terminal, Name, first}
+use Rattle.shim_syntax.specs.Terminals.{Terminal, first}
 use Rattle.shim_syntax.specs.Limits.{limits}
 use Rattle.shim_syntax.specs.Grammar.{TextCounts, IsBlock, IsBody}
 use Rattle.shim_grammar.specs.declared.punctuation.Punctuation.{Punctuation}
 use Rattle.shim_grammar.specs.declared.punctuation.Punctuation.TheVariants as punctuation
-use Rattle.shim_grammar.specs.Machine.{SymbolStack, At, Fixed, Word, Expression, Operators, Arguments, Block, Body, First, Test, Step, run_parser}
+use Rattle.shim_grammar.specs.Machine.{SymbolStack, At, Fixed, Expression, Operators, Arguments, Block, Body, First, Test, Step, run_parser}
 use Rattle.shim_grammar.proofs.Runs.{whole_runs, arguments_runs, test_runs}
 use Rattle.shim_grammar.proofs.RunsStmt.{block_runs, body_runs, first_runs, step_runs}
 use Rattle.shim_parser.specs.declared.fault.ParseFault.{ParseFault}
 use Rattle.shim_parser.specs.declared.fault.ParseFault.TheVariants.{Lex, Unexpected, TooDeep, TooMany, NoMemory}
 use Rattle.shim_parser.specs.declared.for_parts.ForParts.{ForParts}
-use Rattle.shim_parser.specs.Parts.{punctuationed, IsPunctuation, IsNameBefore, IsTestOf}
+use Rattle.shim_parser.specs.Parts.{punctuationed, IsPunctuation, IsTestOf}
 use Rattle.shim_parser.specs.Calls.{IsCall}
 use Rattle.shim_parser.specs.Headers.{IsHeader}
 use Rattle.shim_parser.specs.Reading.{ReaderView, Blames, Halts, Fails}
@@ -38,9 +38,6 @@ punctuation_run punctuation.Catch p s k w = refl
 
 pub punctuation_leads : (f : Punctuation) (z : SymbolStack) (a b : ReaderView) → IsPunctuation f a.counts b.counts a.rest b.rest tt → Leads (Fixed f ∷ z) z a b
 punctuation_leads f z a b h = λ k. same_run a.rest (punctuationed f h.0 ∷ b.rest) (Fixed f ∷ (z ++ k)) a.counts b.counts h.1 h.2 ∙ punctuation_run f h.0 b.rest (z ++ k) b.counts
-
-pub name_before_leads : (f : Punctuation) (z : SymbolStack) (a b : ReaderView) (x : List ℕ) → IsNameBefore f a.counts b.counts a.rest b.rest x → Leads (Word ∷ Fixed f ∷ z) z a b
-name_before_leads f z a b x h = λ k. same_run a.rest (Name x h.0 ∷ punctuationed f h.1 ∷ b.rest) (Word ∷ Fixed f ∷ (z ++ k)) a.counts b.counts h.2 h.3 ∙ punctuation_run f h.1 b.rest (z ++ k) b.counts
 
 pub block_leads : (l : ℕ) (z : SymbolStack) (a b : ReaderView) (xs : List Stmt) → IsBlock limits l a.counts b.counts a.rest b.rest xs → Leads (Block l ∷ z) z a b
 block_leads l z a b xs d = λ k. block_runs d (z ++ k)

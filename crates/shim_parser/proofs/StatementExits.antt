@@ -1,5 +1,5 @@
 -- The exits of the function that reads a statement, one for each terminal with which it may begin.
-use Rattle.std.proofs.Common.{◌≡◌, ℕ, suc, List, [], ◌∷◌, ◌++◌, true, refl, sym, ◌∙◌, ap, subst}
+use Rattle.std.proofs.Common.{◌≡◌, ℕ, List, [], ◌∷◌, ◌++◌, true, refl, sym, ◌∙◌, ap, subst}
 use Rattle.std.specs.Prelude.{Result, Ok, Err}
 use Rattle.shim_base.specs.declared.token.Keyword.{Keyword}
 use Rattle.shim_base.specs.declared.token.Sign.TheVariants as g
@@ -11,13 +11,13 @@ use Rattle.shim_syntax.specs.declared.tree.Sort.TheVariants.{Value}
 use Rattle.shim_syntax.specs.Terminals.{Terminal, Name, Sort, Key, Sign, first}
 use Rattle.shim_syntax.specs.Limits.{Nesting, limits, is_within}
 use Rattle.shim_syntax.specs.Grammar as is
-use Rattle.shim_syntax.specs.Grammar.{TextCounts, at_level, IsPlain, IsStmt, IsDeclarations}
+use Rattle.shim_syntax.specs.Grammar.{TextCounts, at_level, IsPlain, IsDeclarations}
 use Rattle.shim_grammar.specs.Machine as machine
-use Rattle.shim_grammar.specs.Machine.{SymbolStack, Unwanted, Past, Declarations, AfterWord, Block, Pars, Statement, thing, ask, run_parser}
+use Rattle.shim_grammar.specs.Machine.{SymbolStack, Unwanted, Past, Declarations, AfterWord, Statement, thing, ask, run_parser}
 use Rattle.shim_grammar.proofs.Runs.{run_on}
 use Rattle.shim_grammar.proofs.RunsStmt.{run_begun, statement_runs}
 use Rattle.shim_parser.specs.declared.fault.ParseFault.{ParseFault}
-use Rattle.shim_parser.specs.Statements.{IsThing, IsKeyed, IsNamed, IsBraced, Becomes, stmt_on_line}
+use Rattle.shim_parser.specs.Statements.{IsThing, IsKeyed, IsNamed, Becomes, stmt_on_line}
 use Rattle.shim_parser.specs.Reading.{ReaderView, Fails, Reads, reader_with}
 use Rattle.shim_parser.proofs.Exits.{Leads, fails_as, reads_as}
 use Rattle.shim_parser.proofs.ExprExits.{Counted, counted_took}
@@ -41,9 +41,6 @@ module _ (l : ℕ) (t : Terminal) (a b d : ReaderView) (w : is_within Nesting l 
   pub begun_plain : (n : ReaderView) (xs : List Stmt) → IsPlain limits l d.counts n.counts (t ∷ d.rest) n.rest xs → IsThing l a.counts n.counts a.rest n.rest xs
   begun_plain n xs p = (w, is.plain (subst (λ u. IsPlain limits l u n.counts a.rest n.rest xs) begun.counts (subst (λ u. IsPlain limits l d.counts n.counts u n.rest xs) (sym begun.rest) p)))
 
-  pub begun_stmt : (n : ReaderView) (xs : List Stmt) → IsStmt limits l d.counts n.counts (t ∷ d.rest) n.rest xs → IsThing l a.counts n.counts a.rest n.rest xs
-  begun_stmt n xs p = (w, subst (λ u. IsStmt limits l u n.counts a.rest n.rest xs) begun.counts (subst (λ u. IsStmt limits l d.counts n.counts u n.rest xs) (sym begun.rest) p))
-
 module _ (l : ℕ) (p : Place) (a b d : ReaderView) (w : is_within Nesting l ≡ true) (v : b ≡ reader_with (at_level l) a) (q : b ≡ record { rest = first b.rest ∷ d.rest; counts = d.counts }) where
   pub keyed_arm : (key : Keyword) → first a.rest ≡ Key key p → (x : SymbolStack) → ((z : SymbolStack) (s : List Terminal) (u : TextCounts) → run_on limits (Key key p) s (machine.statement (Key key p) l z u) ≡ run_parser limits s (x ++ z) u)
       → (n : ReaderView) (r : Result What ParseFault) (out : Result (List Stmt) ParseFault) → Reads (IsKeyed key l) x r d n → Becomes p.line r out → Reads (IsThing l) (Statement l ∷ []) out a n
@@ -54,11 +51,6 @@ module _ (l : ℕ) (p : Place) (a b d : ReaderView) (w : is_within Nesting l ≡
       → Becomes p.line r out → Reads (IsThing l) (Statement l ∷ []) out a n
   named_arm x h n r out i c = becomes (IsNamed x p.line l) l p.line (AfterWord l ∷ []) a d n r out (begun_leads l (Name x p) a b d w v q h (AfterWord l ∷ []) (λ z s u. refl))
       (λ what k. begun_plain l (Name x p) a b d w v q h n (stmt_on_line p.line what) (k p.at)) i c
-
-  pub braced_arm : first a.rest ≡ Sign g.LeftBrace p → (n : ReaderView) (r : Result What ParseFault) (out : Result (List Stmt) ParseFault) → Reads (IsBraced p.line l) (Block (suc l) ∷ Pars l 1 ∷ []) r d n
-      → Becomes p.line r out → Reads (IsThing l) (Statement l ∷ []) out a n
-  braced_arm h n r out i c = becomes (IsBraced p.line l) l p.line (Block (suc l) ∷ Pars l 1 ∷ []) a d n r out (begun_leads l (Sign g.LeftBrace p) a b d w v q h (Block (suc l) ∷ Pars l 1 ∷ []) (λ z s u. refl))
-      (λ what k. begun_stmt l (Sign g.LeftBrace p) a b d w v q h n (stmt_on_line p.line what) (k p.at)) i c
 
   pub declaration_arm : (ty : Ty) → first a.rest ≡ Sort (Value ty) p → (n : ReaderView) (r : Result (List Stmt) ParseFault) → Reads (IsDeclarations limits l ty p.line) (Declarations l ∷ []) r d n
       → Reads (IsThing l) (Statement l ∷ []) r a n

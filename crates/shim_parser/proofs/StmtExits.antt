@@ -39,9 +39,6 @@ pub record BlockSoFar (l : ℕ) (a b : ReaderView) (all : List Stmt) : Type 0 wh
   pub reads : (w : TextCounts) (r : List Terminal) (xs : List Stmt) → IsBlock limits l b.counts w b.rest r xs → IsBlock limits l a.counts w a.rest r (all ++ xs)
   pub runs : Leads (Block l ∷ []) (Block l ∷ []) a b
 
-pub block_start : (l : ℕ) (a : ReaderView) (all : List Stmt) → all ≡ [] → BlockSoFar l a a all
-block_start l a all p = record { reads = λ w r xs d. rw p d; runs = λ k. refl }
-
 pub block_go : (l : ℕ) (a b n : ReaderView) (all xs ys : List Stmt) → BlockSoFar l a b all → IsThing l b.counts n.counts b.rest n.rest xs → ys ≡ all ++ xs → BlockSoFar l a n ys
 block_go l a b n all xs ys c d p = record {
   reads = λ w r zs e. rw (p, append_assoc) (c.reads w r (xs ++ zs) (is.stmt d.0 d.1 e));
@@ -139,9 +136,6 @@ module _ (n l : ℕ) (x : List ℕ) (p : Place) (a a' d : ReaderView) (h : Name 
   call_branch_leads : Leads (Branch l n ∷ []) (Fixed punctuation.LeftParen ∷ Arguments l ∷ Fixed punctuation.Semicolon ∷ []) a d
   call_branch_leads = λ k. same_run a.rest (Name x p ∷ d.rest) (Branch l n ∷ k) a.counts d.counts call_took.rest call_took.counts
       ∙ asked limits (Name x p) d.rest (Count many.Branches) n (go (Fixed punctuation.LeftParen ∷ Arguments l ∷ Fixed punctuation.Semicolon ∷ k) d.counts) o
-
-  pub branch_punctuation_fails : (at : ReaderView) (err : ParseFault) → Fails (Fixed punctuation.LeftParen ∷ []) d at err → Fails (Branch l n ∷ []) a at err
-  branch_punctuation_fails at err f = fails_under (Branch l n ∷ []) (Fixed punctuation.LeftParen ∷ []) (Arguments l ∷ Fixed punctuation.Semicolon ∷ []) a d at err call_branch_leads f
 
   pub branch_args_fails : (m at : ReaderView) (err : ParseFault) → IsPunctuation punctuation.LeftParen d.counts m.counts d.rest m.rest tt → Fails (Arguments l ∷ Fixed punctuation.Semicolon ∷ []) m at err → Fails (Branch l n ∷ []) a at err
   branch_args_fails m at err t f = fails_as (Branch l n ∷ []) (Arguments l ∷ Fixed punctuation.Semicolon ∷ []) a m at err

@@ -30,10 +30,6 @@ abbrev IsUntaken : LocalState → Option HandlerVariable → Type 0
 IsUntaken l None = Unit {0}
 IsUntaken l (Some y) = (y.channel.channel.home ≡ l.path) × (is_in_runs y.channel.channel.serial l.untaken ≡ true)
 
-untaken_below : (l : LocalState) (m : ℕ) (o : Option HandlerVariable) → VariableIsBelow l.path l.untaken m o → IsUntaken l o
-untaken_below l m None h = tt
-untaken_below l m (Some y) h = (h.0, h.2)
-
 from_taken : (l : LocalState) (y : HandlerVariable) (v : ℤ) (at n : ℕ) (x : Location) → IsUntaken l (Some y) → n ≡ at → caught_location y.channel v ≡ x
     → From l l.made (without_serial y.channel.channel.serial l.untaken) (λ s. at) n x
 from_taken l y v at n x h e same =

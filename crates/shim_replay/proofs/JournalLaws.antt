@@ -26,10 +26,6 @@ some x = Some x
 
 -- ---- sums
 
-pub steps-append : (a b : List Entry) → steps_in_all (a ++ b) ≡ steps_in_all a + steps_in_all b
-steps-append [] b = omega arith
-steps-append (e ∷ es) b = let h = steps-append es b in omega arith
-
 pub fits_few : (e : Entry) → FitsEntry e → steps_in e ≤ 4000000
 fits_few (Quiet p n) fits = fits.2
 fits_few (Did e) fits = omega arith

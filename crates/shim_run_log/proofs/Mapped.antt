@@ -42,9 +42,6 @@ module _ {K X : Type 0} {R : K → K → Ordering} (o : IsTotalOrder R) where
   entries_of [] h = no_entries R
   entries_of (e ∷ es) h = entries-insert o (from_entries es) e.0 e.1 ∙ ap (put R e.0 e.1) (entries_of es (sorted_tail R e.0 (keys_of es) h)) ∙ put_before e.0 e.1 es (sorted_head R e.0 (keys_of es) h)
 
-  found_after_insert : (m : FinMap R X) (k : K) (v : X) → get (insert m k v) k ≡ Some v
-  found_after_insert m k v = get-insert o m k v k ∙ ap (λ b. cond b (Some v) (get m k)) ((eq_by_cmp_equiv o).refl k)
-
   module _ (exact : IsAntisymmetric R) where
     -- entries that differ at one key make maps that differ there
     pub put_at : (es fs : List (K × X)) (k : K) (w : X) → ((q : K) → lookup (is_at (R q)) fs ≡ cond (is_at (R k) q) (Some w) (lookup (is_at (R q)) es)) → from_entries {R = R} fs ≡ insert (from_entries es) k w
@@ -67,10 +64,6 @@ module _ {K X : Type 0} {R : K → K → Ordering} (o : IsTotalOrder R) where
     taken_back m n k v had is = ap (λ z. remove z k) is ∙ same_map o exact _ _ (λ q.
         get-remove o (insert m k v) k q ∙ ap (cond (eq_by_cmp R q k) None) (get-insert o m k v q)
         ∙ shadowed (eq_by_cmp R q k) None (Some v) (get m q) (get m q) (λ t. sym had ∙ get_tied o m q k (tied (R q k) t)) (λ _. refl))
-
-  -- it isn't absent where it was put
-  pub not_absent : (m n : FinMap R X) (k : K) (v : X) → n ≡ insert m k v → get n k ≡ None → ⊥
-  not_absent m n k v is none = none-some v (sym none ∙ ap (λ z. get z k) is ∙ found_after_insert m k v)
 
 -- a count is at most the sum of the counts
 found_below : (b : Bool) (n c s : ℕ) (o : Option ℕ) → (o ≡ Some n → n ≤ s) → cond b (Some c) o ≡ Some n → n ≤ c + s

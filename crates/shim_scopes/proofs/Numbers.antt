@@ -8,7 +8,7 @@ use Rattle.std.proofs.lemmas.List.Sums.{prefix_len-le-length}
 use Rattle.std.proofs.lemmas.Option.{slice_get_past, slice_get-get_or}
 use borrow.Author.Tests.{ltb-true, ltb-false}
 use Rattle.shim_syntax.specs.declared.tree.Function.{Function}
-use Rattle.shim_syntax.specs.Names.{Texts, position_else, name_index}
+use Rattle.shim_syntax.specs.Names.{position_else}
 use Rattle.shim_scopes.specs.Calls.{function_of}
 
 place_by : (b : Bool) (at n : ℕ) → at ≤ n → position_else n (cond b (Some at) None) ≤ n
@@ -17,9 +17,6 @@ place_by false at n h = omega arith
 
 place_within : {X : Type 0} (p : X → Bool) (xs : List X) → position_else (length xs) (position p xs) ≤ length xs
 place_within p xs = place_by (nat_lt (position_or_len p xs) (length xs)) (position_or_len p xs) (length xs) (prefix_len-le-length _ xs)
-
-pub name_within : (names : Texts) (x : List ℕ) → name_index names x ≤ length names
-name_within names x = place_within (λ n. bytes_eq n x) names
 
 pub found_within : {X : Type 0} (p : X → Bool) (xs : List X) (i : ℕ) → position p xs ≡ Some i → i ≤ length xs
 found_within p xs i e = omega (arith, place_within p xs, ap (position_else (length xs)) e)

@@ -66,14 +66,6 @@ module _ {S : Type 0} (o : Ops S) where
     stays = λ p xs ys b. g.stays p xs ys (f.stays p xs ys b);
   }
 
-  pub stays_after : (k m n : Node S) → Stays o k m → Stays o m n → Stays o k n
-  stays_after k m n f g = record {
-    below = g.below;
-    follows = follows_after (state k) (state m) (state n) f.follows g.follows;
-    carried = λ c. no_less_than (carriers o c k) (carriers o c m) (carriers o c n) (g.carried c) (f.carried c);
-    held = no_less_than (holders o k) (holders o m) (holders o n) g.held f.held;
-  }
-
   pub stays_keeps : (m n : Node S) → Stays o m n → Keeps o m n
   stays_keeps m n h = record { below = h.below; follows = h.follows; carried = λ c. inl (h.carried c); held = h.held }
 

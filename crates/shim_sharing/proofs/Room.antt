@@ -112,9 +112,6 @@ room_in_function next f w is h =
       units = omega (arith, h.fits);
     })
 
-pub room_for_function : (next : ℕ) (f : RFunction) (fs : List RFunction) → FunctionsHaveRoom next (f ∷ fs) → FunctionHasRoom next f
-room_for_function next f fs h = record { fits = omega (arith, h.fits) }
-
 pub room_behind_function : (names : List (List ℕ)) (all : List RFunction) (number base : ℕ) (us vs : List UnitOf) (f : RFunction) (fs : List RFunction)
     → vs ≡ us ++ (lift_function names all number (base + length us) f).lifted → FunctionsHaveRoom (base + length us) (f ∷ fs) → FunctionsHaveRoom (base + length vs) fs
 room_behind_function names all number base us vs f fs is h =

@@ -56,10 +56,10 @@ module _ {T : Type 0} where
   abbrev pub IsSameLane : Lane T → Lane T → Type 0
   IsSameLane old new = (home_of new ≡ home_of old) × (lanes_of new ≡ lanes_of old) × IsSameDeque old.own new.own × AreSameDeques old.others.items new.others.items
 
-  -- its own deque was empty at one moment, at which it had done what it has done now
+  -- an empty own deque is allowed beside what it has done
   abbrev pub OwnWasEmpty : Lane T → Type 0
   OwnWasEmpty l = WasEmptyAt 0 (view_of l.own)
 
-  -- that lane's deque was empty at one moment, at which this one had done what it has done now
+  -- an empty deque of that lane is allowed beside what this one has done
   abbrev pub OtherWasEmpty : Lane T → ℕ → Type 0
   OtherWasEmpty l from = (t : OtherDeque T) × (get_elem? l.others.items (deque_index l.home from) ≡ some t) × WasEmpty (view t.pass)

@@ -162,18 +162,6 @@ same_both xs ys us vs one two =
     ∙ ap (λ (l : List Stmt). map stmt_without_lines xs ++ l) two
     ∙ sym (map-append stmt_without_lines xs ys)
 
--- statements and then statements
-pub stmts_more : {l : ℕ} {v u w : TextCounts} {s m r : List Terminal} (xs ys : List Stmt) → IsStmtsPart l v u s m xs → IsStmtsPart l u w m r ys → IsStmtsPart l v w s r (xs ++ ys)
-stmts_more xs ys one two = same_pieces (sym (all_of_both xs ys)) (mapped build (both one two)) where
-  build : (k : ℕ) (a b : TextCounts) (t q : List Terminal) → Both (Stmts xs) (Stmts ys) k a b t q → Stmts (xs ++ ys) k a b t q
-  build k a b t q (_, _, (us, us_same, us_before), (vs, vs_same, vs_before)) = (
-    us ++ vs,
-    same_both xs ys us vs us_same vs_same,
-    λ c z zs more.
-        let P : List Stmt → Type 0 = λ l. IsBlock limits k a c t z l in
-        subst P (sym (append_assoc us vs zs)) (us_before c z (vs ++ zs) (vs_before c z zs more)),
-  )
-
 -- the same where both stand behind one terminal
 pub stmts_more_behind : {l : ℕ} {v u w : TextCounts} {x : Terminal} {s m r : List Terminal} (xs ys : List Stmt) → IsStmtsPart l v u (x ∷ s) m xs → IsStmtsPart l u w (x ∷ m) r ys → IsStmtsPart l v w (x ∷ s) r (xs ++ ys)
 stmts_more_behind xs ys one two = same_pieces (sym (all_of_both xs ys)) (mapped build (both_behind one two)) where

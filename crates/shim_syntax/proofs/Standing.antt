@@ -1,5 +1,5 @@
 -- Pieces that stand at the front of terminals, and terminals whose names and numbers are tokens.
-use Rattle.std.proofs.Common.{ℕ, ◌<◌, ◌^◌, ◌≡◌, ℤ, pos, true, false, List, [], ◌∷◌, ◌++◌, length, Option, Some, None, Bool, ◌&&◌, map, refl, sym, ap, subst, ◌∙◌, arith, inl}
+use Rattle.std.proofs.Common.{ℕ, ◌<◌, ◌^◌, ◌≡◌, ℤ, pos, true, false, List, [], ◌∷◌, ◌++◌, length, Option, Bool, ◌&&◌, map, refl, sym, ap, subst, ◌∙◌, arith, inl}
 use Rattle.std.specs.Prelude.{fold, decimal, codes}
 use Rattle.std.specs.Str.{bytes_eq}
 use Rattle.std.proofs.lemmas.Slice.Eq.{bytes_eq-Decides}
@@ -147,10 +147,6 @@ kind_is_good ver Word text p spells fits = word_is_good ver text p (ver && bytes
 kind_is_good ver (KeyKind key) text p spells fits = keyword_is_good ver key p
 kind_is_good ver (NumberKind n) text p spells fits = number_is_good text n spells fits
 kind_is_good ver (SignKind sign) text p spells fits = tt
-
-end_is_good : (ver : Bool) (p : Place) (end : Option Fault) → IsGood ver (of_version ver (of_end p end))
-end_is_good ver p None = tt
-end_is_good ver p (Some fault) = tt
 
 -- the terminals of a cutting
 pub cut_is_good : (ver : Bool) (place : Place) (bytes : List ℕ) (tokens : List Token) (end : Option Fault) (last : Place) → Cuts place bytes tokens end

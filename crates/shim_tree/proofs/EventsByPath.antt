@@ -22,24 +22,11 @@ no_none x y e n = none_some y (sym n ∙ e)
 
 -- where nobody lives, nobody does what a live process does
 module _ {S : Type 0} (o : Ops S) (k : OwnAction) (closes : same_own_action k Closes ≡ false) (nothing : same_own_action k Nothing ≡ false) where
-  other_does : (n : Node S) → live_in (Some n) ≡ None → can_do o k n ≡ false
-  other_does (Live l) e = none_some l (sym e)
-  other_does (Forked l ks) e = closes
-  other_does (Ended l) e = nothing
-  other_does (Dead l d) e = nothing
-
   live_does : (n : Node S) (l : S) → live_in (Some n) ≡ Some l → can_do o k n ≡ same_own_action k (own_action_at (o.stop l))
   live_does (Live m) l e = ap (λ z. same_own_action k (own_action_at (o.stop z))) (some_same m l e)
   live_does (Forked m ks) l e = none_some l e
   live_does (Ended m) l e = none_some l e
   live_does (Dead m d) l e = none_some l e
-
-  -- the node x was found
-  pub nobody_can : (x : Option (Node S)) (n : Node S) → Some n ≡ x → None ≡ live_in (Some n) → false ≡ passes_there (can_do o k) x
-  nobody_can x n is e = sym (ap (passes_there (can_do o k)) (sym is) ∙ other_does n (sym e))
-
-  pub somebody_can : (x : Option (Node S)) (n : Node S) (l : S) (r : Bool) → Some n ≡ x → Some l ≡ live_in (Some n) → r ≡ same_own_action k (own_action_at (o.stop l)) → r ≡ passes_there (can_do o k) x
-  somebody_can x n l r is e f = f ∙ sym (ap (passes_there (can_do o k)) (sym is) ∙ live_does n l (sym e))
 
 module _ {S : Type 0} (o : Ops S) (root : Node S) (p : Path) where
   -- a test of the node that is found and of whether it is that of the path

@@ -17,9 +17,6 @@ use Rattle.shim_run_log.proofs.WaitsAdded.{with_both}
 node_live : {S : Type 0} (l : S) → node l code.Live ≡ model.Live l
 node_live {S} l = ap (node l) (sym code.rolls-Live) ∙ ap (λ f. f l) (fold-roll-NodeStatus S (S → model.Node S) node_step open_below.Live)
 
-node_ended : {S : Type 0} (l : S) → node l code.Ended ≡ model.Ended l
-node_ended {S} l = ap (node l) (sym code.rolls-Ended) ∙ ap (λ f. f l) (fold-roll-NodeStatus S (S → model.Node S) node_step open_below.Ended)
-
 node_dead : {S : Type 0} (l : S) (x : model.Death) → node l (code.Dead x) ≡ model.Dead l x
 node_dead {S} l x = ap (node l) (sym (code.rolls-Dead x)) ∙ ap (λ f. f l) (fold-roll-NodeStatus S (S → model.Node S) node_step (open_below.Dead x))
 
@@ -28,9 +25,6 @@ node_forked {S} l ls bs = ap (node l) (sym (code.rolls-Forked ls bs)) ∙ ap (λ
 
 pub at_live : {S : Type 0} (l : S) (b : NodeStatus S) → b ≡ code.Live → node l b ≡ model.Live l
 at_live l b e = ap (node l) e ∙ node_live l
-
-pub at_ended : {S : Type 0} (l : S) (b : NodeStatus S) → b ≡ code.Ended → node l b ≡ model.Ended l
-at_ended l b e = ap (node l) e ∙ node_ended l
 
 pub at_dead : {S : Type 0} (l : S) (b : NodeStatus S) (x : model.Death) → b ≡ code.Dead x → node l b ≡ model.Dead l x
 at_dead l b x e = ap (node l) e ∙ node_dead l x

@@ -102,23 +102,11 @@ module _ {S : Type 0} where
   next_in zero (model.node_and m ks) k e = ap (λ z. lives z ++ all_lives ks) (some_same m k e)
   next_in (suc i) (model.node_and m ks) k e = next_in i ks k e
 
-  pub next_lives : (i : ℕ) (n k : model.Node S) → child_in i n ≡ Some k → lives_from i n ≡ lives k ++ lives_from (suc i) n
-  next_lives i (model.Live l) k e = none_some k e
-  next_lives i (model.Ended l) k e = none_some k e
-  next_lives i (model.Dead l d) k e = none_some k e
-  next_lives i (model.Forked l ks) k e = next_in i ks k e
-
   rest_past : (i : ℕ) (ks : model.Nodes S) → how_many_of ks ≤ i → lives_of_rest i ks ≡ []
   rest_past zero model.no_node h = refl
   rest_past (suc i) model.no_node h = refl
   rest_past zero (model.node_and k ks) h = absurd (omega (arith, h))
   rest_past (suc i) (model.node_and k ks) h = rest_past i ks (omega (arith, h))
-
-  pub lives_past : (i : ℕ) (n : model.Node S) → child_count n ≤ i → lives_from i n ≡ []
-  lives_past i (model.Live l) h = refl
-  lives_past i (model.Ended l) h = refl
-  lives_past i (model.Dead l d) h = refl
-  lives_past i (model.Forked l ks) h = rest_past i ks h
 
   there_is : (i : ℕ) (ks : model.Nodes S) → i < how_many_of ks → child_at i [] ks ≡ None → ⊥
   there_is i model.no_node h e = absurd (omega (arith, h))
@@ -137,9 +125,3 @@ module _ {S : Type 0} where
   from_first (model.Ended l) e = refl
   from_first (model.Dead l d) e = refl
   from_first (model.Forked l ks) e = refl
-
-  pub of_live : (n : model.Node S) (l : S) → live_in (Some n) ≡ Some l → lives n ≡ l ∷ []
-  of_live (model.Live m) l e = ap (λ z. z ∷ []) (some_same m l e)
-  of_live (model.Ended m) l e = none_some l e
-  of_live (model.Dead m d) l e = none_some l e
-  of_live (model.Forked m ks) l e = none_some l e

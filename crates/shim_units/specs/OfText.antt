@@ -24,7 +24,7 @@ pub record IsAcceptedForm (form : Form) : Type 0 where
   pub few : length form.main_throws < 2 ^ 21
 
 -- what is read from these bytes: they are the text of one program alone, it is bound, and these are its units
-pub record IsReadFrom (bytes : List ℕ) (form : Form) : Type 0 where
+pub record IsUnitsOfBytes (bytes : List ℕ) (form : Form) : Type 0 where
   pub program : Program
   pub text : IsText bytes program
   pub only : (other : Program) → IsText bytes other → other ≡ program
@@ -33,6 +33,6 @@ pub record IsReadFrom (bytes : List ℕ) (form : Form) : Type 0 where
   pub meant : lifted resolved ≡ form
 
 -- if a text of the program is kept, the units are what is read from it
-abbrev pub HasKeptText : Option (List ℕ) → Form → Type 0
-HasKeptText None form = Unit {0}
-HasKeptText (Some bytes) form = ∥ IsReadFrom bytes form ∥₁
+abbrev pub FitsKeptText : Option (List ℕ) → Form → Type 0
+FitsKeptText None form = Unit {0}
+FitsKeptText (Some bytes) form = ∥ IsUnitsOfBytes bytes form ∥₁

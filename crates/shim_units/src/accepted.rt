@@ -1,7 +1,7 @@
 // An accepted program.
 ghost use Rattle.std.specs.Prelude.{◌≡◌, ◌<◌, ◌^◌, length, IfOk};
 ghost use Rattle.std.specs.Option.{option_copied};
-ghost use Rattle.shim_units.specs.OfText.{IsUnitsOfText, IsAcceptedForm, IsReadFrom, HasKeptText};
+ghost use Rattle.shim_units.specs.OfText.{IsUnitsOfText, IsAcceptedForm, IsUnitsOfBytes, FitsKeptText};
 ghost use Rattle.shim_units.specs.Sizes.{AreFit};
 
 use crate::form::Form;
@@ -23,7 +23,7 @@ impl Model for Accepted {
     ghost use Rattle.std.specs.Coded.{codes};
     ghost use Rattle.shim_units.specs.contracts.unit.Unit as unit;
     ghost use Rattle.shim_units.specs.declared.form.Form.{Form};
-    ghost use Rattle.shim_units.specs.OfText.{IsAcceptedForm, HasKeptText};
+    ghost use Rattle.shim_units.specs.OfText.{IsAcceptedForm, FitsKeptText};
 
     ghost Value = { Form };
 
@@ -31,7 +31,7 @@ impl Model for Accepted {
 
     ghost view = { λ accepted. accepted.form };
 
-    ghost invariant = { λ accepted. IsAcceptedForm accepted.form × HasKeptText accepted.text accepted.form };
+    ghost invariant = { λ accepted. IsAcceptedForm accepted.form × FitsKeptText accepted.text accepted.form };
 }
 
 impl Accepted {
@@ -47,7 +47,7 @@ impl Accepted {
 
     /// The same program with a copy of the text from which it was read. No clause says that the copy is kept.
     pub fn with_text(self, alloc: Global, bytes: &[u8]) -> Result<Accepted, NoMemory>
-        requires { ∥ IsReadFrom bytes.now self ∥₁ }
+        requires { ∥ IsUnitsOfBytes bytes.now self ∥₁ }
         ensures { IfOk result (λ accepted. accepted ≡ self) }
     {
         let Accepted { form, .. } = self;
@@ -60,7 +60,7 @@ impl Accepted {
 
     /// A text from which it and no other program is read, where one is kept.
     pub fn text(&self) -> Option<&[u8]>
-        ensures { HasKeptText (option_copied result) self.now }
+        ensures { FitsKeptText (option_copied result) self.now }
     {
         match &self.text {
             Some(text) => Some(text.as_slice()),

@@ -3,8 +3,7 @@ use Rattle.std.proofs.Common.{◌≡◌, ◌≢◌, ◌↔◌, ℕ, zero, suc, �
 use Rattle.std.specs.Prelude.{slice_get, is_some}
 use Rattle.std.specs.Option.{option_map}
 use Rattle.std.specs.BTreeMap.{BTreeMap, get, is_at}
-use Rattle.std.specs.Map.{lookup}
-use Rattle.std.proofs.lemmas.List.{drop_more, drop_all}
+use Rattle.std.proofs.lemmas.List.{drop_more}
 use Rattle.std.proofs.lemmas.Option.{slice_get_within}
 use Rattle.shim_base.specs.Paths.{Path, same_path, path_order}
 use Rattle.shim_base.specs.PathLaws.{same_path_ties}
@@ -13,22 +12,15 @@ use Rattle.shim_base.proofs.SamePaths.{same_path_refl, same_path_is}
 use Rattle.shim_semantics.specs.Nodes.{or_else}
 use Rattle.shim_waits.specs.Cycles.{by_of, WaitInTurn}
 use Rattle.shim_waits.specs.Holds.{IsRing}
-use Rattle.shim_waits.specs.Judging.{first_place, IsEntryIndex, AreFirst}
+use Rattle.shim_waits.specs.Judging.{first_place, IsEntryIndex}
 use Rattle.shim_waits.specs.declared.explained.Wait.{Wait}
-use Rattle.shim_waits.proofs.Judging.{isnt_so, is_so, no_entry, entry_by}
+use Rattle.shim_waits.proofs.Judging.{isnt_so, no_entry, entry_by}
 
 -- ---- it is made entry by entry
 
 -- what is in the map, and what comes of the entries that are left
 abbrev pub IndexesRest : ℕ → BTreeMap Path ℕ → List Wait → Type 0
 IndexesRest i index ws = (p : Path) → or_else (get path_order index p) (option_map (λ n. i + n) (first_place (drop i ws) p)) ≡ first_place ws p
-
-none_added : (x : Option ℕ) → option_map (λ n. 0 + n) x ≡ x
-none_added None = refl
-none_added (Some n) = let w : 0 + n ≡ n = omega arith in ap Some w
-
-pub nothing_indexed : (index : BTreeMap Path ℕ) (ws : List Wait) → index.entries ≡ [] → IndexesRest 0 index ws
-nothing_indexed index ws e p = ap (λ z. or_else (lookup (is_at (path_order p)) z) (option_map (λ n. 0 + n) (first_place ws p))) e ∙ none_added (first_place ws p)
 
 one_on : (i : ℕ) (x : Option ℕ) → option_map (λ n. i + 1 + n) x ≡ option_map (λ n. i + n) (option_map suc x)
 one_on i None = refl
@@ -65,9 +57,6 @@ module _ (i : ℕ) (index behind : BTreeMap Path ℕ) (ws : List Wait) (w : Wait
 or_none : {A : Type 0} (x : Option A) → or_else x None ≡ x
 or_none None = refl
 or_none (Some x) = refl
-
-pub all_indexed : (i : ℕ) (index : BTreeMap Path ℕ) (ws : List Wait) → length ws ≤ i → IndexesRest i index ws → IsEntryIndex index ws
-all_indexed i index ws h rest p = sym (or_none (get path_order index p)) ∙ (ap (λ z. or_else (get path_order index p) (option_map (λ n. i + n) (first_place z p))) (sym (drop_all i ws h)) ∙ rest p)
 
 -- ---- what is found by it
 
@@ -107,31 +96,11 @@ last_or_before zero (suc j) h = absurd (omega (arith, h))
 last_or_before (suc i) zero h = inr (omega arith)
 last_or_before (suc i) (suc j) h = elim (last_or_before i j (omega (arith, h))) [ inl e ↦ inl (ap suc e) | inr e ↦ inr (omega (arith, e)) ]
 
-module _ (ws : List Wait) (i : ℕ) where
-  pub first_to : (w : Wait) → slice_get ws i ≡ Some w → first_place ws w.path ≡ Some i → AreFirstTo i ws → AreFirstTo (i + 1) ws
-  first_to w there h all j v below e = elim (last_or_before i j below) [
-    | inl is ↦ (let same : v ≡ w = some_same v w (sym e ∙ (ap (slice_get ws) is ∙ there)) in ap (λ z. first_place ws z.path) same ∙ (h ∙ ap Some (sym is)))
-    | inr less ↦ all j v less e
-  ]
-
-  pub isnt_first : (w : Wait) → slice_get ws i ≡ Some w → (first_place ws w.path ≡ Some i → ⊥) → IsTrue false ↔ AreFirst ws
-  isnt_first w there f = isnt_so (λ all. f (all i w there))
-
-  pub all_first : length ws ≤ i → AreFirstTo i ws → IsTrue true ↔ AreFirst ws
-  all_first h all = is_so (λ j w e. all j w (let k = slice_get_within ws j w e in omega (arith, h, k)) e)
-
 -- ---- the ring
 
 -- from the path of a place on, as far as the first path
 abbrev pub LeadsFrom : List Wait → List Path → ℕ → Type 0
 LeadsFrom ws cycle i = WaitInTurn ws (get_or cycle i []) (drop (i + 1) cycle) (get_or cycle 0 [])
-
-pub ring_leads : (ws : List Wait) (cycle : List Path) → 0 < length cycle → LeadsFrom ws cycle 0 ↔ IsRing ws cycle
-ring_leads ws [] h = absurd (omega (arith, h))
-ring_leads ws (p ∷ ps) h = (λ x. x, λ x. x)
-
-pub no_ring : (ws : List Wait) (cycle : List Path) → cycle ≡ [] → IsTrue false ↔ IsRing ws cycle
-no_ring ws cycle e = isnt_so (λ x. subst (IsRing ws) e x)
 
 module _ (ws : List Wait) (cycle : List Path) (i : ℕ) where
   step_to : i + 1 < length cycle → LeadsFrom ws cycle i → (by_of ws (get_or cycle i []) ≡ Some (get_or cycle (i + 1) [])) × LeadsFrom ws cycle (i + 1)
@@ -142,15 +111,6 @@ module _ (ws : List Wait) (cycle : List Path) (i : ℕ) where
 
   pub leads_on : i + 1 < length cycle → by_of ws (get_or cycle i []) ≡ Some (get_or cycle (i + 1) []) → LeadsFrom ws cycle i ↔ IsRing ws cycle → LeadsFrom ws cycle (i + 1) ↔ IsRing ws cycle
   leads_on h e rest = (λ x. rest.0 (step_back h e x), λ r. (step_to h (rest.1 r)).1)
-
-  pub leads_off : i + 1 < length cycle → (by_of ws (get_or cycle i []) ≡ Some (get_or cycle (i + 1) []) → ⊥) → LeadsFrom ws cycle i ↔ IsRing ws cycle → IsTrue false ↔ IsRing ws cycle
-  leads_off h f rest = isnt_so (λ r. f (step_to h (rest.1 r)).0)
-
-  pub leads_back : (b : Bool) → length cycle ≤ i + 1 → IsTrue b ↔ (by_of ws (get_or cycle i []) ≡ Some (get_or cycle 0 [])) → LeadsFrom ws cycle i ↔ IsRing ws cycle → IsTrue b ↔ IsRing ws cycle
-  leads_back b h e rest = (
-    λ t. rest.0 (subst (λ z. WaitInTurn ws (get_or cycle i []) z (get_or cycle 0 [])) (sym (drop_all (i + 1) cycle h)) (e.0 t)),
-    λ r. e.1 (subst (λ z. WaitInTurn ws (get_or cycle i []) z (get_or cycle 0 [])) (drop_all (i + 1) cycle h) (rest.1 r)),
-  )
 
 -- ---- whether a path has an entry
 

@@ -32,9 +32,6 @@ isnt_so f = (λ t. absurd (let w = t in cc), λ p. absurd (f p))
 pub is_so : {P : Type 0} → P → IsTrue true ↔ P
 is_so p = (λ t. p, λ q. refl)
 
-pub as_test : {P : Type 0} (b : Bool) → (b ≡ true → P) → (P → b ≡ true) → IsTrue b ↔ P
-as_test b f g = (λ t. f t, λ p. g p)
-
 pub unless_false : (b : Bool) → b ≡ false → IsTrue b → ⊥
 unless_false b e t = let w : true ≡ false = sym t ∙ e in cc
 

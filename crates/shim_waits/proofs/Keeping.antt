@@ -8,7 +8,7 @@ use Rattle.std.proofs.lemmas.List.{append-nil, append_assoc, length-append, leng
 use Rattle.std.proofs.lemmas.Option.{get_or_from_slice_get, slice_get_within, slice_get_cases}
 use Rattle.shim_base.specs.Paths.{Channel, NamedChannel, same_channel, channel_order}
 use Rattle.shim_base.specs.PathLaws.{channel_ties}
-use Rattle.shim_base.proofs.Facts.{some_same, none_some, true_or_false}
+use Rattle.shim_base.proofs.Facts.{none_some, true_or_false}
 use Rattle.shim_base.proofs.SamePaths.{same_channel_is}
 use Rattle.shim_local.specs.Process.{Ops}
 use Rattle.shim_semantics.specs.Nodes.{Node, Live, Forked, Ended, Dead, state, or_else}
@@ -111,22 +111,10 @@ one_node : {S : Type 0} (o : Ops S) (n : Node S) (number : ℕ) (b : Bool) (x : 
 one_node o n number true x = or_none _
 one_node o n number false x = or_none _
 
-one_fork : {S : Type 0} (o : Ops S) (n : Node S) (number : ℕ) (b : Bool) (x : Option Holder) (y : Option (Node S × ℕ)) → or_else (or_else x (holder_where o n number b)) (option_map (holder_of o) y) ≡ or_else x (option_map (holder_of o) (cond b (Some (n, number)) y))
-one_fork o n number true None y = refl
-one_fork o n number true (Some x) y = refl
-one_fork o n number false None y = refl
-one_fork o n number false (Some x) y = refl
-
 module _ {S : Type 0} (o : Ops S) where
   -- those from the children on that are left
   abbrev pub found_from : Channel → ℕ → ℕ → Node S → Option Holder
   found_from q number i n = option_map (holder_of o) (first_with_among (holds_given o q) number (children_from i n))
-
-  with_children : (q : Channel) (n : Node S) (number : ℕ) (x : Option Holder) → or_else (or_else x (holder_where o n number (holds_given o q n))) (found_from q number 0 n) ≡ or_else x (option_map (holder_of o) (first_with (holds_given o q) number n))
-  with_children q (Live l) number x = one_node o (Live l) number (holds_given o q (Live l)) x
-  with_children q (Forked l ks) number x = one_fork o (Forked l ks) number (holds_given o q (Forked l ks)) x (first_with_among (holds_given o q) number ks)
-  with_children q (Ended l) number x = one_node o (Ended l) number (holds_given o q (Ended l)) x
-  with_children q (Dead l d) number x = one_node o (Dead l d) number (holds_given o q (Dead l d)) x
 
   alone : (q : Channel) (n : Node S) (l : S) (number : ℕ) → live_in (Some n) ≡ Some l → found_from q number 0 n ≡ None
   alone q (Live m) l number e = refl
@@ -134,16 +122,9 @@ module _ {S : Type 0} (o : Ops S) where
   alone q (Ended m) l number e = none_some l e
   alone q (Dead m d) l number e = none_some l e
 
-  pub keeps_live : (n : Node S) (l : S) (number : ℕ) (before behind : BTreeMap NamedChannel Holder) → live_in (Some n) ≡ Some l → KeepsGiven o n number before behind → KeepsFirst o n number before behind
-  keeps_live n l number before behind e given q =
-      given q ∙ (sym (or_none _) ∙ (ap (or_else (or_else (holder_in before q) (holder_where o n number (holds_given o q n)))) (sym (alone q n l number e)) ∙ with_children q n number (holder_in before q)))
-
   -- what was kept before the children, with what is kept of those that are left
   abbrev pub KeepsFrom : ℕ → Node S → ℕ → ℕ → BTreeMap NamedChannel Holder → BTreeMap NamedChannel Holder → Type 0
   KeepsFrom i n number first before now = (q : Channel) → or_else (holder_in now q) (found_from q number i n) ≡ or_else (holder_in before q) (option_map (holder_of o) (first_with (holds_given o q) first n))
-
-  pub keeps_from_first : (n : Node S) (number : ℕ) (before now : BTreeMap NamedChannel Holder) → KeepsGiven o n number before now → KeepsFrom 0 n number number before now
-  keeps_from_first n number before now given q = ap (λ z. or_else z (found_from q number 0 n)) (given q) ∙ with_children q n number (holder_in before q)
 
   pub keeps_child : (i : ℕ) (n k : Node S) (number first : ℕ) (before now behind : BTreeMap NamedChannel Holder) → child_in i n ≡ Some k → KeepsFirst o k number now behind → KeepsFrom i n number first before now → KeepsFrom (i + 1) n (number + length (lives k)) first before behind
   keeps_child i n k number first before now behind e one rest q =
@@ -161,18 +142,6 @@ module _ {S : Type 0} (o : Ops S) where
 
   abbrev pub lives_from : ℕ → Node S → List S
   lives_from i n = all_lives (children_from i n)
-
-  pub lives_at_first : (n : Node S) → live_in (Some n) ≡ None → lives_from 0 n ≡ lives n
-  lives_at_first (Live l) e = none_some l (sym e)
-  lives_at_first (Ended l) e = refl
-  lives_at_first (Dead l d) e = refl
-  lives_at_first (Forked l ks) e = refl
-
-  pub lives_alone : (n : Node S) (l : S) → live_in (Some n) ≡ Some l → lives n ≡ l ∷ []
-  lives_alone (Live m) l e = ap (λ z. z ∷ []) (some_same m l e)
-  lives_alone (Forked m ks) l e = none_some l e
-  lives_alone (Ended m) l e = none_some l e
-  lives_alone (Dead m d) l e = none_some l e
 
   pub lives_next : (i : ℕ) (n k : Node S) (xs ys all : List S) → child_in i n ≡ Some k → ys ≡ xs ++ lives k → xs ++ lives_from i n ≡ all → ys ++ lives_from (i + 1) n ≡ all
   lives_next i n k xs ys all e more rest =

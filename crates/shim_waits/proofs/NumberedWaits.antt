@@ -1,9 +1,9 @@
 -- The wait of each live process, by who was kept, with the number of the one that it waits for.
-use Rattle.std.proofs.Common.{◌≡◌, ℕ, ◌+◌, ◌<◌, ◌≤◌, Option, Some, None, List, [], ◌∷◌, ◌++◌, drop, get_or, length, map, refl, sym, ap, ◌∙◌, arith}
+use Rattle.std.proofs.Common.{◌≡◌, ℕ, ◌+◌, ◌<◌, Option, Some, None, List, [], ◌∷◌, ◌++◌, drop, get_or, length, map, refl, sym, ap, ◌∙◌, arith}
 use Rattle.std.specs.Prelude.{slice_get}
 use Rattle.std.specs.Option.{option_map}
 use Rattle.std.specs.BTreeMap.{BTreeMap}
-use Rattle.std.proofs.lemmas.List.{append-nil, append_assoc, drop_more, drop_all, length-map, get_or-map}
+use Rattle.std.proofs.lemmas.List.{append-nil, append_assoc, drop_more, length-map, get_or-map}
 use Rattle.std.proofs.lemmas.Option.{slice_get-map}
 use Rattle.shim_base.specs.Paths.{NamedChannel}
 use Rattle.shim_local.specs.Process.{Ops}
@@ -24,14 +24,8 @@ module _ {S : Type 0} (o : Ops S) (ls : List S) (holders : BTreeMap NamedChannel
   pub stands_nowhere : next_channel (o.stop l) ≡ None → None ≡ numbered_wait o ls holders l
   stands_nowhere e = sym (ap (numbered_wait_at o ls holders l) e)
 
-  pub nobody_kept : (c : NamedChannel) → next_channel (o.stop l) ≡ Some c → holder_in holders c.channel ≡ None → None ≡ numbered_wait o ls holders l
-  nobody_kept c e f = sym (ap (numbered_wait_at o ls holders l) e ∙ ap (wait_by_holder o ls l c) f)
-
   pub nobody_there : (c : NamedChannel) (h : Holder) → next_channel (o.stop l) ≡ Some c → holder_in holders c.channel ≡ Some h → slice_get ls h.number ≡ None → None ≡ numbered_wait o ls holders l
   nobody_there c h e f k = sym (ap (numbered_wait_at o ls holders l) e ∙ (ap (wait_by_holder o ls l c) f ∙ ap (wait_on o l c h) k))
-
-  pub no_wait : (c : NamedChannel) (h : Holder) (b : S) → next_channel (o.stop l) ≡ Some c → holder_in holders c.channel ≡ Some h → slice_get ls h.number ≡ Some b → next_channel (o.stop b) ≡ None → None ≡ numbered_wait o ls holders l
-  no_wait c h b e f k n = sym (ap (numbered_wait_at o ls holders l) e ∙ (ap (wait_by_holder o ls l c) f ∙ (ap (wait_on o l c h) k ∙ ap (wait_to o l c h b) n)))
 
   pub its_wait : (c d : NamedChannel) (h : Holder) (b : S) → next_channel (o.stop l) ≡ Some c → holder_in holders c.channel ≡ Some h → slice_get ls h.number ≡ Some b → next_channel (o.stop b) ≡ Some d
       → numbered_wait o ls holders l ≡ Some (record { path = o.path l; chan = c; holder = h.path; by = o.path b; at = d }, h.number)
@@ -60,10 +54,6 @@ present_more v f xs i x done more all h is e rest =
     ∙ (append_assoc done (present (f (v x) ∷ [])) (present (map f (drop (i + 1) (map v xs))))
     ∙ (ap (λ z. done ++ z) (both_present (f (v x)) (map f (drop (i + 1) (map v xs))))
     ∙ (ap (λ z. done ++ present (map f z)) (sym (left_behind v xs i x h is)) ∙ rest)))
-
-pub present_all : {A B C : Type 0} (v : A → B) (f : B → Option C) (xs : List A) (i : ℕ) (done all : List C) → length xs ≤ i → done ++ present (map f (drop i (map v xs))) ≡ all → done ≡ all
-present_all v f xs i done all h rest =
-    sym (append-nil done) ∙ (ap (λ z. done ++ present (map f z)) (sym (drop_all i (map v xs) (let w = length-map xs v in omega (arith, h, w)))) ∙ rest)
 
 -- one is there, or none
 pub one_present : {B : Type 0} (x : Option B) (b : B) (done more : List B) → x ≡ Some b → more ≡ done ++ b ∷ [] → more ≡ done ++ present (x ∷ [])

@@ -1,6 +1,5 @@
 -- New processes, and the children of a fork.
-use Rattle.std.proofs.Common.{◌≡◌, ℕ, suc, ◌+◌, ◌<◌, Bool, true, false, ◌&&◌, ◌≤◌, List, [], ◌∷◌, ◌++◌, map, length, drop, drop-cons, get_or, Option, Some, None, Result, Ok, Err, refl, sym, ap, ◌∙◌, append_assoc, append-nil, arith, if◌then◌else◌, slice_get}
-use Rattle.std.proofs.lemmas.List.{drop_all}
+use Rattle.std.proofs.Common.{◌≡◌, ℕ, suc, ◌+◌, ◌<◌, Bool, true, false, ◌&&◌, List, [], ◌∷◌, ◌++◌, map, length, drop, drop-cons, get_or, Option, Some, None, Result, Ok, Err, refl, sym, ap, ◌∙◌, append_assoc, arith, if◌then◌else◌, slice_get}
 use Rattle.shim_base.specs.declared.operators.Trap.{Trap}
 use Rattle.shim_base.specs.Paths.{Path, NamedChannel}
 use Rattle.shim_units.specs.declared.form.Form.{Form}
@@ -73,22 +72,6 @@ child_by l i unit labels args home base made runs given top callers passed locat
 pub labels_left : (l : LocalState) (remainder : Remainder) (xs : List ℕ) → passed_labels (statement_view (remainder_of l remainder)) xs ≡ passed_labels (statement_view l) xs
 labels_left l remainder [] = refl
 labels_left l remainder (x ∷ xs) = ap (λ ns. label_of (statement_view l) x ∷ ns) (labels_left l remainder xs)
-
--- no branch is left
-pub all_children_made : (l remainder : LocalState) (i n : ℕ) (branches : List UBranch) (children : List LocalState) (whole : Result (List LocalState) Trap) → length branches ≤ n
-    → children_before children (children_made l remainder i (drop n branches)) ≡ whole → whole ≡ Ok children
-all_children_made l remainder i n branches children whole le e =
-    sym e ∙ ap (λ b. children_before children (children_made l remainder i b)) (drop_all n branches le) ∙ ap (λ c. Ok c) (append-nil children)
-
--- the next branch's arguments trap
-pub one_trapped : (l remainder : LocalState) (i n : ℕ) (d : UBranch) (branches : List UBranch) (children : List LocalState) (t : Trap) (whole : Result (List LocalState) Trap) → n < length branches
-    → arguments l.locations l.frame.slots (unit_at l.program (get_or branches n d).call.unit).params (get_or branches n d).call.args ≡ Err t
-    → children_before children (children_made l remainder i (drop n branches)) ≡ whole → whole ≡ Err t
-one_trapped l remainder i n d branches children t whole lt e so_far =
-    let b = get_or branches n d in
-    sym so_far
-    ∙ ap (λ bs. children_before children (children_made l remainder i bs)) (drop-cons branches n d lt)
-    ∙ ap (λ r. children_before children (on_value (λ given. on_value (λ others. Ok (child remainder i b given ∷ others)) (children_made l (lending remainder b) (i + 1) (drop (suc n) branches))) r)) e
 
 behind_one : (children : List LocalState) (k : LocalState) (rest : Result (List LocalState) Trap) → children_before (children ++ k ∷ []) rest ≡ children_before children (on_value (λ others. Ok (k ∷ others)) rest)
 behind_one children k (Err t) = refl

@@ -25,10 +25,6 @@ pub room_for_first : (k : ℕ) (top next : FrameView) (callers : List FrameView)
 room_for_first k top next callers room e fits =
     room_for top next callers room (subst (λ ps. variables_of ps ≤ variables_of top.places) (sym e) (variables_take k top.places)) fits
 
--- the innermost frame is left
-pub room_for_callers : (top caller : FrameView) (callers : List FrameView) (room : ℕ) → variables_in (top ∷ caller ∷ callers) ≤ room → variables_in (caller ∷ callers) ≤ room
-room_for_callers top caller callers room fits = omega (arith, fits)
-
 -- a frame is entered, in which no place is in force
 none_of_map : {A B : Type 0} (f : A → B) (xs : List A) → map f xs ≡ [] → xs ≡ []
 none_of_map f [] e = refl
@@ -36,9 +32,6 @@ none_of_map f (x ∷ xs) e = absurd (cc)
 
 pub no_variables : (units : List UnitOf) (top : FrameView) (f : Frame) → shown units top ≡ f → f.places ≡ [] → variables_of top.places ≡ 0
 no_variables units top f e none = ap variables_of (none_of_map _ top.places (ap (λ (g : Frame). g.places) e ∙ none))
-
-pub room_for_entered : (top caller : FrameView) (callers : List FrameView) (room : ℕ) → variables_of top.places ≡ 0 → variables_in (caller ∷ callers) ≤ room → variables_in (top ∷ caller ∷ callers) ≤ room
-room_for_entered top caller callers room none fits = omega (arith, none, fits)
 
 -- a process begins with one frame, in which no place is in force
 pub room_for_none : (units : List UnitOf) (top : FrameView) (callers : List FrameView) (f : Frame) (room : ℕ) → shown units top ≡ f → f.places ≡ [] → callers ≡ [] → variables_in (top ∷ callers) ≤ room

@@ -11,14 +11,14 @@ module _ {T N M : Type 0} {g : Ghosts N M} where
   abbrev pub HasTurn : ℕ → Board T N M → Chair T N M g → Type 0
   HasTurn turn b c = IsOn b c × ((view_of c).turn ≡ turn) × ((view_of c).claimed ≡ None)
 
--- what the net began with
+-- the root and the budget of a net, which are its name
 abbrev pub beginning : {S : Type 0} → NetView S → S × ℕ
 beginning n = (n.root, n.budget)
 
--- the second net began as the first one did
+-- the second net has the root and the budget of the first
 abbrev pub SameName : {S : Type 0} → NetView S → NetView S → Type 0
 SameName before after = beginning after ≡ beginning before
 
--- the net began as that of this board did
+-- the net has the root and the budget that are this board's name
 abbrev pub IsNetOf : {T S : Type 0} → Board T (NetView S) (S × ℕ) → NetView S → Type 0
 IsNetOf b n = beginning n ≡ name_of beginning b

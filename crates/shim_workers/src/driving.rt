@@ -1,7 +1,7 @@
 // A net run by workers that go on without rounds.
 ghost use Rattle.std.specs.Prelude.{◌≡◌, ◌≤◌, ◌⊎◌, IfOk};
 ghost use Rattle.shim_net.specs.Nets.{IsNet};
-ghost use Rattle.shim_net.specs.Standings.{IsQuietNet, IsSpentNet};
+ghost use Rattle.shim_net.specs.Standings.{IsQuiescentNet, IsSpentNet};
 ghost use Rattle.shim_workers.specs.Workers.{SameName};
 
 use crate::lengths::{LONGEST_OUT, Lengths};
@@ -58,7 +58,7 @@ fn run_by_workers<L: Local, G: Gate, R: Threads + Wait + Sync>(
     requires quantum { (1 ≤ quantum) × (quantum ≤ 10000) }
     ensures root { IfOk result (λ n. n.root ≡ net.root) }
     ensures budget { IfOk result (λ n. n.budget ≡ net.budget) }
-    ensures stands { IfOk result (λ n. IsQuietNet L.ops n ⊎ IsSpentNet L.ops n) }
+    ensures stands { IfOk result (λ n. IsQuiescentNet L.ops n ⊎ IsSpentNet L.ops n) }
     ensures keeps { IfOk result (λ n. IsNet L.ops n) }
 {
     let mut net = net;
@@ -95,7 +95,7 @@ pub fn drive<L: Local, G: Gate, R: Threads + Wait + Sync>(
     requires quantum { (1 ≤ quantum) × (quantum ≤ 10000) }
     ensures root { IfOk result (λ n. n.root ≡ net.root) }
     ensures budget { IfOk result (λ n. n.budget ≡ net.budget) }
-    ensures stands { IfOk result (λ n. IsQuietNet L.ops n ⊎ IsSpentNet L.ops n) }
+    ensures stands { IfOk result (λ n. IsQuiescentNet L.ops n ⊎ IsSpentNet L.ops n) }
     ensures keeps { IfOk result (λ n. IsNet L.ops n) }
 {
     run_by_workers(rt, alloc, net, workers, quantum, gate, Between::Board)
@@ -116,7 +116,7 @@ pub fn drive_steal<L: Local, G: Gate, R: Threads + Wait + Sync>(
     requires quantum { (1 ≤ quantum) × (quantum ≤ 10000) }
     ensures root { IfOk result (λ n. n.root ≡ net.root) }
     ensures budget { IfOk result (λ n. n.budget ≡ net.budget) }
-    ensures stands { IfOk result (λ n. IsQuietNet L.ops n ⊎ IsSpentNet L.ops n) }
+    ensures stands { IfOk result (λ n. IsQuiescentNet L.ops n ⊎ IsSpentNet L.ops n) }
     ensures keeps { IfOk result (λ n. IsNet L.ops n) }
 {
     run_by_workers(rt, alloc, net, workers, quantum, gate, Between::Lanes)

@@ -2,7 +2,7 @@
 ghost use Rattle.std.specs.Prelude.{◌≡◌, ◌≤◌, ◌<◌, ◌*◌, ◌⊎◌, min, [], true, false, IsTrue, IsFalse, IfOk, OnOk};
 ghost use Rattle.shim_semantics.specs.Trees.{steps};
 ghost use Rattle.shim_net.specs.Nets.{IsNet};
-ghost use Rattle.shim_net.specs.Standings.{IsQuietNet, IsSpentNet};
+ghost use Rattle.shim_net.specs.Standings.{IsQuiescentNet, IsSpentNet};
 ghost use Rattle.shim_net.specs.Progress.{GoesOn, HasSettled, CanGive};
 
 use crate::giving::give_all;
@@ -17,13 +17,13 @@ use std::thread::Threads;
 
 // Whether the net has not come to its end.
 fn is_running<L: Local>(net: &Net<L>) -> bool
-    ensures running { IsTrue result → (IsQuietNet L.ops net.now → ⊥) × (IsSpentNet L.ops net.now → ⊥) }
-    ensures ended { IsFalse result → IsQuietNet L.ops net.now ⊎ IsSpentNet L.ops net.now }
+    ensures running { IsTrue result → (IsQuiescentNet L.ops net.now → ⊥) × (IsSpentNet L.ops net.now → ⊥) }
+    ensures ended { IsFalse result → IsQuiescentNet L.ops net.now ⊎ IsSpentNet L.ops net.now }
     ensures keeps { IsNet L.ops net.now }
 {
     match net.standing() {
         Standing::Running => true,
-        Standing::Quiet => false,
+        Standing::Quiescent => false,
         Standing::Spent => false,
     }
 }
@@ -86,7 +86,7 @@ fn run_alone<L: Local, G: Gate>(net: &mut Net<L>, quantum: u64, gate: &G) -> Res
     requires home { net.old.grants ≡ [] }
     requires settled { HasSettled L.ops net.old }
     ensures goes_on { OnOk result (GoesOn L.ops net.old net.new) }
-    ensures stands { OnOk result (IsQuietNet L.ops net.new ⊎ IsSpentNet L.ops net.new) }
+    ensures stands { OnOk result (IsQuiescentNet L.ops net.new ⊎ IsSpentNet L.ops net.new) }
     ensures keeps { OnOk result (IsNet L.ops net.new) }
 {
     let mut most = quantum;
@@ -115,7 +115,7 @@ pub fn rounds<L: Local, G: Gate, R: Threads + Sync>(
     requires quantum { (1 ≤ quantum) × (quantum ≤ 10000) }
     ensures root { IfOk result (λ n. n.root ≡ net.root) }
     ensures budget { IfOk result (λ n. n.budget ≡ net.budget) }
-    ensures stands { IfOk result (λ n. IsQuietNet L.ops n ⊎ IsSpentNet L.ops n) }
+    ensures stands { IfOk result (λ n. IsQuiescentNet L.ops n ⊎ IsSpentNet L.ops n) }
     ensures keeps { IfOk result (λ n. IsNet L.ops n) }
 {
     let mut net = net;
