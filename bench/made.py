@@ -5,8 +5,8 @@ A branch assigns only to variables that no branch beside it assigns to, so most 
 some thousand steps, or blocks. Of four numbers one makes a program of version 2, and one a program of version 1 with a
 variable `int64`. Use: bench/made.py NUMBER
 """
+import argparse
 import random
-import sys
 
 NAMES = ["a", "b", "c", "d", "e"]
 TYPES = ["int", "int8", "uint8", "int16", "bool", "int32"]
@@ -90,4 +90,6 @@ class Maker:
 
 
 if __name__ == "__main__":
-    print(Maker(int(sys.argv[1])).program(), end="")
+    words = argparse.ArgumentParser(description=__doc__)
+    words.add_argument("number", type=int)
+    print(Maker(words.parse_args().number).program(), end="")

@@ -13,32 +13,30 @@
 #include <time.h>
 #include <unistd.h>
 
+typedef void *job(void *);
 static long size;
 
-static void run_all(void *(**jobs)(void *), int count) {
+static void run_all(job **jobs, int count) {
   pthread_t threads[64];
-  if (count > 64) exit(2);
   for (int i = 0; i < count; i++) if (pthread_create(&threads[i], 0, jobs[i], 0)) exit(2);
   for (int i = 0; i < count; i++) pthread_join(threads[i], 0);
 }
 
-static void run_many(void *(*job)(void *), int count) {
-  void *(*jobs[64])(void *);
-  for (int i = 0; i < 64; i++) jobs[i] = job;
-  run_all(jobs, count);
-}
-
 /* Two threads meet here: one gives a value, the other takes it, and neither goes on before both have come. */
 struct channel { pthread_mutex_t lock; pthread_cond_t changed; int full; int32_t value; };
-#define CHANNEL {PTHREAD_MUTEX_INITIALIZER, PTHREAD_COND_INITIALIZER, 0, 0}
-static struct channel counts = CHANNEL, tripled = CHANNEL;
+static struct channel counts = {PTHREAD_MUTEX_INITIALIZER, PTHREAD_COND_INITIALIZER, 0, 0};
+static struct channel tripled = {PTHREAD_MUTEX_INITIALIZER, PTHREAD_COND_INITIALIZER, 0, 0};
 static int32_t sum;
+
+static void change(struct channel *c, int full) {
+  c->full = full;
+  pthread_cond_signal(&c->changed);
+}
 
 static void give(struct channel *c, int32_t value) {
   pthread_mutex_lock(&c->lock);
   c->value = value;
-  c->full = 1;
-  pthread_cond_signal(&c->changed);
+  change(c, 1);
   while (c->full) pthread_cond_wait(&c->changed, &c->lock);
   pthread_mutex_unlock(&c->lock);
 }
@@ -47,8 +45,7 @@ static int32_t take(struct channel *c) {
   pthread_mutex_lock(&c->lock);
   while (!c->full) pthread_cond_wait(&c->changed, &c->lock);
   int32_t value = c->value;
-  c->full = 0;
-  pthread_cond_signal(&c->changed);
+  change(c, 0);
   pthread_mutex_unlock(&c->lock);
   return value;
 }
@@ -109,24 +106,24 @@ static int is_word(unsigned char b) {
   return (b >= 'a' && b <= 'z') || (b >= 'A' && b <= 'Z') || (b >= '0' && b <= '9') || b == '_';
 }
 
-static void words(FILE *file) {
+static size_t words(FILE *file) {
   static unsigned char text[1 << 21];
   size_t size = fread(text, 1, sizeof text, file), begun = 0;
   for (size_t i = 0; i < size; i++) begun += is_word(text[i]) && !(i && is_word(text[i - 1]));
-  printf("%zu\n", begun);
+  return begun;
 }
 
-static void sum_of(FILE *file, long left) {
+static uint32_t sum_of(FILE *file, long left) {
   uint32_t total = 0;
   for (int byte = getc(file); left > 0 && byte != EOF; left--) { total += (uint32_t)byte; byte = getc(file); }
-  printf("%u\n", total);
+  return total;
 }
 
 static double seconds(struct timeval time) { return (double)time.tv_sec + (double)time.tv_usec / 1e6; }
 
 /* Runs a command and writes into a file what it took: seconds, seconds of processor time, KiB of memory at most, and
-   its status, negative where a signal ended it. One that Python
-   starts counts Python's own memory as its own; this one is small. */
+   its status, negative where a signal ended it. One that Python starts counts Python's own memory as its own; this
+   one is small. */
 static int launch(char *path, char **command) {
   struct timespec begin, end;
   struct rusage usage;
@@ -149,25 +146,29 @@ static int launch(char *path, char **command) {
 
 int main(int argc, char **argv) {
   if (argc < 3) return 2;
-  const char *job = argv[1];
-  if (!strcmp(job, "launch") && argc > 3) return launch(argv[2], argv + 3);
+  const char *work = argv[1];
+  if (!strcmp(work, "launch") && argc > 3) return launch(argv[2], argv + 3);
   size = atol(argv[argc - 1]);
-  if (!strcmp(job, "pipe")) {
-    run_all((void *(*[])(void *)){counter, tripler, summer}, 3);
+  if (!strcmp(work, "pipe")) {
+    run_all((job *[]){counter, tripler, summer}, 3);
     printf("%d\n", sum);
-  } else if (!strcmp(job, "count")) {
-    times = atol(argv[3]) / atol(argv[2]);
-    run_many(count_up, atoi(argv[2]));
-    printf("%ld\n", counted);
-  } else if (!strcmp(job, "queues")) {
-    is_done = size == 0;
-    run_many(exchange, atoi(argv[2]));
-    printf("%ld\n", pieces_collected);
-  } else {
-    FILE *file = fopen(argv[2], "rb");
-    if (!file) return 2;
-    if (!strcmp(job, "words")) words(file);
-    else if (!strcmp(job, "sum")) sum_of(file, size);
+    return 0;
   }
+  if (!strcmp(work, "count")) {
+    times = atol(argv[3]) / atoi(argv[2]);
+    run_all((job *[]){count_up, count_up, count_up, count_up}, atoi(argv[2]));
+    printf("%ld\n", counted);
+    return 0;
+  }
+  if (!strcmp(work, "queues")) {
+    is_done = size == 0;
+    run_all((job *[]){exchange, exchange, exchange, exchange}, atoi(argv[2]));
+    printf("%ld\n", pieces_collected);
+    return 0;
+  }
+  FILE *file = fopen(argv[2], "rb");
+  if (!file) return 2;
+  if (!strcmp(work, "words")) printf("%zu\n", words(file));
+  if (!strcmp(work, "sum")) printf("%u\n", sum_of(file, size));
   return 0;
 }

@@ -5,27 +5,17 @@ import string
 MIB = 1 << 20
 
 
-def filled(head, parts, tail, size=MIB):
-    """Text of so many bytes: the parts in turn as long as they fit, and spaces behind."""
-    parts = [parts] if isinstance(parts, str) else parts
-    left, turn = size - len(head) - len(tail), "".join(parts)
-    body = turn * (left // len(turn))
-    for part in parts:
-        if len(body) + len(part) > left:
+def filled(head, parts, tail, size=MIB, most=MIB):
+    """Text of so many bytes: the parts in turn as long as they fit, at most so many, each with a number of its own in
+    place of an @, and spaces behind."""
+    texts, left = [head], size - len(head) - len(tail)
+    for number, part in zip(range(1000, 1000 + most), itertools.cycle([parts] if isinstance(parts, str) else parts)):
+        text = part.replace("@", str(number))
+        if len(text) > left:
             break
-        body += part
-    return head + body + " " * (left - len(body)) + tail
-
-
-def numbered(part, last, size=MIB, most=1000):
-    """As many of this part as fit, at most so many, with a number in place of each @, and spaces behind."""
-    text = ""
-    for number in range(1000, 1000 + most):
-        more = part.replace("@", str(number))
-        if len(text) + len(more) + len(last) > size:
-            break
-        text += more
-    return text + " " * (size - len(text) - len(last)) + last
+        texts.append(text)
+        left -= len(text)
+    return "".join(texts) + " " * left + tail
 
 
 # Bodies of functions in both languages: of a shape the one of shim, and the one of C. An @ is the function's number.
@@ -52,13 +42,18 @@ CODE = ["while (x < y && x != 9) { x = x + y * 3; }\n", "if (x || y) { y = x - 1
 TOKENS = "  level = level + (step << 3) * 0x1F; // a ramp\n  next level; /* all meet */ put wire, level >> 8;\n"
 
 
-def read_in_both(name, size, main="void main() { }"):
+def read_in_both(name, size):
     """A text of that shape for shim, and one for C. `statements` is run, too; the `main` of the others does nothing."""
     if name == "statements":
         return listed(size, ["x = x + y + 123;\n"])
     here, there = READ[name]
-    return (numbered("void f@(int n, int &r) { int a; int b; " + here, main, size),
-            numbered("void f@(int n, int *r) { int a, b = 0; " + there, "void main() { }", size))
+    return (filled("", "void f@(int n, int &r) { int a; int b; " + here, "void main() { }", size, 1000),
+            filled("", "void f@(int n, int *r) { int a, b = 0; " + there, "void main() { }", size, 1000))
+
+
+def beside(main, size):
+    """This `main` behind as many ordinary functions as fit."""
+    return filled("", "void f@(int n, int &r) { int a; int b; " + ORDINARY, main, size, 1000)
 
 
 def listed(size, parts):
@@ -153,20 +148,7 @@ put o, k; }
 }
 
 
-def side_by_side(branch, count):
-    return "void main() { " + " par ".join([branch] * count) + " }\n"
-
-
-def counting(turns, size=None):
-    """Four branches that count, behind as many other functions as fit, where a size is given."""
-    main = side_by_side("{ int k; while (k < %d) { k = k + 1; } }" % turns, 4)
-    return read_in_both("ordinary", size, main)[0] if size else main
-
-
-def handlers(turns, caught, branches=1):
-    """A loop of handlers in which none begins, as often side by side."""
-    loop_of_tries = "{ int k; while (k < %d) { try { } catch (%s) { } k = k + 1; } }" % (turns, caught)
-    return "shim 2; " + side_by_side(loop_of_tries, branches)
+HANDLERS = "shim 2; void main() { int k; while (k < %d) { try { } catch (%s) { } k = k + 1; } }\n"
 
 
 def forks_in_turn(turns):
@@ -182,7 +164,7 @@ SUM_OF_INPUT = """void main(istream &in) {
 }
 """
 READ_TO_THE_END = "void main(istream &in) { int byte; byte = get in; while (byte != -1) { byte = get in; } }\n"
-ENDLESS = side_by_side("{ int k; while (true) { k = k + 1; } }", 4)
+ENDLESS = "void main() { " + " par ".join(["{ int k; while (true) { k = k + 1; } }"] * 4) + " }\n"
 PIPE = """void main() {
   int a; int b; int n; n = 330000;
   { int k; while (k < n) { next a = k; k = k + 1; } }
@@ -271,7 +253,7 @@ TRIES = "try{}catch(T){}" * 35000
 def functions(part, head="void f@(int n) { "):
     """A thousand functions with these parts, as many as fit, each in its share of 1 MiB."""
     share = (MIB - 100) // 1000
-    return numbered(head + part * ((share - len(head) - 5) // len(part)) + "}\n", "void main() { }")
+    return "", head + part * ((share - len(head) - 5) // len(part)) + "}\n", "void main() { }", MIB, 1000
 
 
 def main_of(part, head="", tail=""):
@@ -291,20 +273,8 @@ def thrown(names, part):
     return thrower(names) + "void main() {" + "try{" * 61, part, "".join("}catch(%s){}" % name for name in names) + "}"
 
 
-def distinct_names():
-    """As many distinct names as fit: each the exception of a `try`."""
-    texts, left = ["void main() {"], MIB - 14
-    for name in itertools.chain.from_iterable(itertools.product(string.ascii_letters, repeat=n) for n in range(1, 9)):
-        text = "try{}catch(_%s){}" % "".join(name)
-        if len(text) > left:
-            return "".join(texts) + " " * left + "}"
-        texts.append(text)
-        left -= len(text)
-
-
 def of_1_mib(name):
-    shape = TEXTS[name]
-    text = filled(*shape) if isinstance(shape, tuple) else shape()
+    text = filled(*TEXTS[name])
     assert len(text) == MIB, (name, len(text))
     return text
 
@@ -363,13 +333,13 @@ TEXTS = {
     "spaces": main_of(" "),
     "comments": main_of("/**/"),
     "one long comment": main_of("*", "/*", "*/"),
-    "declarations": lambda: functions(";", "void f@(int n) { int " + ",".join("v%d" % n for n in range(64)) + ";"),
+    "declarations": functions(";", "void f@(int n) { int " + ",".join("v%d" % n for n in range(64)) + ";"),
     "names of 64": main_of("n" * 64 + "=" + "n" * 64 + ";", "int " + "n" * 64 + "; "),
     "the last of 96 names": (CROWDED, "a=a;", "} void main() { }"),
     "the last of 96 long names": (CROWDED_BY_LONG, LONG[0] + "=" + LONG[0] + ";", "} void main() { }"),
-    "functions": lambda: functions("n=n;"),
+    "functions": functions("n=n;"),
     "unknown at the end": main_of("a=a;", "int a; ", "x=1; "),
     "refused at the end": main_of("a=a;", "int a; ", ") "),
     "never closed": ("void main() { int a; ", "{", ""),
-    "distinct names": distinct_names,
+    "distinct names": main_of("try{}catch(_@){}"),
 }

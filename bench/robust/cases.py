@@ -21,7 +21,7 @@ def calls(line):
 
 
 def is_passed(case):
-    """Makes the calls of a case in a folder of its own, and tells of each case that it is right, or what differs."""
+    """Makes the calls of a case in a folder of its own, and tells that they are right, or what differs."""
     os.mkdir("case")
     os.chdir("case")
     for name, text in case.files.items():
@@ -31,23 +31,23 @@ def is_passed(case):
     shutil.rmtree("case")
     wrong = [answer for answer in answers if not common.same(answer, case)]
     for answer in wrong[:1]:
-        texts = [text[:2000].decode(errors="replace") for text in (answer.text, case.text)]
-        print("shim %s: status %d, and not %d\n%s\nand not\n%s" % (
-            " ".join(answer.words), answer.status, case.status, *texts))
+        print(common.told(answer), common.told(answer._replace(status=case.status, text=case.text)), sep="\nand not\n")
     print("%s %s (%d)" % ("FAILED" if wrong else "ok", case.title, len(answers)), flush=True)
     return not wrong
 
 
-def main():
-    wanted = sys.argv[1] if len(sys.argv) > 1 else ""
-    found = [case for case in common.cases() if wanted in case.title]
+def main(given):
+    found = [case for case in common.cases() if given.text in case.title]
     passed = [is_passed(case) for case in found if not case.failing]
     counts = sum(passed), passed.count(False), len(found) - len(passed)
     print("%d cases passed, %d failed, %d left out, which only the crate runs" % counts)
     if not found:
-        print("no case has this in its title: %s" % wanted)
-    return 0 if found and all(passed) else 1
+        sys.exit("no case has this in its title: %s" % given.text)
+    if not all(passed):
+        sys.exit(1)
 
 
 if __name__ == "__main__":
-    common.in_a_room(main)
+    words = common.words_of()
+    words.add_argument("text", nargs="?", default="", help="what the title of a case has")
+    common.start(main, words)

@@ -1,9 +1,10 @@
-"""What the scripts of this folder share: calls of ./shim with limits, examples, made programs, and the cases of the
-tool.
+"""What the scripts of this folder share: their words, calls of ./shim with limits, examples, made programs, and the
+cases of the tool.
 
-SHIM names the program, ./shim where nothing is said. Each script works in a folder of its own, which `in_a_room`
-makes.
+SHIM names the program, ./shim where nothing is said. A script ends with 1 where something differs, and with 2 where
+its words are none or there is no program.
 """
+import argparse
 import collections
 import glob
 import os
@@ -17,27 +18,47 @@ import time
 
 TOP = os.path.dirname(os.path.dirname(os.path.dirname(os.path.realpath(__file__))))
 SHIM = os.path.realpath(os.environ.get("SHIM", os.path.join(TOP, "shim")))
-sys.path.insert(0, os.path.join(TOP, "bench"))
+sys.path[:0] = [os.path.join(TOP, "bench"), os.path.join(TOP, "tools")]
 import made  # noqa: E402
 
 Answer = collections.namedtuple("Answer", "words status text error seconds kib")
 Case = collections.namedtuple("Case", "title lines files failing status text")
 
-# Three in a row that pass the bytes of the input on, until it ends by an exception.
-FILTER = """void reader(istream &i, int &a) throws Done {
-  int c;
-  c = get i;
-  while (c != -1) { next a = c; c = get i; }
-  throw Done;
-}
-void twice(int a, int &b) { while (1) { next a; next b = a * 2; } }
-void writer(int b, ostream &o) { while (1) { next b; put o, b; } }
-void main(istream &i, ostream &o) {
-  int a; int b;
-  try { reader(i, a); par twice(a, b); par writer(b, o); } catch (Done) { }
-}
-"""
-RING = "void main() { int a; int b; int c; { next a; next b; } par { next b; next c; } par { next c; next a; } }\n"
+
+def words_of(**numbers):
+    """A parser of the words of the script, whose own text is its help, with an option for each of these numbers."""
+    words = argparse.ArgumentParser(
+        description=sys.modules["__main__"].__doc__, formatter_class=argparse.RawDescriptionHelpFormatter)
+    for name, number in numbers.items():
+        words.add_argument("--" + name, type=int, default=number, help="%(default)s where nothing is said")
+    return words
+
+
+def start(main, words):
+    """Calls `main` with the words that are given, in a folder of its own, which stays where something differs."""
+    given = words.parse_args()
+    if not os.access(SHIM, os.X_OK):
+        words.error("there is no %s yet: make shim" % SHIM)
+    room = tempfile.mkdtemp()
+    os.chdir(room)
+    try:
+        main(given)
+    except (SystemExit, KeyboardInterrupt) as end:
+        print("kept in %s" % room, file=sys.stderr)
+        sys.exit(130 if isinstance(end, KeyboardInterrupt) else end.code)
+    os.chdir(TOP)
+    shutil.rmtree(room)
+
+
+def read(name):
+    with open(name, "rb") as file:
+        return file.read()
+
+
+def write(name, text):
+    with open(name, "wb") as out:
+        out.write(text if isinstance(text, bytes) else text.encode())
+    return name
 
 
 def ask(*words, before=(), seconds=60, **more):
@@ -55,7 +76,7 @@ def ask(*words, before=(), seconds=60, **more):
 
 
 def same(one, other):
-    """Whether two answers are the same, and nothing is on standard error."""
+    """Whether an answer is another one, or what a case wants, and has nothing on standard error."""
     return (one.status, one.text, one.error) == (other.status, other.text, b"")
 
 
@@ -63,40 +84,24 @@ def has_no_memory(answer):
     return (answer.status, answer.text, answer.error) == (8, b"no memory\n", b"")
 
 
-def differs(what, answer, wanted=None):
-    """Tells what differs, and ends the script."""
-    text = "differs: %s: shim %s: status %d" % (what, " ".join(answer.words), answer.status)
-    if wanted is not None:
-        text += ", and not %d" % wanted.status if answer.status != wanted.status else ", and another text"
-    sys.exit("%s\n%s" % (text, (answer.text[-2000:] + answer.error[-2000:]).decode(errors="replace")))
+def told(answer):
+    text = (answer.text[-2000:] + answer.error[-2000:]).decode(errors="replace")
+    return "shim %s: status %d\n%s" % (" ".join(answer.words), answer.status, text)
 
 
-def in_a_room(main):
-    """Calls `main` in a folder of its own, and ends with what it gives. The folder stays where something differs."""
-    if not os.access(SHIM, os.X_OK):
-        sys.exit("There is no ./shim yet: make shim")
-    room = tempfile.mkdtemp()
-    os.chdir(room)
-    try:
-        status = main()
-    except SystemExit as end:
-        if end.code:
-            print("kept in %s" % room, file=sys.stderr)
-        raise
-    os.chdir(TOP)
-    shutil.rmtree(room)
-    sys.exit(status)
+def differs(what, answer):
+    """Tells of an answer that is none, and ends the script."""
+    sys.exit("differs: %s: %s" % (what, told(answer)))
 
 
-def read(name):
-    with open(name, "rb") as file:
-        return file.read()
+def compare(what, answer, wanted):
+    """Ends the script where an answer isn't the wanted one."""
+    if not same(answer, wanted):
+        differs("%s: not %s\nbut" % (what, told(wanted)), answer)
 
 
-def write(name, text):
-    with open(name, "wb") as out:
-        out.write(text if isinstance(text, bytes) else text.encode())
-    return name
+def example(name):
+    return read(os.path.join(TOP, "examples", name))
 
 
 def examples():
@@ -104,17 +109,6 @@ def examples():
     for path in sorted(glob.glob(os.path.join(TOP, "examples", "*.shim"))):
         text = path[: -len(".shim")] + ".txt"
         yield [path, *(["--input", text] if os.path.exists(text) else [])]
-
-
-def made_programs(count):
-    """So many programs of bench/made.py that are accepted, in the file made.shim: the number and the text of each."""
-    number = 0
-    while count > 0:
-        number += 1
-        text = made.Maker(number).program()
-        if ask("check", write("made.shim", text)).status == 0:
-            count -= 1
-            yield number, text
 
 
 def body_of(form, body):
@@ -129,19 +123,17 @@ def cases():
     """The cases of the tool: of each its lines of words, files, whether only the crate can run it, status and text."""
     for path in sorted(glob.glob(os.path.join(TOP, "crates/shim_conformance/data/*.cases"))):
         for part in re.split(rb"^=== case ", read(path), flags=re.M)[1:]:
-            title, rest = part.split(b"\n", 1)
-            lines, files, failing, status, text = [], {}, False, None, None
-            for section in re.split(rb"^=== (?!repeat )", rest, flags=re.M)[1:]:
+            title, *sections = re.split(rb"^=== (?!repeat )", part, flags=re.M)
+            lines, files, failing, right = [], {}, False, {}
+            for section in sections:
                 head, _, body = section.partition(b"\n")
                 kind, _, value = head.decode().partition(" ")
                 if kind == "words":
                     lines.append(value)
                 elif kind in ("file", "bare", "hex"):
                     files[value] = body_of(kind, body)
-                elif kind == "status":
-                    status = int(value)
-                elif kind == "text":
-                    text = body_of(value, body)
+                elif kind in ("status", "text"):
+                    right[kind] = int(value) if kind == "status" else body_of(value, body)
                 elif kind != "end":  # reads or writes that fail, or what lies inside
                     failing = True
-            yield Case(title.decode(), lines, files, failing, status, text)
+            yield Case(title.decode().strip(), lines, files, failing, **right)

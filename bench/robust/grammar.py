@@ -7,30 +7,68 @@ for each beginning of a source whose last byte ends its `main`.
 Use: bench/robust/grammar.py SOURCE
      bench/robust/grammar.py TITLE SOURCE > crates/shim_conformance/data/prefixes.cases
 """
+import collections
 import itertools
 import re
 import sys
 
+import common
+from shimtools import syntax
+
 NEW_TYPE = "int64"  # a type in version 2, and a name in version 1
-OLD_TYPES = set("bool int int8 int16 int32 uint8 uint16 uint32".split())
-TYPES = OLD_TYPES | {NEW_TYPE}
-STREAMS = {"istream", "ostream"}
-KEYWORDS = OLD_TYPES | STREAMS | set(
-    "void throws next get put if else while for try catch throw par true false".split())
-STATEMENTS = TYPES | set("; name next put if while for try throw {".split())
-OPERANDS = set("number name true false ( - ! ~".split())
-SKIPPED = re.compile(rb"(?:[\t-\r ]|//[^\n]*|/\*.*?\*/)*", re.DOTALL)
-TOKEN = re.compile(
-    rb"(?P<name>[A-Za-z_][A-Za-z0-9_]*)|(?P<number>0[xX][0-9A-Fa-f]+|[0-9]+)"
-    rb"|(?P<sign><<|>>|<=|>=|==|!=|&&|\|\||[(){},;=&^|+\-*/%~!<>])"
-)
-ROWS = ["||", "&&", "|", "^", "&", "== !=", "< <= > >=", "<< >>", "+ -", "* / %"]
-TIGHTNESS = {sign: row for row, signs in enumerate(ROWS) for sign in signs.split()}
-TIGHTEST = len(ROWS)
+TIGHTNESS = {sign: 10 - row for row, signs in enumerate(syntax.ROWS, 1) for sign in signs}
+TIGHTEST = 10
+MOST = {"functions": 1024, "parameters": 32, "throws": 16, "locals": 64, "branches": 64, "operators": 256,
+        "arguments": 32}
 DEEPEST = 64
-CANONICAL = {"int": "int32", "true": "1", "false": "0", NEW_TYPE: NEW_TYPE}
 RENAMED = "\0"  # stands for a name `int64` until the whole text is read
-EMPTY = "{\n}\n"
+
+# Of each rule what it reads, one way or another, as the next token decides. A word with a great letter is a rule, and
+# others are tokens. Behind a word, + is for a level more, ? for one or none, * for any number, and a comma for a list
+# with commas, behind which stands what is counted. By itself, LEVEL asks for the level and LOCALS counts a name that
+# is declared, both when the next token is taken, and TWO is there in version 2 alone.
+WORD = re.compile(r"([A-Za-z]+|\S)(\+?)([?*,]?)([a-z]*)")
+RULES = {rule: [[WORD.fullmatch(word).groups() for word in way.split()] for way in ways.split(" | ")]
+         for rule, ways in (line.split(": ") for line in """
+Function: void name ( Parameters? ) Throws? Block
+Parameters: Void | Parameter,parameters
+Void: void
+Parameter: type &? name | Stream
+Stream: stream &? name
+Throws: throws name,throws
+Block: { Statement* }
+Statement: LEVEL Plain
+Plain: Empty | Block+ Branches | Declarations | name Named | Simple ; | Test | For | Try
+Simple: next name Value? | put name , Whole | throw name Number?
+Test: if InParentheses Body+ Else? | while InParentheses Body+
+For: for ( First+? ; Whole? ; Step+? ) Body+
+Try: try Block+ catch ( name Variable? ) Block+
+Empty: ;
+Declarations: type Declared, ;
+Declared: LOCALS name Value?
+Value: = Whole
+Named: Arguments ; Branches | = Source ;
+Arguments: ( Values? )
+Values: Whole,arguments
+Source: next name | get name | Whole
+InParentheses: ( Whole )
+Else: else Body+
+First: LEVEL type Declared | Step
+Step: LEVEL name = Whole
+Variable: TWO LOCALS name
+Number: TWO InParentheses
+Branch: Block+ | name Arguments ;
+Whole: name | number | ( | - | ! | ~
+""".strip().splitlines())}
+# How the canonical text of a rule differs from those of its words in turn.
+CANONICAL = {
+    "Void": lambda void: "",
+    "Empty": lambda end: "",
+    "Stream": lambda stream, _, name: stream + "& " + name,
+    "Declarations": lambda sort, declared, end: "".join(sort + one + end for one in declared),
+    "Else": lambda word, body: "" if body == "{\n}\n" else word + body,
+    "For": lambda *parts: "".join("; " if part == ";\n" else part for part in parts),
+}
 
 
 class Fault(Exception):
@@ -44,273 +82,139 @@ def bracketed(operand, row):
 
 
 class Parser:
-    """Reads a text token by token. `deepest` is the deepest level of what was read in the block that `body` reads.
+    """Reads a text token by token. `due` is asked for when the next token is taken: levels, and counts of what it
+    begins. `deepest` is the deepest level of what was read in the block that `body` reads.
 
-    A method that reads something gives its canonical text, in which a blank stands behind each token."""
+    A method that reads something gives its canonical text, in which a blank or a line feed stands behind each token."""
 
     def __init__(self, text):
-        self.text = text
-        self.past = 0  # where the current token ends
+        self.text, self.tokens = text, syntax.tokens(text)
         self.version = 1
-        self.names = set()
-        self.locals = self.operators = self.functions = self.deepest = 0
+        self.names, self.due, self.counts = set(), [], collections.Counter()
+        self.deepest, self.fresh = 0, None
         self.go_on()
 
-    def refuse(self, what, at=None):
-        at = self.at if at is None else at
-        line = 1 + self.text.count(b"\n", 0, at)
-        raise Fault("refused %d %s" % (line, what % at if "%d" in what else what))
-
-    def unexpected(self):
-        self.refuse("unexpected %d")
+    def refuse(self, what):
+        line = 1 + self.text.count(b"\n", 0, self.at)
+        raise Fault("refused %d %s" % (line, what % self.at if "%d" in what else what))
 
     def go_on(self):
-        """Goes on to the next token: `kind` is its word or sign, or `name`, `number` or `end`; `value` what it is."""
-        at = self.at = SKIPPED.match(self.text, self.past).end()
-        if at == len(self.text):
-            self.kind = "end"
-            return
-        if self.text.startswith(b"/*", at):
-            self.refuse("open comment %d")
-        found = TOKEN.match(self.text, at)
-        if not found:
-            self.refuse("bad byte %d")
-        self.kind = self.value = word = found.group().decode()
-        self.past = found.end()
-        if found.lastgroup == "number":
-            self.kind, self.value = "number", int(word, 16 if word[:2] in ("0x", "0X") else 10)
-            if self.value >= 1 << 63:
+        """Goes on to the next token: `kind` is its word or sign, or `type`, `stream`, `name`, `number` or `end`, and
+        `value` its canonical text."""
+        try:
+            token = next(self.tokens, syntax.Token("end", "", len(self.text), 0))
+        except syntax.NoToken as fault:
+            self.at = fault.at
+            self.refuse("open comment %d" if self.text.startswith(b"/*", self.at) else "bad byte %d")
+        self.at, self.kind, self.value = token.at, token.kind, "int32" if token.text == "int" else token.text
+        if self.kind in ("number", "constant"):
+            self.kind, self.value = "number", str(token.value())
+            if token.value() >= 1 << 63:
                 self.refuse("big number %d")
-        elif found.lastgroup == "name" and word not in KEYWORDS and not (self.version == 2 and word == NEW_TYPE):
-            self.kind = "name"
-            if len(word) > 64:
-                self.refuse("long name %d")
+        if self.kind in ("keyword", "sign"):
+            self.kind = token.text
+        if self.kind == "name" and len(token.text) > 64:
+            self.refuse("long name %d")
 
     def take(self, *kinds):
-        """Takes a token of one of these kinds, or of any where none is said."""
-        if kinds and self.kind not in kinds:
-            self.unexpected()
-        text = CANONICAL.get(self.kind, self.value)
+        """Takes a token of one of these kinds."""
+        if self.kind not in kinds:
+            self.refuse("unexpected %d")
+        levels = [number for what, number in self.due if what == "level"]
+        self.deepest = max([self.deepest, *levels])
+        if levels and max(levels) > DEEPEST:
+            self.refuse("too deep")
+        for what, number in self.due:
+            if what != "level" and number > MOST[what]:
+                self.refuse("too many " + what)
+        self.due = []
+        text = self.value
         if self.kind == "name":
             self.names.add(text)
             text = RENAMED if text == NEW_TYPE else text
         self.go_on()
-        return "%s " % text
+        return text + ("\n" if text in ("{", "}", ";") else " ")
 
-    def takes(self, kind):
-        """Takes a token of that kind if it is there, and gives no text where it isn't."""
-        return self.take() if self.kind == kind else ""
+    def count(self, what):
+        self.counts[what] += 1
+        self.due.append((what, self.counts[what]))
 
-    def listed(self, read):
-        """What is read once, and again behind each comma; `read` is given its number, from 1 on."""
-        text = read(1)
-        for number in itertools.count(2):
-            comma = self.takes(",")
-            if not comma:
-                return text
-            text += comma + read(number)
+    def fits(self, words):
+        """Whether the next token may begin what these words read."""
+        for what, _, times, _ in words:
+            if what == "TWO" and self.version == 1:
+                return False
+            if self.kind == what or any(map(self.fits, RULES.get(what, []))):
+                return True
+            if what not in ("TWO", "LEVEL", "LOCALS") and times not in ("?", "*"):
+                return False
+        return False
 
-    def below(self, level):
-        if level > DEEPEST:
-            self.refuse("too deep")
-        self.deepest = max(self.deepest, level)
+    def read(self, what, level):
+        """A token, or what a rule reads."""
+        own = getattr(self, "read_" + what.lower(), None)
+        if own:
+            return own(level)
+        if what not in RULES:
+            return self.take(what)
+        words = next(filter(self.fits, RULES[what]), None) or self.refuse("unexpected %d")
+        parts = [self.word(word, level) for word in words]
+        if what in CANONICAL:
+            return CANONICAL[what](*parts)
+        return "".join(", ".join(part) if isinstance(part, list) else part for part in parts)
 
-    def at_most(self, most, count, what):
-        if count > most:
-            self.refuse("too many " + what)
+    def word(self, word, level):
+        """What a word of a rule reads, as a list where it is one."""
+        what, deeper, times, counted = word
+        level, texts = level + len(deeper), []
+        if what == "LOCALS":
+            self.count("locals")
+        elif what == "LEVEL":
+            self.due.append(("level", level))
+        elif times == ",":
+            while not texts or self.kind == ",":
+                if texts:
+                    self.take(",")
+                self.due += [(counted, len(texts) + 1)] * bool(counted)
+                texts.append(self.read(what, level))
+            return texts
+        elif times:
+            while self.fits([word]) and (times == "*" or not texts):
+                texts.append(self.read(what, level))
+        elif what != "TWO":
+            return self.read(what, level)
+        return "".join(texts)
 
-    def program(self, to_two=False):
-        """The whole program, in its own version or in version 2."""
-        self.header()
-        text = ""
-        while self.kind != "end":
-            if self.kind != "void":
-                self.unexpected()
-            self.functions += 1
-            self.at_most(1024, self.functions, "functions")
-            text += self.function()
-        fresh = next("v%d" % number for number in itertools.count() if "v%d" % number not in self.names)
-        text = text.replace(RENAMED, fresh if to_two else NEW_TYPE)
-        return "shim 2 ;\n" + text if to_two or self.version == 2 else text
-
-    def header(self):
-        """What a text of version 2 begins with. No program of version 1 begins with the word `shim`."""
-        if self.kind != "name" or self.value != "shim":
-            return
-        self.go_on()
-        if self.kind != "number" or self.value != 2:
-            self.unexpected()
-        self.go_on()
-        self.version = 2
-        self.take(";")
-
-    def function(self):
-        self.locals = 0
-        text = self.take("void") + self.take("name") + self.take("(")
-        if not self.takes("void") and self.kind != ")":
-            text += self.listed(self.parameter)
-        text += self.take(")")
-        if self.kind == "throws":
-            text += self.take() + self.listed(self.exception)
-        return text + self.block(1)
-
-    def parameter(self, number):
-        is_stream = self.kind in STREAMS
-        if not is_stream and self.kind not in TYPES:
-            self.unexpected()
-        self.at_most(32, number, "parameters")
-        text = self.take()
-        sign = self.takes("&")
-        return text + ("& " if sign or is_stream else "") + self.take("name")
-
-    def exception(self, number):
-        if self.kind == "name":
-            self.at_most(16, number, "throws")
-        return self.take("name")
-
-    def block(self, level):
-        """The statements in braces, which have that level."""
-        self.take("{")
-        text = ""
-        while self.kind != "}":
-            text += self.statement(level)
-        self.take("}")
-        return "{\n" + text + "}\n"
-
-    def end(self):
-        self.take(";")
-        return ";\n"
-
-    def statement(self, level):
-        kind = self.kind
-        if kind not in STATEMENTS:
-            self.unexpected()
-        self.below(level)
-        if kind == "{":
-            return self.block(level + 1) + self.branches(level)
-        text = self.take()
-        if kind == ";":
-            return ""
-        if kind in TYPES:
-            return self.declarations(text, level)
-        if kind == "name":
-            return text + (self.call(level) if self.kind == "(" else self.assigned_here(level))
-        if kind == "next":
-            return text + self.take("name") + self.value_behind(level) + self.end()
-        if kind == "put":
-            return text + self.take("name") + self.take(",") + self.expression(level) + self.end()
-        if kind == "for":
-            return text + self.heading(level) + self.body(level + 1)
-        if kind == "try":
-            text += self.block(level + 1) + self.take("catch") + self.take("(") + self.take("name")
-            if self.version == 2 and self.kind == "name":
-                text += self.declared_name()
-            return text + self.take(")") + self.block(level + 1)
-        if kind == "throw":
-            text += self.take("name")
-            return text + (self.test(level) if self.version == 2 and self.kind == "(" else "") + self.end()
-        text += self.test(level) + self.body(level + 1)
-        if kind == "if" and self.takes("else"):
-            other = self.body(level + 1)
-            text += "else " + other if other != EMPTY else ""
-        return text
-
-    def test(self, level):
-        return self.take("(") + self.expression(level) + self.take(")")
-
-    def body(self, level):
+    def read_body(self, level):
         """A body of that level: braces are no statement of their own, unless they turn out to be a branch."""
         if self.kind != "{":
-            return "{\n" + self.statement(level) + "}\n"
+            return "{\n" + self.read("Statement", level) + "}\n"
         around, self.deepest = self.deepest, 0
-        text = self.block(level)
+        text = self.read("Block", level)
         if self.kind == "par":
-            self.below(max(self.deepest + 1 if self.deepest else 0, level))
-            text = "{\n" + text + self.branches(level) + "}\n"
+            self.due.append(("level", max(self.deepest + 1 if self.deepest else 0, level)))
+            text = "{\n" + text + self.read_branches(level) + "}\n"
         self.deepest = max(self.deepest, around)
         return text
 
-    def branches(self, level):
+    def read_branches(self, level):
         """What stands behind the first branch of a fork of that level, if it is one."""
-        text = ""
-        for number in itertools.count(2):
-            par = self.takes("par")
-            if not par:
-                return text
-            if self.kind not in ("{", "name"):
-                self.unexpected()
-            self.at_most(64, number, "branches")
-            if self.kind == "{":
-                text += par + self.block(level + 1)
-            else:
-                text += par + self.take() + self.arguments(level) + self.end()
-
-    def call(self, level):
-        return self.arguments(level) + self.end() + self.branches(level)
-
-    def arguments(self, level):
-        text = self.take("(")
-        if self.kind != ")":
-            text += self.listed(lambda number: self.expression(level, number))
-        return text + self.take(")")
-
-    def assigned_here(self, level):
-        """What stands behind the name in a statement that assigns to it."""
-        text = self.take("=")
-        if self.kind in ("next", "get"):
-            return text + self.take() + self.take("name") + self.end()
-        return text + self.expression(level) + self.end()
-
-    def declarations(self, sort, level):
-        text = sort + self.declared(level) + ";\n"
-        while self.takes(","):
-            text += sort + self.declared(level) + ";\n"
-        self.take(";")
+        text, number = "", 1
+        while self.kind == "par":
+            text += self.take("par")
+            number += 1
+            self.due.append(("branches", number))
+            text += self.read("Branch", level)
         return text
 
-    def declared(self, level):
-        return self.declared_name() + self.value_behind(level)
+    def read_whole(self, level):
+        """An expression."""
+        self.counts["operators"] = 0
+        return self.operands(0, level)[1]
 
-    def declared_name(self):
-        if self.kind != "name":
-            self.unexpected()
-        self.locals += 1
-        self.at_most(64, self.locals, "locals")
-        return self.take()
-
-    def value_behind(self, level):
-        sign = self.takes("=")
-        return sign and sign + self.expression(level)
-
-    def heading(self, level):
-        """The parentheses of a `for` of that level."""
-        text = self.take("(")
-        if self.kind in TYPES:
-            self.below(level + 1)
-            text += self.take() + self.declared(level + 1)
-        elif self.kind == "name":
-            text += self.assigned(level + 1)
-        text += self.take(";")
-        if self.kind != ";":
-            text += self.expression(level)
-        text += self.take(";")
-        if self.kind != ")":
-            text += self.assigned(level + 1)
-        return text + self.take(")")
-
-    def assigned(self, level):
-        if self.kind != "name":
-            self.unexpected()
-        self.below(level)
-        return self.take() + self.take("=") + self.expression(level)
-
-    def expression(self, level, argument=1):
-        self.operators = 0
-        return self.operands(0, level, argument)[1]
-
-    def operands(self, row, level, argument=1):
+    def operands(self, row, level):
         """What has operators of that row or tighter ones: the row of its outermost operator, and its text."""
-        left = self.operand(level, argument)
+        left = self.operand(level)
         while TIGHTNESS.get(self.kind, -1) >= row:
             tightness = TIGHTNESS[self.kind]
             sign = self.operator()
@@ -319,50 +223,65 @@ class Parser:
         return left
 
     def operator(self):
-        self.operators += 1
-        self.at_most(256, self.operators, "operators")
-        return self.take()
+        self.count("operators")
+        return self.take(self.kind)
 
-    def operand(self, level, argument=1):
-        kind = self.kind
-        if kind not in OPERANDS:
-            self.unexpected()
-        self.below(level)
-        self.at_most(32, argument, "arguments")
-        if kind in ("-", "!", "~"):
+    def operand(self, level):
+        self.due.append(("level", level))
+        if self.kind in ("-", "!", "~"):
             return TIGHTEST, self.operator() + bracketed(self.operand(level + 1), TIGHTEST)
-        text = self.take()
-        if kind != "(":
+        text = self.take("name", "number", "(")
+        if text != "( ":
             return TIGHTEST, text
         inside = self.operands(0, level + 1)
         self.take(")")
         return inside
 
+    def program(self):
+        """The whole program in version 2. What a text of that begins with, no program of version 1 begins with."""
+        if self.kind == "name" and self.value == "shim":
+            self.go_on()
+            if self.kind != "number" or self.value != "2":
+                self.refuse("unexpected %d")
+            self.go_on()
+            self.version = 2
+            self.take(";")
+        text = "shim 2 ;\n"
+        while self.kind != "end":
+            self.count("functions")
+            self.counts["locals"] = 0
+            text += self.read("Function", 1)
+        if RENAMED in text:
+            self.fresh = next("v%d" % number for number in itertools.count() if "v%d" % number not in self.names)
+        return text.replace(RENAMED, self.fresh or "")
+
 
 def read(text):
-    """The program of these bytes in version 2 and None, or None and the line that refuses them, without its line
-    feed."""
+    """The program of these bytes in version 2, None, and the name there that stands for `int64`, if one does; or None,
+    the line that refuses them, without its line feed, and None."""
     try:
-        return Parser(text).program(to_two=True), None
+        parser = Parser(text)
+        return parser.program(), None, parser.fresh
     except Fault as fault:
-        return None, fault.args[0]
+        return None, fault.args[0], None
 
 
 def main():
-    *title, path = sys.argv[1:]
-    with open(path, "rb") as file:
-        source = file.read()
-    if not title:
-        text, fault = read(source)
+    words = common.words_of()
+    words.add_argument("title", nargs="?", help="that of the cases")
+    words.add_argument("source")
+    given = words.parse_args()
+    source = common.read(given.source)
+    if given.title is None:
+        text, fault, _ = read(source)
         print(fault or text, end="\n" if fault else "")
         return 5 if fault else 0
     print("# Each beginning of a source that lacks its last byte or more, as bench/robust/grammar.py makes and answers "
           "them.")
     for length in range(len(source.rstrip())):
         prefix = source[:length]
-        print("\n" if length else "", end="")
-        print("=== case the first %d bytes of %s\n=== words {run|check} p.shim\n=== bare p.shim" % (length, *title))
-        print(prefix.decode() + "\n" if prefix else "", end="")
+        print("\n" * (length > 0) + "=== case the first %d bytes of %s" % (length, given.title))
+        print("=== words {run|check} p.shim\n=== bare p.shim\n" + (prefix.decode() + "\n") * (length > 0), end="")
         print("=== status 5\n=== text\n%s\n=== end" % (read(prefix)[1] or "refused 1 no main"))
     return 0
 
