@@ -109,8 +109,10 @@ def main():
         same("%s, bars end" % name, of(("deactivate", "destroy")), of(("participant",)))
     text = call(DRAW, "run", *oven, "--channels", "reached")[0]
     same("one channel, and who forked", bars(text)[-1], ("deactivate", "p"))
-    for cut, said in ((("--from", "40", "--to", "10"), "from step 40 to step 10; the run has 11 steps"),
-                      (("--from", "1000"), "from step 1000 to step 4000000; the run has 55 steps")):
+    for cut, said in ((("--from", "40", "--to", "10"), "from step 40 to step 10"),
+                      (("--from", "60", "--to", "70"), "from step 60 to step 70; the run has 55 steps"),
+                      (("--from", "40", "--to", "10", "--budget", "50"), "from step 40 to step 10; the run has 50 steps"),
+                      (("--from", "1000"), "from step 1000 on; the run has 55 steps")):
         same("nothing from there", call(DRAW, "run", *oven, *cut), ("", "shim-draw: nothing that is drawn happens %s\n" % said, 2))
     # Waits in a run that is blocked, names that PlantUML would underline, and a run that never ends.
     text = call(DRAW, "run", "examples/deadlock.shim")[0]
@@ -147,9 +149,14 @@ def main():
         with open(alone, "w") as out:
             out.write("void main() { while (1) { } }\n")
         command = 'timeout --foreground --preserve-status -s INT 2 "$1" run "$2" --budget 4000000'
+        text, error, status = call(DRAW, "run", alone, "--budget", "50")
+        same("a run of which nothing is drawn", (bars(text), text.splitlines()[-2], error, status), ([("participant", "p"), ("activate", "p")], "== end spent 50 ==", "", 0))
         same("Ctrl-C", call("bash", "-c", command, "bash", DRAW, alone), ("", "shim-draw: stopped: nothing is drawn\n", 130))
     same("no such channel", call(DRAW, "run", *filter, "--channels", "nothing")[1:], ("shim-draw: none of nothing has a meeting there\n", 1))
-    # Waits, and what isn't blocked.
+    same("without arguments", call(DRAW)[1].splitlines()[-1], "shim-draw: error: the following arguments are required: {run,why}, FILE")
+    # Waits, what isn't blocked, and options of `run`.
+    for name, value in (("--journal", "nowhere"), ("--from", "0"), ("--to", "5"), ("--channels", "tray")):
+        same("why %s" % name, call(DRAW, "why", "examples/packing.shim", name, value), ("", "shim-draw: %s is an option of run\n" % name, 2))
     text = call(DRAW, "why", "examples/packing.shim")[0]
     same("waits", re.findall(r'"(\S+)" -> "(\S+)" \[label="waits to meet on (\w+)"', text),
          [("main/0.0", "main/0.2", "tray"), ("main/0.1", "main/0.0", "sheet"), ("main/0.2", "main/0.1", "part")])
