@@ -7,7 +7,7 @@ use Rattle.shim_semantics.specs.Endings.{ended}
 use Rattle.shim_semantics.specs.Sound.{SharesItsOwn}
 use Rattle.shim_laws_replay.specs.Journals.{Entry, replay, IsReachedBy}
 
--- A schedule with this budget has ended at the tree: nothing can happen in it, or something can and the steps of the budget were taken.
+-- A run within this budget is over at the tree: no event is enabled, or one is and the steps of the budget were taken.
 abbrev pub HasEnded : {S : Type 0} → Ops S → ℕ → Tree S → Type 0
 HasEnded o b t = ((steps t ≤ b) × IsQuiescent o t) ⊎ ((steps t ≡ b) × (IsQuiescent o t → ⊥))
 

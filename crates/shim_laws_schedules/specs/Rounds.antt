@@ -5,7 +5,7 @@ use Rattle.shim_semantics.specs.Trees.{Tree, after}
 use Rattle.shim_semantics.specs.Walks.{walk}
 use Rattle.shim_laws_schedules.specs.Orders.{round_of, rounds_of}
 
--- the events that are enabled now happen in the order of the walk, each where it still is
+-- the events that are enabled now happen in the order of the walk, each if it is still enabled in its turn
 abbrev pub round : {S : Type 0} → Ops S → Tree S → Tree S
 round o = round_of (after o) (λ t. walk o t.root)
 

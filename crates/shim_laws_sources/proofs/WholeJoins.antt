@@ -7,7 +7,7 @@ use Rattle.shim_local.specs.Laws.{AllOf}
 use Rattle.shim_units.specs.declared.unit.UBranch.{UBranch}
 use Rattle.shim_units.specs.declared.unit.Arg.{Arg}
 use Rattle.shim_units.specs.declared.unit.Arg.TheVariants.{Ref, Pass, Fresh}
-use Rattle.shim_process.specs.Locations.{Location, Locations, Ownership, Own, Lent, Copy, at_number, regained, with_back}
+use Rattle.shim_process.specs.Locations.{Location, Locations, Ownership, Own, Lent, Copy, at_number, restored, with_back}
 use Rattle.shim_process.specs.Todo.{On}
 use Rattle.shim_process.specs.LocalState.{LocalState, number_of}
 use Rattle.shim_process.specs.Ends.{gone}
@@ -25,14 +25,14 @@ use Rattle.shim_base.proofs.Facts.{some_same, choose}
 
 -- what comes back to a location leaves it on its channel, and owned where it was
 
-owned_back : (b m : Ownership) → IsOwned m → IsOwned (regained b m)
+owned_back : (b m : Ownership) → IsOwned m → IsOwned (restored b m)
 owned_back Own Own h = tt
 owned_back Own Lent h = tt
 owned_back Own Copy h = h
 owned_back Lent m h = h
 owned_back Copy m h = h
 
-copy_back : (b m : Ownership) → regained b m ≡ Copy → m ≡ Copy
+copy_back : (b m : Ownership) → restored b m ≡ Copy → m ≡ Copy
 copy_back Own Own e = absurd cc
 copy_back Own Lent e = absurd cc
 copy_back Own Copy e = refl
@@ -74,7 +74,7 @@ record IsOwnAt (xs : Locations) (n : ℕ) : Type 0 where
   at : at_number xs n ≡ Some place
   own : place.ownership ≡ Own
 
-own_back : (b m : Ownership) → m ≡ Own → regained b m ≡ Own
+own_back : (b m : Ownership) → m ≡ Own → restored b m ≡ Own
 own_back Own Own e = refl
 own_back Own Lent e = refl
 own_back Own Copy e = absurd cc
@@ -86,7 +86,7 @@ own_now xs n o None x at e own = absurd cc
 own_now xs n None (Some w) x at e own = record { place = w; at = put_at xs n w w at; own = ap (λ (r : Location). r.ownership) (some_same w x e) ∙ own }
 own_now xs n (Some back) (Some w) x at e own =
     let is_own : w.ownership ≡ Own = ap (λ (r : Location). r.ownership) (some_same w x e) ∙ own in
-    let new : Location = record w { value = back.value; ownership = regained back.ownership w.ownership } in
+    let new : Location = record w { value = back.value; ownership = restored back.ownership w.ownership } in
     record { place = new; at = put_at xs n w new at; own = own_back back.ownership w.ownership is_own }
 
 own_one : (xs : Locations) (i n : ℕ) (o : Option Location) → IsOwnAt xs n → IsOwnAt (back_at xs i o) n
@@ -113,7 +113,7 @@ not_lent_own Own h n = refl
 not_lent_own Lent h n = absurd (n refl)
 not_lent_own Copy h n = absurd h
 
-regains : (b m : Ownership) → b ≡ Own → IsOwned m → regained b m ≡ Own
+regains : (b m : Ownership) → b ≡ Own → IsOwned m → restored b m ≡ Own
 regains Own Own e h = refl
 regains Own Lent e h = refl
 regains Own Copy e h = absurd h
@@ -127,7 +127,7 @@ own_again xs n x back None (Some w) at e f owned own = absurd cc
 own_again xs n x back (Some b) (Some w) at e f owned own =
     let same : w ≡ x = some_same w x e in
     let also : b ≡ back = some_same b back f in
-    let new : Location = record w { value = b.value; ownership = regained b.ownership w.ownership } in
+    let new : Location = record w { value = b.value; ownership = restored b.ownership w.ownership } in
     record { place = new; at = put_at xs n w new at; own = regains b.ownership w.ownership (ap (λ (r : Location). r.ownership) also ∙ own) (subst (λ (r : Location). IsOwned r.ownership) (sym same) owned) }
 
 gives : (slots : List ℕ) (j : ℕ) (args : List Arg) (k : LocalState) (n : ℕ) (c : Channel) (xs : Locations) → NoneLent k.locations → GivesBack slots j args k n c → OwnedOn xs n c → IsOwnAt (taken_back slots j args k.locations xs) n

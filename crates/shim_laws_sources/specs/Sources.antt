@@ -25,7 +25,7 @@ is_place (Some n) = true
 abbrev pub holds_input : LocalState → Bool
 holds_input l = is_place l.input_at
 
--- at most one process of the tree has the input, whatever came of it
+-- at most one process of the tree has the input; processes that ended or died count, too
 abbrev pub HasOneInput : Tree LocalState → Type 0
 HasOneInput t = how_many holds_input (everyone t.root) ≤ 1
 

@@ -13,9 +13,9 @@ use Rattle.shim_laws_schedules.proofs.Unshared.{is_unshared_still}
 use Rattle.shim_laws_schedules.proofs.Homes.{unshared_is_unshared, ready_has_sharer}
 use Rattle.shim_base.proofs.Facts.{some_same, none_some, and_false, false_unless}
 use Rattle.shim_laws_table.specs.Seen.{ProcessStatus, forks, seen, place, how_many_nodes}
-use Rattle.shim_laws_table.specs.Agrees.{RecordView, Has, Agrees, Shows}
+use Rattle.shim_laws_table.specs.Agrees.{RecordView, Has, Agrees, Represents}
 use Rattle.shim_laws_table.specs.Places.{IsReplaced}
-use Rattle.shim_laws_table.specs.Counts.{Tally, tally_of, joins, isnt_ready, fails, count, bit, is_missing, Reading, reading, read_of, all_there, IsExchanged}
+use Rattle.shim_laws_table.specs.Counts.{Tally, tally_of, joins, isnt_ready, fails, count, bit, is_missing, ChildStatus, child_status, fork_status, tally_ready, IsExchanged}
 use Rattle.shim_laws_table.specs.Tallied.{Tallied, OnTheWay, is_above, HaveCounts}
 use Rattle.shim_laws_table.specs.Updating.{AreLinked, AreAtMost, CanMove, AreMoved, UpdatedAbove, too_far, at_top, no_counts, stays, goes_on, CountsFollow}
 use Rattle.shim_laws_table.proofs.Aside.{as_many}
@@ -58,7 +58,7 @@ room : (y is was now many most : ℕ) → now + was ≡ y + is → now ≤ many 
 room y is was now many most e f g = omega (arith, e, f, g)
 
 module _ {S : Type 0} (o : Ops S) (rp : Path) (records : List S) (stands : List RecordView) (c : Channel) (up : ℕ → Option ℕ) (most : ℕ) (root a new : Node S) (q : List ℕ)
-    (shown : Shows o rp records stands new) (is_new : new ≡ put q a root) (linked : AreLinked records stands up) (few : AreAtMost most records stands) where
+    (shown : Represents o rp records stands new) (is_new : new ≡ put q a root) (linked : AreLinked records stands up) (few : AreAtMost most records stands) where
   ok : Agrees o rp records stands (put q a root)
   ok = subst (Agrees o rp records stands) is_new shown.agrees
 
@@ -106,8 +106,8 @@ module _ {S : Type 0} (o : Ops S) (rp : Path) (records : List S) (stands : List 
         as_many_are = sym (as_many b.branch t a v.children) ∙ fork_count (how_many_nodes (put_child b.branch t a v.children)) b.many (ap (λ z. z.1) see);
       }
 
-  module _ (x j f : ℕ) (s : S) (t : List ℕ) (m : Node S) (u : Up x j s t m) (before behind : ℕ → Option Tally) (was is : Reading) (y z : Tally) (step : AreMoved most before j was is y z behind)
-      (have : HaveCounts o rp records stands c before new) (read : reading o c m ≡ was) (reads : reading o c (put t a m) ≡ is) (way : On before (place o rp s)) where
+  module _ (x j f : ℕ) (s : S) (t : List ℕ) (m : Node S) (u : Up x j s t m) (before behind : ℕ → Option Tally) (was is : ChildStatus) (y z : Tally) (step : AreMoved most before j was is y z behind)
+      (have : HaveCounts o rp records stands c before new) (read : child_status o c m ≡ was) (reads : child_status o c (put t a m) ≡ is) (way : On before (place o rp s)) where
     abbrev r : List ℕ
     r = place o rp u.fork
 
@@ -123,48 +123,48 @@ module _ {S : Type 0} (o : Ops S) (rp : Path) (records : List S) (stands : List 
 
     moves : (g : Node S → Bool) (w v : Bool) (d : ℕ) → g m ≡ w → g (put t a m) ≡ v → count g u.children ≡ d → (bit w ≤ d) × (d + bit v ≤ most + bit w)
     moves g w v d e f i =
-        let least = counted_least g u.branch u.children m u.child in
+        let min_dead_label = counted_least g u.branch u.children m u.child in
         let changed = count_changed g u.branch t u.children m a u.child in
         let new_most = counted_most g (put_child u.branch t a u.children) in
         let many = as_many u.branch t a u.children ∙ u.as_many_are in
         let fits = few j u.first u.many u.fork u.has in
         let e' = ap bit e in
         let f' = ap bit f in
-        (omega (arith, least, e', i), room d (bit v) (bit w) (count g (put_child u.branch t a u.children)) (how_many_nodes (put_child u.branch t a u.children)) most (omega (arith, changed, e', f', i)) new_most (omega (arith, many, fits)))
+        (omega (arith, min_dead_label, e', i), room d (bit v) (bit w) (count g (put_child u.branch t a u.children)) (how_many_nodes (put_child u.branch t a u.children)) most (omega (arith, changed, e', f', i)) new_most (omega (arith, many, fits)))
 
     can : CanMove most was is y
     can =
         let e = sym its_own in
-        let live = moves (joins o c) was.joining is.joining y.live (ap (λ w. w.joining) read) (ap (λ w. w.joining) reads) (ap (λ w. w.live) e) in
+        let live = moves (joins o c) was.alive is.alive y.live (ap (λ w. w.alive) read) (ap (λ w. w.alive) reads) (ap (λ w. w.live) e) in
         let not_ready = moves (isnt_ready o c) (is_missing was) (is_missing is) y.not_ready (ap is_missing read) (ap is_missing reads) (ap (λ w. w.not_ready) e) in
-        let dead = moves (fails o c) was.failing is.failing y.dead (ap (λ w. w.failing) read) (ap (λ w. w.failing) reads) (ap (λ w. w.dead) e) in
+        let dead = moves (fails o c) was.dead_on is.dead_on y.dead (ap (λ w. w.dead_on) read) (ap (λ w. w.dead_on) reads) (ap (λ w. w.dead) e) in
         record { live = live.0; not_ready = not_ready.0; dead = dead.0; live_fits = live.1; not_ready_fits = not_ready.1; dead_fits = dead.1 }
 
-    moved : IsExchanged (reading o c m) (reading o c (put t a m)) y z
-    moved = subst (λ w. IsExchanged w (reading o c (put t a m)) y z) (sym read) (subst (λ w. IsExchanged was w y z) (sym reads) (step.moved can))
+    moved : IsExchanged (child_status o c m) (child_status o c (put t a m)) y z
+    moved = subst (λ w. IsExchanged w (child_status o c (put t a m)) y z) (sym read) (subst (λ w. IsExchanged was w y z) (sym reads) (step.moved can))
 
     up_one : OnTheWay o rp records stands c behind root (put (r ++ u.branch ∷ t) a root) r
-        × (reading o c (Forked u.fork u.children) ≡ read_of (o.shares u.fork c) y)
-        × (reading o c (put (u.branch ∷ t) a (Forked u.fork u.children)) ≡ read_of (o.shares u.fork c) z)
+        × (child_status o c (Forked u.fork u.children) ≡ fork_status (o.shares u.fork c) y)
+        × (child_status o c (put (u.branch ∷ t) a (Forked u.fork u.children)) ≡ fork_status (o.shares u.fork c) z)
     up_one = all_moves o rp records stands c before behind root m a u.fork u.fork u.children r t u.branch j u.first u.many y z ok' u.has refl u.there u.child moved step.old step.new step.others way'
 
     pub shares_it : o.shares u.fork c ≡ true
     shares_it = counts_share o rp records stands new shown c before have j u.first u.many u.fork y u.has step.old
 
-    pub told_before : reading o c (Forked u.fork u.children) ≡ read_of true y
-    told_before = up_one.1 ∙ ap (λ b. read_of b y) shares_it
+    pub told_before : child_status o c (Forked u.fork u.children) ≡ fork_status true y
+    told_before = up_one.1 ∙ ap (λ b. fork_status b y) shares_it
 
-    pub told_now : reading o c (put (u.branch ∷ t) a (Forked u.fork u.children)) ≡ read_of true z
-    told_now = up_one.2 ∙ ap (λ b. read_of b z) shares_it
+    pub told_now : child_status o c (put (u.branch ∷ t) a (Forked u.fork u.children)) ≡ fork_status true z
+    told_now = up_one.2 ∙ ap (λ b. fork_status b z) shares_it
 
     pub way_on : On behind r
     way_on = subst (λ w. OnTheWay o rp records stands c behind root (put w a root) r) (sym u.split) up_one.0
 
-    pub done_here : all_there y ≡ all_there z → Done behind
+    pub done_here : tally_ready y ≡ tally_ready z → Done behind
     done_here same =
         subst (λ w. Tallied o rp records stands c behind (put w a root)) (sym u.split)
         (ended o rp records stands c behind root (Forked u.fork u.children) a r (u.branch ∷ t) u.there
-        (told_before ∙ (ap (λ b. let w : Reading = record { joining = true; readiness = b; failing = false } in w) same ∙ sym told_now)) up_one.0)
+        (told_before ∙ (ap (λ b. let w : ChildStatus = record { alive = true; ready_on = b; dead_on = false } in w) same ∙ sym told_now)) up_one.0)
 
     pub have_still : HaveCounts o rp records stands c behind new
     have_still i g n l k ks has there = elim (same_or_not i j) [
@@ -189,9 +189,9 @@ module _ {S : Type 0} (o : Ops S) (rp : Path) (records : List S) (stands : List 
       on false v = way i d e z y l ks its w (ap (λ k. at (place o rp z) (cond k root (put q a root))) v ∙ at_z)
       on true v = absurd (none_above o rp records stands new shown c x f i d e s z k r has home its v (counts_share o rp records stands new shown c counts have i d e z y its w))
 
-  pub go : LocalLaws o → {n x : ℕ} {was is : Reading} {before behind : ℕ → Option Tally} → UpdatedAbove up most n before x was is behind → HaveCounts o rp records stands c before new
+  pub go : LocalLaws o → {n x : ℕ} {was is : ChildStatus} {before behind : ℕ → Option Tally} → UpdatedAbove up most n before x was is behind → HaveCounts o rp records stands c before new
       → (f : ℕ) (s : S) (k : ProcessStatus) → Has records stands x f s k → o.shares s c ≡ true → (t : List ℕ) (m : Node S)
-      → q ≡ place o rp s ++ t → at (place o rp s) root ≡ Some m → reading o c m ≡ was → reading o c (put t a m) ≡ is → length (place o rp s) ≤ n
+      → q ≡ place o rp s ++ t → at (place o rp s) root ≡ Some m → child_status o c m ≡ was → child_status o c (put t a m) ≡ is → length (place o rp s) ≤ n
       → On before (place o rp s) → Done behind × HaveCounts o rp records stands c behind new
   go law (too_far before x was is) have f s k has shares t m split there read reads far way = (at_the_top before (place o rp s) (too_long (place o rp s) far) way, have)
   go law (at_top n before x was is none) have f s k has shares t m split there read reads far way =
@@ -214,9 +214,9 @@ module _ {S : Type 0} (o : Ops S) (rp : Path) (records : List S) (stands : List 
       (way_on x j f s t m u before between was is y z step have read reads way)
 
 module _ {S : Type 0} (o : Ops S) (law : LocalLaws o) where
-  updated : (rp : Path) (records : List S) (stands : List RecordView) (up : ℕ → Option ℕ) (c : Channel) (old new m a : Node S) (most n x f : ℕ) (s : S) (k : ProcessStatus) (was is : Reading) (before behind : ℕ → Option Tally)
-      → Shows o rp records stands new → AreLinked records stands up → AreAtMost most records stands → Has records stands x f s k → IsReplaced (place o rp s) m a old new
-      → reading o c m ≡ was → reading o c a ≡ is → length (place o rp s) ≤ n → o.shares s c ≡ true
+  updated : (rp : Path) (records : List S) (stands : List RecordView) (up : ℕ → Option ℕ) (c : Channel) (old new m a : Node S) (most n x f : ℕ) (s : S) (k : ProcessStatus) (was is : ChildStatus) (before behind : ℕ → Option Tally)
+      → Represents o rp records stands new → AreLinked records stands up → AreAtMost most records stands → Has records stands x f s k → IsReplaced (place o rp s) m a old new
+      → child_status o c m ≡ was → child_status o c a ≡ is → length (place o rp s) ≤ n → o.shares s c ≡ true
       → HaveCounts o rp records stands c before new → OnTheWay o rp records stands c before old new (place o rp s) → UpdatedAbove up most n before x was is behind
       → Tallied o rp records stands c behind new × HaveCounts o rp records stands c behind new
   updated rp records stands up c old new m a most n x f s k was is before behind shown linked few has rep read reads far shares have way update_counts_above =
@@ -227,7 +227,7 @@ module _ {S : Type 0} (o : Ops S) (law : LocalLaws o) where
       (subst (Tallied o rp records stands c behind) (sym same) w.0, w.1)
 
   alike : (rp : Path) (records : List S) (stands : List RecordView) (c : Channel) (old new m a : Node S) (q : List ℕ) (counts : ℕ → Option Tally)
-      → IsReplaced q m a old new → reading o c m ≡ reading o c a → OnTheWay o rp records stands c counts old new q → Tallied o rp records stands c counts new
+      → IsReplaced q m a old new → child_status o c m ≡ child_status o c a → OnTheWay o rp records stands c counts old new q → Tallied o rp records stands c counts new
   alike rp records stands c old new m a q counts rep same way =
       let is = is_put q m a old new rep in
       let e : put q a old ≡ put (q ++ []) a old = ap (λ z. put z a old) (sym (append-nil q)) in
@@ -235,7 +235,7 @@ module _ {S : Type 0} (o : Ops S) (law : LocalLaws o) where
       (ended o rp records stands c counts old m a q [] rep.was same (subst (λ z. OnTheWay o rp records stands c counts old z q) (is ∙ e) way))
 
   own : (rp : Path) (records : List S) (stands : List RecordView) (c : Channel) (old new : Node S) (x f : ℕ) (s : S) (k : ProcessStatus) (r : Path) (counts : ℕ → Option Tally)
-      → Shows o rp records stands new → Has records stands x f s k → c.home ≡ o.path s ++ r
+      → Represents o rp records stands new → Has records stands x f s k → c.home ≡ o.path s ++ r
       → HaveCounts o rp records stands c counts new → OnTheWay o rp records stands c counts old new (place o rp s) → Tallied o rp records stands c counts new
   own rp records stands c old new x f s k r counts shown has home have way i d e z y l ks its w at_z = on (is_above (place o rp z) (place o rp s)) refl
     where
@@ -244,11 +244,11 @@ module _ {S : Type 0} (o : Ops S) (law : LocalLaws o) where
       on true v = absurd (none_above o rp records stands new shown c x f i d e s z k r has home its v (counts_share o rp records stands new shown c counts have i d e z y its w))
 
   unshared : (c : Channel) (n : Node S) → SoundBelow o n → o.shares (state n) c ≡ false → ((r : Path) → c.home ≢ o.path (state n) ++ r)
-      → reading o c n ≡ record { joining = false; readiness = false; failing = false }
+      → child_status o c n ≡ record { alive = false; ready_on = false; dead_on = false }
   unshared c n s e out =
       let quiet = unshared_is_unshared o c n s e out in
       let never : ready o c n ≡ false = false_unless (ready o c n) (λ h. clash (has_sharer o c n) (ready_has_sharer o law c n s h) (is_unshared_still o c n quiet)) in
-      λ i. record { joining = and_false (goes n) (o.shares (state n) c) e i; readiness = never i; failing = and_false (is_dead n) (o.shares (state n) c) e i }
+      λ i. record { alive = and_false (goes n) (o.shares (state n) c) e i; ready_on = never i; dead_on = and_false (is_dead n) (o.shares (state n) c) e i }
 
   pub counts_follow : CountsFollow o
   counts_follow = record { updated = updated; alike = alike; own = own; unshared = unshared }

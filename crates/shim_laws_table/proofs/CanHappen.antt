@@ -16,9 +16,9 @@ use Rattle.shim_laws_schedules.proofs.PoisonDiamond.{nodes_changed_some}
 use Rattle.shim_base.proofs.Facts.{some_same, none_some, first_holds, second_holds, both_hold, cond_some, cond_there, not_false, false_not}
 use Rattle.shim_base.proofs.SamePaths.{same_path_is, same_path_refl}
 use Rattle.shim_laws_table.specs.Seen.{ProcessStatus, lives, forks, process_status, place, how_many_nodes}
-use Rattle.shim_laws_table.specs.Agrees.{RecordView, Has, Shows}
-use Rattle.shim_laws_table.specs.Counts.{going_of, all_there}
-use Rattle.shim_laws_table.specs.Dooms.{least_among, is_below}
+use Rattle.shim_laws_table.specs.Agrees.{RecordView, Has, Represents}
+use Rattle.shim_laws_table.specs.Counts.{running_of, tally_ready}
+use Rattle.shim_laws_table.specs.Dooms.{min_dead_label_among, is_below}
 use Rattle.shim_laws_table.specs.Enabled.{Can, EnabledByRecords, IsAt, at_step, at_end, at_close, at_home, at_child, EnabledAreFound, NothingNew}
 use Rattle.shim_laws_table.proofs.SameTrees.{seen_live, seen_some, child_counted}
 use Rattle.shim_laws_table.proofs.OneChange.{one_state}
@@ -27,7 +27,7 @@ use Rattle.shim_laws_table.proofs.Begun.{fork_parts}
 use Rattle.shim_laws_table.proofs.Closing.{one_less}
 use Rattle.shim_laws_table.proofs.Forking.{one_branch}
 use Rattle.shim_laws_table.proofs.Readiness.{by_counts}
-use Rattle.shim_laws_table.proofs.Leasts.{leasts_tell}
+use Rattle.shim_laws_table.proofs.MinLabels.{min_labels_decide}
 use Rattle.shim_laws_table.proofs.EventPlaces.{has_poisoned}
 
 -- what isn't none is something
@@ -51,16 +51,16 @@ ends_is Closes e = absurd cc
 ends_is Nothing e = absurd cc
 
 -- none goes on just where all are done
-none_goes : {S : Type 0} (ks : Nodes S) → all_done ks ≡ true → going_of ks ≡ 0
+none_goes : {S : Type 0} (ks : Nodes S) → all_done ks ≡ true → running_of ks ≡ 0
 none_goes no_node e = refl
 none_goes (node_and k ks) e =
-    ap (λ b. if b then suc (going_of ks) else going_of ks) (not_false (goes k) (first_holds (not (goes k)) (all_done ks) e)) ∙ none_goes ks (second_holds (not (goes k)) (all_done ks) e)
+    ap (λ b. if b then suc (running_of ks) else running_of ks) (not_false (goes k) (first_holds (not (goes k)) (all_done ks) e)) ∙ none_goes ks (second_holds (not (goes k)) (all_done ks) e)
 
-all_are_done : {S : Type 0} (ks : Nodes S) → going_of ks ≡ 0 → all_done ks ≡ true
+all_are_done : {S : Type 0} (ks : Nodes S) → running_of ks ≡ 0 → all_done ks ≡ true
 all_are_done no_node e = refl
 all_are_done (node_and k ks) e = on (goes k) refl e (all_are_done ks)
   where
-    on : (b : Bool) → goes k ≡ b → (if b then suc (going_of ks) else going_of ks) ≡ 0 → (going_of ks ≡ 0 → all_done ks ≡ true) → all_done (node_and k ks) ≡ true
+    on : (b : Bool) → goes k ≡ b → (if b then suc (running_of ks) else running_of ks) ≡ 0 → (running_of ks ≡ 0 → all_done ks ≡ true) → all_done (node_and k ks) ≡ true
     on true w h f = absurd (omega (arith, h))
     on false w h f = both_hold (not (goes k)) (all_done ks) (false_not (goes k) w) (f h)
 
@@ -77,7 +77,7 @@ module _ {S : Type 0} (o : Ops S) where
   live_acts l Closes (AtNext c) e = absurd cc
   live_acts l Nothing (AtNext c) e = absurd cc
 
-  module _ (rp : Path) (records : List S) (stands : List RecordView) (t : Tree S) (s : Shows o rp records stands t.root) where
+  module _ (rp : Path) (records : List S) (stands : List RecordView) (t : Tree S) (s : Represents o rp records stands t.root) where
     module _ (l : S) (m : Node S) (there : at (place o rp l) t.root ≡ Some m) (is : state m ≡ l) where
       led : route (o.path (state t.root)) (o.path l) ≡ Some (place o rp l)
       led = route_of o t.root m (place o rp l) (o.path l) s.sound.below there (ap o.path is)
@@ -126,10 +126,10 @@ module _ {S : Type 0} (o : Ops S) where
           alone_can l (Live l) (live_there i f l has) refl (End (o.path l)) a.0 (λ z. cc) refl k a.1),
     )
 
-    closes : (l : S) (ks : Nodes S) → at (place o rp l) t.root ≡ Some (Forked l ks) → Can o t (Close (o.path l)) ↔ (going_of ks ≡ 0)
+    closes : (l : S) (ks : Nodes S) → at (place o rp l) t.root ≡ Some (Forked l ks) → Can o t (Close (o.path l)) ↔ (running_of ks ≡ 0)
     closes l ks there = (forth, back)
       where
-        forth : Can o t (Close (o.path l)) → going_of ks ≡ 0
+        forth : Can o t (Close (o.path l)) → running_of ks ≡ 0
         forth can =
             let u = there_is (after o (Close (o.path l)) t) can in
             let x = opened o (Close (o.path l)) t u.0 (λ z. cc) u.1 in
@@ -137,7 +137,7 @@ module _ {S : Type 0} (o : Ops S) where
             let same : x.old ≡ Forked l ks = some_same x.old (Forked l ks) (sym x.there ∙ (ap (λ z. at z t.root) place_is ∙ there)) in
             none_goes ks (cond_some (all_done ks) (closed o l (states ks) (prevailing_death ks)) x.new (ap (act_here o) (sym same) ∙ x.here)).0
 
-        back : going_of ks ≡ 0 → Can o t (Close (o.path l))
+        back : running_of ks ≡ 0 → Can o t (Close (o.path l))
         back e =
             let a : Acted S = closed o l (states ks) (prevailing_death ks) in
             alone_can l (Forked l ks) there refl (Close (o.path l)) a (λ z. cc) refl refl (ap (λ b. cond b (Some a) None) (all_are_done ks e))
@@ -183,9 +183,9 @@ module _ {S : Type 0} (o : Ops S) where
           let e = poison_there c (o.path k) (place o rp l) b m u.0 led_child at_m (ap o.path its_state) u.1 in
           not_none (after o (Poison (o.path k) c) t) _ (ap (change_nodes t) e)
 
-      poison_can : Can o t (Poison (o.path k) c) ↔ ((o.shares l c ≡ true) × (ready o c m ≡ true) × (is_below (least_among o c ks) (o.handlers l) ≡ true))
+      poison_can : Can o t (Poison (o.path k) c) ↔ ((o.shares l c ≡ true) × (ready o c m ≡ true) × (is_below (min_dead_label_among o c ks) (o.handlers l) ≡ true))
       poison_can =
-          let w = (leasts_tell o law).poisons t.root (place o rp l) l ks b m c s.sound there is_child in
+          let w = (min_labels_decide o law).poisons t.root (place o rp l) l ks b m c s.sound there is_child in
           ((λ can. w.0 (poison_forth can)), (λ h. poison_back (w.1 h)))
 
     -- ---- where an enabled event is found
@@ -309,8 +309,8 @@ module _ {S : Type 0} (o : Ops S) where
         meets_alone = λ rp before behind stood stands t u c i f g l s r old new home can.
             (by.meets_alone rp before stood t c i f l s old home).1 ((by.meets_alone rp behind stands u c i g l r new home).0 can);
         meets_forked = λ rp before behind stood stands t u c i f g n l ks js s r old new home there here same can.
-            (by.meets_forked rp before stood t c i f n l ks s old home there).1 (ap all_there (sym same) ∙ (by.meets_forked rp behind stands u c i g n l js r new home here).0 can);
-        poisons = λ rp before behind stood stands t u c i d g n b f h l j k x y ks js m a s r old new less child kid path there here is_m is_a readiness label can.
+            (by.meets_forked rp before stood t c i f n l ks s old home there).1 (ap tally_ready (sym same) ∙ (by.meets_forked rp behind stands u c i g n l js r new home here).0 can);
+        poisons = λ rp before behind stood stands t u c i d g n b f h l j k x y ks js m a s r old new less child kid path there here is_m is_a ready_on label can.
             let w = (by.poisons rp behind stands u c i g n b h l k y js a r new kid less here is_a).0 can in
-            (by.poisons rp before stood t c i d n b f l j x ks m s old child less there is_m).1 (w.0, sym readiness ∙ w.1, ap (λ z. is_below z (o.handlers l)) (sym label) ∙ w.2);
+            (by.poisons rp before stood t c i d n b f l j x ks m s old child less there is_m).1 (w.0, sym ready_on ∙ w.1, ap (λ z. is_below z (o.handlers l)) (sym label) ∙ w.2);
       }

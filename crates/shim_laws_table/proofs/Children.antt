@@ -7,7 +7,7 @@ use Rattle.shim_semantics.specs.Places.{at, child_at}
 use Rattle.shim_base.proofs.Facts.{some_same, none_some}
 use Rattle.shim_laws_table.specs.Seen.{forks, seen, process_status, place, how_many_nodes}
 use Rattle.shim_laws_table.specs.Agrees.{RecordView, used, Has}
-use Rattle.shim_laws_table.specs.Changes.{segment, prevailing_with, prevailing_among, ChildrenAreShown}
+use Rattle.shim_laws_table.specs.Changes.{segment, prevailing_with, prevailing_among, ChildrenAreRepresented}
 use Rattle.shim_laws_table.proofs.Aside.{at_split}
 use Rattle.shim_laws_table.proofs.SameTrees.{seen_state, seen_sort, child_counted, fork_count}
 
@@ -56,8 +56,8 @@ module _ {S : Type 0} (states' : List S) (stands : List RecordView) where
       moved : {i j : ℕ} {n : Node S} → Says states' stands j n → i ≡ j → Says states' stands i n
       moved y e = record { first = y.first; has = record { state_is = ap (slice_get states') e ∙ y.has.state_is; stands_so = ap (slice_get stands) e ∙ y.has.stands_so } }
 
-pub children_are_shown : {S : Type 0} (o : Ops S) → ChildrenAreShown o
-children_are_shown {S} o rp states' stands root i g n l ks ok has there =
+pub children_are_represented : {S : Type 0} (o : Ops S) → ChildrenAreRepresented o
+children_are_represented {S} o rp states' stands root i g n l ks ok has there =
     let many : how_many_nodes ks ≡ n = fork_count (how_many_nodes ks) n (seen_sort (Forked l ks) l (forks n) (ap seen (sym there) ∙ ok.shown i g l (forks n) has)) in
     let all = all_said states' stands ks g child in
     (many, all.0 ∙ ap (λ m. segment g m states') many, all.1 ∙ ap (λ m. prevailing_among (segment g m stands)) many)

@@ -63,11 +63,11 @@ module _ {S : Type 0} (o : Ops S) (rp : Path) (before after : List S) (stood sta
       none_some (t, x) (sym (ap (λ z. seen (at z root)) e ∙ ap seen (at_split q (b ∷ c ∷ s) root (Forked l ks) is ∙ done_leaf b c s ks done)) ∙ ok.shown j d t x h)
   aside j d t x n far h (b ∷ []) e = on (child_at b [] ks) refl
     where
-      shows : seen (child_at b [] ks) ≡ Some (t, x)
-      shows = sym (ap (λ z. seen (at z root)) e ∙ ap seen (at_split q (b ∷ []) root (Forked l ks) is)) ∙ ok.shown j d t x h
+      represents : seen (child_at b [] ks) ≡ Some (t, x)
+      represents = sym (ap (λ z. seen (at z root)) e ∙ ap seen (at_split q (b ∷ []) root (Forked l ks) is)) ∙ ok.shown j d t x h
 
       on : (k : Option (Node S)) → child_at b [] ks ≡ k → ⊥
-      on None w = none_some (t, x) (sym (ap seen w) ∙ shows)
+      on None w = none_some (t, x) (sym (ap seen w) ∙ represents)
       on (Some k) w =
           let less = child_counted b [] ks k w in
           let z = ok.below i g (how_many_nodes ks) l has b less in

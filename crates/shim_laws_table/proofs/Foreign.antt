@@ -19,7 +19,7 @@ use Rattle.shim_semantics.proofs.CloseStays.{label_below}
 use Rattle.shim_base.proofs.Facts.{some_same, none_some, cond_some, true_or_false, false_unless}
 use Rattle.shim_laws_table.specs.Beginning.{ForeignStays}
 use Rattle.shim_laws_table.proofs.Aside.{there}
-use Rattle.shim_laws_table.specs.Counts.{reading}
+use Rattle.shim_laws_table.specs.Counts.{child_status}
 use Rattle.shim_laws_table.proofs.Brought.{counts_follow}
 use Rattle.shim_laws_table.proofs.Hanging.{tree_of}
 
@@ -91,7 +91,7 @@ module _ {S : Type 0} (o : Ops S) (law : LocalLaws o) where
           (children_share_given o law (tree_of o (put (b ∷ q) a.node root)) new b q a.node c (there (b ∷ q) m a.node root e) (λ z. n (z ∙ keeps.follows.path))).1
           (same_given (state m) (state a.node) c (sym (here_given m a (sound_at o (b ∷ q) root m s.below e) h)) given)
 
-  foreign_reads : (root m : Node S) (q : List ℕ) (a : Acted S) (c : Channel) → IsSound o root → at q root ≡ Some m → act_here o m ≡ Some a → ((r : Path) → c.home ≢ o.path (state m) ++ r) → o.shares (state m) c ≡ false → reading o c m ≡ reading o c a.node
+  foreign_reads : (root m : Node S) (q : List ℕ) (a : Acted S) (c : Channel) → IsSound o root → at q root ≡ Some m → act_here o m ≡ Some a → ((r : Path) → c.home ≢ o.path (state m) ++ r) → o.shares (state m) c ≡ false → child_status o c m ≡ child_status o c a.node
   foreign_reads root m q a c s e h out lacks =
       let sound = sound_at o q root m s.below e in
       let keeps = here_keeps o law m a sound h in

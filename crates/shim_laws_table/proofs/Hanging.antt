@@ -15,7 +15,7 @@ use Rattle.shim_semantics.proofs.Routes.{at_path}
 use Rattle.shim_base.proofs.Facts.{some_same, none_some}
 use Rattle.shim_base.proofs.SamePaths.{same_path_is, same_path_refl}
 use Rattle.shim_laws_table.specs.Seen.{ProcessStatus, forks, place, how_many_nodes}
-use Rattle.shim_laws_table.specs.Agrees.{RecordView, Has, Shows}
+use Rattle.shim_laws_table.specs.Agrees.{RecordView, Has, Represents}
 use Rattle.shim_laws_table.specs.Counts.{Tally}
 use Rattle.shim_laws_table.specs.Tallied.{is_above, HaveCounts}
 use Rattle.shim_laws_table.specs.Updating.{AreLinked}
@@ -78,7 +78,7 @@ module _ {S : Type 0} (o : Ops S) where
   given_place law root [] b k c s e far shares = (children_share_given o law (tree_of root) s b [] k c e far).0 shares
   given_place law root (i ∷ q) b k c s e far shares = (children_share_given o law (tree_of root) s i (q ++ b ∷ []) k c e far).0 shares
 
-  module _ (rp : Path) (records : List S) (stands : List RecordView) (root : Node S) (s : Shows o rp records stands root) where
+  module _ (rp : Path) (records : List S) (stands : List RecordView) (root : Node S) (s : Represents o rp records stands root) where
     -- the node of a record
     pub record Node_of (i f : ℕ) (l : S) (k : ProcessStatus) : Type 0 where
       pub node : Node S

@@ -12,7 +12,7 @@ use Rattle.shim_laws_table.specs.Agrees.{RecordView, Has}
 use Rattle.shim_laws_table.specs.Places.{IsReplaced}
 use Rattle.shim_laws_table.specs.Counts.{Tally}
 use Rattle.shim_laws_table.specs.Tallied.{is_above}
-use Rattle.shim_laws_table.specs.Dooms.{least_among}
+use Rattle.shim_laws_table.specs.Dooms.{min_dead_label_among}
 use Rattle.shim_laws_table.specs.LoweredLabels.{Labelled, LabelsOnTheWay}
 use Rattle.shim_laws_table.specs.Beginning.{LabelsBegin}
 use Rattle.shim_laws_table.proofs.Aside.{at_split}
@@ -24,7 +24,7 @@ use Rattle.shim_laws_table.proofs.Begun.{fork_parts, lives_no_fork, is_here, non
 module _ {S : Type 0} (o : Ops S) (rp : Path) (before behind : List S) (stood stands : List RecordView) (c : Channel) (old new m a : Node S) (q : List ℕ) (counts now : ℕ → Option Tally) (labels say : ℕ → Option ℕ)
     (rep : IsReplaced q m a old new)
     (kept : (j f n : ℕ) (s : S) → Has behind stands j f s (forks n) → IsAside (place o rp s) q → (g : ℕ) × Has before stood j g s (forks n) × (now j ≡ counts j) × (say j ≡ labels j))
-    (inside : (j f n : ℕ) (s : S) (r : List ℕ) (l : S) (ks : Nodes S) → Has behind stands j f s (forks n) → place o rp s ≡ q ++ r → at r a ≡ Some (Forked l ks) → say j ≡ least_among o c ks)
+    (inside : (j f n : ℕ) (s : S) (r : List ℕ) (l : S) (ks : Nodes S) → Has behind stands j f s (forks n) → place o rp s ≡ q ++ r → at r a ≡ Some (Forked l ks) → say j ≡ min_dead_label_among o c ks)
     (right : Labelled o rp before stood c counts labels old) where
   is : new ≡ put q a old
   is = is_put q m a old new rep
@@ -43,7 +43,7 @@ module _ {S : Type 0} (o : Ops S) (rp : Path) (before behind : List S) (stood st
     | inl far ↦ on far (is_above (place o rp s) q) refl g
   ]
     where
-      on : IsAside (place o rp s) q → (d : Bool) → is_above (place o rp s) q ≡ d → at (place o rp s) (cond (is_above (place o rp s) q) old new) ≡ Some (Forked l ks) → say j ≡ least_among o c ks
+      on : IsAside (place o rp s) q → (d : Bool) → is_above (place o rp s) q ≡ d → at (place o rp s) (cond (is_above (place o rp s) q) old new) ≡ Some (Forked l ks) → say j ≡ min_dead_label_among o c ks
       on far true u h =
           let z = kept j f n s has far in
           z.3 ∙ right j z.0 n s l ks z.1 (λ e. counted (z.2 ∙ e)) (ap (λ d. at (place o rp s) (cond d old new)) (sym u) ∙ h)
@@ -52,14 +52,14 @@ module _ {S : Type 0} (o : Ops S) (rp : Path) (before behind : List S) (stood st
           z.3 ∙ right j z.0 n s l ks z.1 (λ e. counted (z.2 ∙ e)) (sym (untouched q (place o rp s) m a old rep.was u far) ∙ (ap (at (place o rp s)) (sym is) ∙ (ap (λ d. at (place o rp s) (cond d old new)) (sym u) ∙ h)))
 
 module _ {S : Type 0} (o : Ops S) where
-  none_dead : (c : Channel) (ks : List S) → least_among o c (all_live ks) ≡ None
+  none_dead : (c : Channel) (ks : List S) → min_dead_label_among o c (all_live ks) ≡ None
   none_dead c [] = refl
   none_dead c (k ∷ ks) = none_dead c ks
 
-  mine_too : (c : Channel) (i j : ℕ) (p u : S) (ks : List S) (us : Nodes S) (r : List ℕ) (say : ℕ → Option ℕ) → j ≡ i → say i ≡ None → at r (Forked p (all_live ks)) ≡ Some (Forked u us) → r ≡ [] → say j ≡ least_among o c us
+  mine_too : (c : Channel) (i j : ℕ) (p u : S) (ks : List S) (us : Nodes S) (r : List ℕ) (say : ℕ → Option ℕ) → j ≡ i → say i ≡ None → at r (Forked p (all_live ks)) ≡ Some (Forked u us) → r ≡ [] → say j ≡ min_dead_label_among o c us
   mine_too c i j p u ks us r say w none e is =
       let parts = fork_parts o c p u (all_live ks) us (ap (λ z. at z (Forked p (all_live ks))) (sym is) ∙ e) in
-      ap say w ∙ (none ∙ (sym (none_dead c ks) ∙ ap (least_among o c) parts.1))
+      ap say w ∙ (none ∙ (sym (none_dead c ks) ∙ ap (min_dead_label_among o c) parts.1))
 
   pub labels_begin : LabelsBegin o
   labels_begin = record {

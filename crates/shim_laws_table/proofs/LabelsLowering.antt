@@ -9,18 +9,18 @@ use Rattle.shim_semantics.specs.Nodes.{Node, Nodes, Forked}
 use Rattle.shim_semantics.specs.Places.{at}
 use Rattle.shim_semantics.proofs.ReplacedNodes.{put, put_child}
 use Rattle.shim_laws_table.specs.Seen.{ProcessStatus, forks, place}
-use Rattle.shim_laws_table.specs.Agrees.{RecordView, Has, Shows}
+use Rattle.shim_laws_table.specs.Agrees.{RecordView, Has, Represents}
 use Rattle.shim_laws_table.specs.Places.{IsReplaced}
 use Rattle.shim_laws_table.specs.Counts.{Tally}
 use Rattle.shim_laws_table.specs.Tallied.{is_above, HaveCounts}
 use Rattle.shim_laws_table.specs.Updating.{AreLinked}
-use Rattle.shim_laws_table.specs.Dooms.{lesser, least, least_among}
+use Rattle.shim_laws_table.specs.Dooms.{lesser, min_dead_label, min_dead_label_among}
 use Rattle.shim_laws_table.specs.LoweredLabels.{Labelled, LabelsOnTheWay, IsLowered, LoweredAbove, all_the_way, at_the_root, uncounted, as_low, lowers, LabelsLowered}
 use Rattle.shim_laws_table.proofs.SameTrees.{same_or_not, is_put}
 use Rattle.shim_laws_table.proofs.OneChange.{one_state}
 use Rattle.shim_laws_table.proofs.Way.{way_from, not_above_itself, above_its_own, above_same, with_split, fork_above}
 use Rattle.shim_laws_table.proofs.Begun.{fork_parts}
-use Rattle.shim_laws_table.proofs.Leasts.{leasts_follow}
+use Rattle.shim_laws_table.proofs.MinLabels.{min_labels_follow}
 use Rattle.shim_laws_table.proofs.Hanging.{Below, tied, topmost, counts_share, declared, none_above}
 
 above_further : (r : List ℕ) (b : ℕ) (t : List ℕ) → is_above r (r ++ b ∷ t) ≡ true
@@ -39,7 +39,7 @@ too_long [] h = refl
 too_long (x ∷ p) h = absurd (omega (arith, h))
 
 module _ {S : Type 0} (o : Ops S) (law : LocalLaws o) (rp : Path) (records : List S) (stands : List RecordView) (up : ℕ → Option ℕ) (c : Channel) (old new m a : Node S) (q : List ℕ) (counts : ℕ → Option Tally)
-    (shown : Shows o rp records stands new) (linked : AreLinked records stands up) (rep : IsReplaced q m a old new) (clear : least o c m ≡ None) (have : HaveCounts o rp records stands c counts new) where
+    (shown : Represents o rp records stands new) (linked : AreLinked records stands up) (rep : IsReplaced q m a old new) (clear : min_dead_label o c m ≡ None) (have : HaveCounts o rp records stands c counts new) where
   abbrev On : (ℕ → Option ℕ) → List ℕ → Type 0
   On labels p = LabelsOnTheWay o rp records stands c counts labels old new p
 
@@ -60,7 +60,7 @@ module _ {S : Type 0} (o : Ops S) (law : LocalLaws o) (rp : Path) (records : Lis
   cut_off : (labels : ℕ → Option ℕ) (x f : ℕ) (s : S) (k : ProcessStatus) → Has records stands x f s k → c.home ≡ o.path s → On labels (place o rp s) → Done labels
   cut_off labels x f s k has home way i d n u l ks fork counted there = on (is_above (place o rp u) (place o rp s)) refl
     where
-      on : (b : Bool) → is_above (place o rp u) (place o rp s) ≡ b → labels i ≡ least_among o c ks
+      on : (b : Bool) → is_above (place o rp u) (place o rp s) ≡ b → labels i ≡ min_dead_label_among o c ks
       on false w = way i d n u l ks fork counted (ap (λ z. at (place o rp u) (cond z old new)) w ∙ there)
       on true w =
           let y = some_counts i counted in
@@ -76,7 +76,7 @@ module _ {S : Type 0} (o : Ops S) (law : LocalLaws o) (rp : Path) (records : Lis
     pub js : Nodes S
     pub was : at (place o rp below.parent) old ≡ Some (Forked state ks)
     pub is : at (place o rp below.parent) new ≡ Some (Forked state js)
-    pub taken_in : least_among o c js ≡ lesser (least_among o c ks) (least o c a)
+    pub taken_in : min_dead_label_among o c js ≡ lesser (min_dead_label_among o c ks) (min_dead_label o c a)
 
   above_of : (x j f : ℕ) (s : S) (k : ProcessStatus) (t : List ℕ) → Has records stands x f s k → up x ≡ Some j → q ≡ place o rp s ++ t → Above x s t f k j
   above_of x j f s k t has e split =
@@ -95,7 +95,7 @@ module _ {S : Type 0} (o : Ops S) (law : LocalLaws o) (rp : Path) (records : Lis
         js = put_child b.branch t a v.children;
         was = v.there;
         is = now;
-        taken_in = (leasts_follow o).taken_in c old new m a q r v.state v.children (put_child b.branch t a v.children) rep clear (ap (is_above r) far ∙ above_further r b.branch t) v.there now;
+        taken_in = (min_labels_follow o).taken_in c old new m a q r v.state v.children (put_child b.branch t a v.children) rep clear (ap (is_above r) far ∙ above_further r b.branch t) v.there now;
       }
 
   module _ (x j f : ℕ) (s : S) (k : ProcessStatus) (t : List ℕ) (u : Above x s t f k j) (before : ℕ → Option ℕ) (counted : counts j ≢ None) (way : On before (place o rp s)) where
@@ -105,7 +105,7 @@ module _ {S : Type 0} (o : Ops S) (law : LocalLaws o) (rp : Path) (records : Lis
     fork : Has records stands j u.below.first u.below.parent (forks u.below.many)
     fork = subst (λ z. Has records stands z u.below.first u.below.parent (forks u.below.many)) u.number u.below.has
 
-    its_own : before j ≡ least_among o c u.ks
+    its_own : before j ≡ min_dead_label_among o c u.ks
     its_own = way j u.below.first u.below.many u.below.parent u.state u.ks fork counted
         (ap (λ p. at r (cond (is_above r p) old new)) u.below.is ∙ (ap (λ d. at r (cond d old new)) (above_its_own r u.below.branch) ∙ u.was))
 
@@ -117,17 +117,17 @@ module _ {S : Type 0} (o : Ops S) (law : LocalLaws o) (rp : Path) (records : Lis
       aside = λ p far. rep.aside p (λ z e. far (u.below.branch ∷ (t ++ z)) (e ∙ (ap (λ w. w ++ z) u.split ∙ append_assoc r (u.below.branch ∷ t) z)));
     }
 
-    kids_same : (l : S) (ks js : Nodes S) → Some (Forked l ks) ≡ Some (Forked u.state js) → least_among o c ks ≡ least_among o c js
-    kids_same l ks js e = ap (least_among o c) (fork_parts o c l u.state ks js e).1
+    kids_same : (l : S) (ks js : Nodes S) → Some (Forked l ks) ≡ Some (Forked u.state js) → min_dead_label_among o c ks ≡ min_dead_label_among o c js
+    kids_same l ks js e = ap (min_dead_label_among o c) (fork_parts o c l u.state ks js e).1
 
     -- what stands at the fork is what stands behind
-    here : (i d n : ℕ) (v l : S) (ks : Nodes S) → Has records stands i d v (forks n) → i ≡ j → at (place o rp v) (cond (is_above (place o rp v) r) old new) ≡ Some (Forked l ks) → least_among o c ks ≡ least_among o c u.js
+    here : (i d n : ℕ) (v l : S) (ks : Nodes S) → Has records stands i d v (forks n) → i ≡ j → at (place o rp v) (cond (is_above (place o rp v) r) old new) ≡ Some (Forked l ks) → min_dead_label_among o c ks ≡ min_dead_label_among o c u.js
     here i d n v l ks h w there =
         let same : v ≡ u.below.parent = one_state records stands j d u.below.first v u.below.parent (forks n) (forks u.below.many) (subst (λ z. Has records stands z d v (forks n)) w h) fork in
         let at_r : place o rp v ≡ r = ap (place o rp) same in
         kids_same l ks u.js (sym there ∙ ((λ e. at (at_r e) (cond (is_above (at_r e) r) old new)) ∙ (ap (λ z. at r (cond z old new)) (not_above_itself r) ∙ u.is)))
 
-    elsewhere : (labels : ℕ → Option ℕ) → ((i : ℕ) → i ≢ j → labels i ≡ before i) → labels j ≡ least_among o c u.js → On labels r
+    elsewhere : (labels : ℕ → Option ℕ) → ((i : ℕ) → i ≢ j → labels i ≡ before i) → labels j ≡ min_dead_label_among o c u.js → On labels r
     elsewhere labels others mine i d n v l ks h is_counted there = elim (same_or_not i j) [
       | inl w ↦ ap labels w ∙ (mine ∙ sym (here i d n v l ks h w there))
       | inr w ↦
@@ -135,17 +135,17 @@ module _ {S : Type 0} (o : Ops S) (law : LocalLaws o) (rp : Path) (records : Lis
           others i w ∙ way i d n v l ks h is_counted (ap (λ p. at (place o rp v) (cond (is_above (place o rp v) p) old new)) u.below.is ∙ (ap (λ z. at (place o rp v) (cond z old new)) (above_same (place o rp v) r u.below.branch far) ∙ there))
     ]
 
-    way_on : (behind : ℕ → Option ℕ) → IsLowered before j (least o c a) behind → On behind r
-    way_on behind low = elsewhere behind low.others (low.new ∙ (ap (λ z. lesser z (least o c a)) its_own ∙ sym u.taken_in))
+    way_on : (behind : ℕ → Option ℕ) → IsLowered before j (min_dead_label o c a) behind → On behind r
+    way_on behind low = elsewhere behind low.others (low.new ∙ (ap (λ z. lesser z (min_dead_label o c a)) its_own ∙ sym u.taken_in))
 
     -- a fork with a label as low: it and all above stay
-    done_here : lesser (before j) (least o c a) ≡ before j → Done before
+    done_here : lesser (before j) (min_dead_label o c a) ≡ before j → Done before
     done_here same =
-        let stays : least_among o c u.js ≡ least_among o c u.ks = u.taken_in ∙ (ap (λ z. lesser z (least o c a)) (sym its_own) ∙ (same ∙ its_own)) in
+        let stays : min_dead_label_among o c u.js ≡ min_dead_label_among o c u.ks = u.taken_in ∙ (ap (λ z. lesser z (min_dead_label o c a)) (sym its_own) ∙ (same ∙ its_own)) in
         let way' = elsewhere before (λ i w. refl) (its_own ∙ sym stays) in
         λ i d n v l ks h is_counted there. on i d n v l ks h is_counted there stays way' (is_above (place o rp v) r) refl
       where
-        on : (i d n : ℕ) (v l : S) (ks : Nodes S) → Has records stands i d v (forks n) → counts i ≢ None → at (place o rp v) new ≡ Some (Forked l ks) → least_among o c u.js ≡ least_among o c u.ks → On before r → (b : Bool) → is_above (place o rp v) r ≡ b → before i ≡ least_among o c ks
+        on : (i d n : ℕ) (v l : S) (ks : Nodes S) → Has records stands i d v (forks n) → counts i ≢ None → at (place o rp v) new ≡ Some (Forked l ks) → min_dead_label_among o c u.js ≡ min_dead_label_among o c u.ks → On before r → (b : Bool) → is_above (place o rp v) r ≡ b → before i ≡ min_dead_label_among o c ks
         on i d n v l ks h is_counted there stays way' false w = way' i d n v l ks h is_counted (ap (λ z. at (place o rp v) (cond z old new)) w ∙ there)
         on i d n v l ks h is_counted there stays way' true w =
             let y = way_from (place o rp v) r w in
@@ -153,10 +153,10 @@ module _ {S : Type 0} (o : Ops S) (law : LocalLaws o) (rp : Path) (records : Lis
             let now : at (place o rp v) new ≡ Some (Forked f'.state (put_child y.branch y.rest (Forked u.state u.js) f'.children)) =
             ap (at (place o rp v)) (is_put r (Forked u.state u.ks) (Forked u.state u.js) old new replaced_fork) ∙ (ap (λ z. at (place o rp v) (put z (Forked u.state u.js) old)) y.is ∙ with_split (place o rp v) (y.branch ∷ y.rest) (Forked u.state u.js) old (Forked f'.state f'.children) f'.there) in
             let same = fork_parts o c l f'.state ks (put_child y.branch y.rest (Forked u.state u.js) f'.children) (sym there ∙ now) in
-            let law' = (leasts_follow o).stays c old new (Forked u.state u.ks) (Forked u.state u.js) r (place o rp v) f'.state f'.children (put_child y.branch y.rest (Forked u.state u.js) f'.children) replaced_fork stays w f'.there now in
-            way' i d n v f'.state f'.children h is_counted (ap (λ z. at (place o rp v) (cond z old new)) w ∙ f'.there) ∙ (sym law' ∙ ap (least_among o c) (sym same.1))
+            let law' = (min_labels_follow o).stays c old new (Forked u.state u.ks) (Forked u.state u.js) r (place o rp v) f'.state f'.children (put_child y.branch y.rest (Forked u.state u.js) f'.children) replaced_fork stays w f'.there now in
+            way' i d n v f'.state f'.children h is_counted (ap (λ z. at (place o rp v) (cond z old new)) w ∙ f'.there) ∙ (sym law' ∙ ap (min_dead_label_among o c) (sym same.1))
 
-  go : {n x : ℕ} {before behind : ℕ → Option ℕ} → LoweredAbove up counts (least o c a) n before x behind → (f : ℕ) (s : S) (k : ProcessStatus) → Has records stands x f s k → o.shares s c ≡ true → (t : List ℕ) → q ≡ place o rp s ++ t → length (place o rp s) ≤ n
+  go : {n x : ℕ} {before behind : ℕ → Option ℕ} → LoweredAbove up counts (min_dead_label o c a) n before x behind → (f : ℕ) (s : S) (k : ProcessStatus) → Has records stands x f s k → o.shares s c ≡ true → (t : List ℕ) → q ≡ place o rp s ++ t → length (place o rp s) ≤ n
       → On before (place o rp s) → Done behind
   go (all_the_way before x) f s k has shares t split far way = at_top before (place o rp s) (too_long (place o rp s) far) way
   go (at_the_root n before x e) f s k has shares t split far way = at_top before (place o rp s) (topmost o rp records stands new shown up linked x f s k has e) way

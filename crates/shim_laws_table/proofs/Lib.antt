@@ -10,7 +10,7 @@ pub mod Foreign
 pub mod Forking
 pub mod Hanging
 pub mod LabelsBegun
-pub mod Leasts
+pub mod MinLabels
 pub mod Linked
 pub mod Meeting
 pub mod Moves
@@ -28,4 +28,4 @@ pub mod Suffices
 pub mod Tallies
 pub mod Tells
 pub mod Way
-pub mod ShownTree
+pub mod RepresentedTree

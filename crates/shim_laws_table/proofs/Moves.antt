@@ -9,7 +9,7 @@ use Rattle.shim_semantics.proofs.ReplacedNodes.{put, put_child}
 use Rattle.shim_base.proofs.Facts.{some_same}
 use Rattle.shim_laws_table.specs.Seen.{forks, place}
 use Rattle.shim_laws_table.specs.Agrees.{RecordView, Has, Agrees}
-use Rattle.shim_laws_table.specs.Counts.{Tally, tally_of, joins, isnt_ready, fails, count, reading, read_of, IsExchanged}
+use Rattle.shim_laws_table.specs.Counts.{Tally, tally_of, joins, isnt_ready, fails, count, child_status, fork_status, IsExchanged}
 use Rattle.shim_laws_table.specs.Tallied.{is_above, OnTheWay}
 use Rattle.shim_laws_table.proofs.Tallies.{count_changed, fork_read}
 use Rattle.shim_laws_table.proofs.SameTrees.{same_or_not}
@@ -21,7 +21,7 @@ cancelled a d x y m n e f g = omega (arith, e, f, g)
 module _ {S : Type 0} (o : Ops S) (rp : Path) (states : List S) (stands : List RecordView) (c : Channel) (before after : ℕ → Option Tally) (root k a : Node S) (l s : S) (ks : Nodes S) (r t : List ℕ) (b j f n : ℕ) (y z : Tally)
     (ok : Agrees o rp states stands (put (r ++ b ∷ t) a root)) (has : Has states stands j f s (forks n)) (its : place o rp s ≡ r)
     (there : at r root ≡ Some (Forked l ks)) (child : child_at b [] ks ≡ Some k)
-    (moved : IsExchanged (reading o c k) (reading o c (put t a k)) y z) (stood : before j ≡ Some y) (stands_now : after j ≡ Some z) (others : (i : ℕ) → i ≢ j → after i ≡ before i)
+    (moved : IsExchanged (child_status o c k) (child_status o c (put t a k)) y z) (stood : before j ≡ Some y) (stands_now : after j ≡ Some z) (others : (i : ℕ) → i ≢ j → after i ≡ before i)
     (way : OnTheWay o rp states stands c before root (put (r ++ b ∷ t) a root) (r ++ b ∷ [])) where
   abbrev pub new : Node S
   new = put (r ++ b ∷ t) a root
@@ -55,10 +55,10 @@ module _ {S : Type 0} (o : Ops S) (rp : Path) (states : List S) (stands : List R
         way i e d u x v gs h (sym (others i other) ∙ w) (ap (λ q. at (place o rp u) (cond q root new)) (above_same (place o rp u) r b far) ∙ g)
   ]
 
-  read : (gs : Nodes S) (w : Tally) → w ≡ tally_of o c gs → reading o c (Forked l gs) ≡ read_of (o.shares l c) w
-  read gs w e = fork_read o c l gs ∙ ap (read_of (o.shares l c)) (sym e)
+  read : (gs : Nodes S) (w : Tally) → w ≡ tally_of o c gs → child_status o c (Forked l gs) ≡ fork_status (o.shares l c) w
+  read gs w e = fork_read o c l gs ∙ ap (fork_status (o.shares l c)) (sym e)
 
   pub all_moves : OnTheWay o rp states stands c after root new r
-      × (reading o c (Forked l ks) ≡ read_of (o.shares l c) y)
-      × (reading o c (Forked l js) ≡ read_of (o.shares l c) z)
+      × (child_status o c (Forked l ks) ≡ fork_status (o.shares l c) y)
+      × (child_status o c (Forked l js) ≡ fork_status (o.shares l c) z)
   all_moves = (way_now, read ks y its_own, read js z now)

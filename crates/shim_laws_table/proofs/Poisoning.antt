@@ -99,7 +99,7 @@ module _ {S : Type 0} (o : Ops S) (c : Channel) where
 
   module _ (rp : Path) (q : List ℕ) (d : Death) (states : List S) (stood stands : List RecordView) (root new : Node S)
       (ok : Agrees o rp states stood root) (died : HaveDied o rp q c d states stood stands)
-      (shows : (s : List ℕ) → seen (at (q ++ s) new) ≡ seen_killed o c d (seen (at (q ++ s) root))) (aside : SameAside q root new) where
+      (represents : (s : List ℕ) → seen (at (q ++ s) new) ≡ seen_killed o c d (seen (at (q ++ s) root))) (aside : SameAside q root new) where
     -- what a record said before
     record Was (i f : ℕ) (s : S) (k : ProcessStatus) : Type 0 where
       pub old : ProcessStatus
@@ -133,7 +133,7 @@ module _ {S : Type 0} (o : Ops S) (c : Channel) where
               record {
                 old = w.0;
                 had = y;
-                shown = ap (λ x. seen (at x new)) z.1 ∙ (shows z.0 ∙ (ap (λ x. seen_killed o c d (seen (at x root))) (sym z.1) ∙ (ap (seen_killed o c d) (ok.shown i f s w.0 y) ∙ ap (λ z. Some (s, z)) (sym now))));
+                shown = ap (λ x. seen (at x new)) z.1 ∙ (represents z.0 ∙ (ap (λ x. seen_killed o c d (seen (at x root))) (sym z.1) ∙ (ap (seen_killed o c d) (ok.shown i f s w.0 y) ∙ ap (λ z. Some (s, z)) (sym now))));
                 fork = λ n e. still_fork s w.0 n (sym now ∙ e);
               }
         ]

@@ -3,7 +3,7 @@ use Rattle.std.proofs.Common.{◌≡◌, ℕ, zero, suc, Bool, true, false, ◌&
 use Rattle.shim_base.specs.Paths.{Channel}
 use Rattle.shim_local.specs.Process.{Ops}
 use Rattle.shim_semantics.specs.Nodes.{Nodes, Live, Forked, Ended, Dead, no_node, node_and, ready, any_sharer, all_ready, is_next}
-use Rattle.shim_laws_table.specs.Counts.{is_zero, joins, isnt_ready, fails, count, tally_of, all_there}
+use Rattle.shim_laws_table.specs.Counts.{is_zero, joins, isnt_ready, fails, count, tally_of, tally_ready}
 
 some_more : (b : Bool) (n : ℕ) → not (is_zero (if b then suc n else n)) ≡ b || not (is_zero n)
 some_more true n = refl
@@ -37,5 +37,5 @@ module _ {S : Type 0} (o : Ops S) (c : Channel) where
   none_wait (node_and (Ended l) ks) = one_ended (o.shares l c) (all_ready o c ks) ∙ none_wait ks
   none_wait (node_and (Dead l x) ks) = one_dead (o.shares l c) (count (isnt_ready o c) ks) (count (fails o c) ks) (all_ready o c ks) (none_wait ks)
 
-  pub by_counts : (l : S) (ks : Nodes S) → ready o c (Forked l ks) ≡ all_there (tally_of o c ks)
+  pub by_counts : (l : S) (ks : Nodes S) → ready o c (Forked l ks) ≡ tally_ready (tally_of o c ks)
   by_counts l ks = λ t. some_join ks t && none_wait ks t

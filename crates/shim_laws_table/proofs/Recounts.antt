@@ -13,26 +13,26 @@ use Rattle.shim_semantics.proofs.Replaced.{sound_at}
 use Rattle.shim_semantics.proofs.PoisonsListed.{at_child as child_there}
 use Rattle.shim_base.proofs.Facts.{none_some}
 use Rattle.shim_laws_table.specs.Seen.{ProcessStatus, forks, seen, process_status, place, how_many_nodes}
-use Rattle.shim_laws_table.specs.Agrees.{RecordView, used, Has, Shows}
+use Rattle.shim_laws_table.specs.Agrees.{RecordView, used, Has, Represents}
 use Rattle.shim_laws_table.specs.Places.{IsReplaced}
 use Rattle.shim_laws_table.specs.Counts.{Tally}
 use Rattle.shim_laws_table.specs.Tallied.{is_above, HaveCounts}
 use Rattle.shim_laws_table.specs.Updating.{AreLinked}
-use Rattle.shim_laws_table.specs.Dooms.{lesser, least, least_among}
+use Rattle.shim_laws_table.specs.Dooms.{lesser, min_dead_label, min_dead_label_among}
 use Rattle.shim_laws_table.specs.LoweredLabels.{Labelled, LabelsOnTheWay}
-use Rattle.shim_laws_table.specs.Recounting.{read_label, read_record, label_at, least_label_among, NoneUncounted, IsReadOff, Recounted, all_the_way, at_the_root, uncounted, as_before, recounts, LabelsRecount}
+use Rattle.shim_laws_table.specs.Recounting.{read_label, read_record, label_at, min_label_among, NoneUncounted, IsReadOff, Recounted, all_the_way, at_the_root, uncounted, as_before, recounts, LabelsRecount}
 use Rattle.shim_laws_table.proofs.SameTrees.{same_or_not, is_put, seen_state, seen_sort, child_counted, fork_count}
 use Rattle.shim_laws_table.proofs.OneChange.{one_state}
 use Rattle.shim_laws_table.proofs.Way.{way_from, not_above_itself, above_its_own, above_same, with_split, fork_above}
 use Rattle.shim_laws_table.proofs.Begun.{fork_parts}
-use Rattle.shim_laws_table.proofs.Leasts.{leasts_tell, leasts_follow, shared_not_below, child_sound}
+use Rattle.shim_laws_table.proofs.MinLabels.{min_labels_decide, min_labels_follow, shared_not_below, child_sound}
 use Rattle.shim_laws_table.proofs.Hanging.{Below, tied, topmost, counts_share, declared, none_above}
 use Rattle.shim_laws_table.proofs.LabelsLowering.{not_above_root, shorter, too_long}
 
 -- ---- one fork's label, read off its children
 
 module _ {S : Type 0} (o : Ops S) (c : Channel) (records : List S) (stands : List RecordView) (labels : ℕ → Option ℕ) where
-  read_all : (ks : Nodes S) (g : ℕ) → ((b : ℕ) (k : Node S) → child_at b [] ks ≡ Some k → label_at o c records stands labels (g + b) ≡ least o c k) → least_label_among o c records stands labels g (how_many_nodes ks) ≡ least_among o c ks
+  read_all : (ks : Nodes S) (g : ℕ) → ((b : ℕ) (k : Node S) → child_at b [] ks ≡ Some k → label_at o c records stands labels (g + b) ≡ min_dead_label o c k) → min_label_among o c records stands labels g (how_many_nodes ks) ≡ min_dead_label_among o c ks
   read_all no_node g f = refl
   read_all (node_and k ks) g f =
       let here : g + 0 ≡ g = omega arith in
@@ -42,22 +42,22 @@ module _ {S : Type 0} (o : Ops S) (c : Channel) (records : List S) (stands : Lis
       next g b = omega arith
 
   -- what is read of a record of a node
-  read_one : (i f : ℕ) (k : Node S) → Has records stands i f (state k) (process_status k) → ((l : S) (js : Nodes S) → k ≡ Forked l js → labels i ≡ least_among o c js) → label_at o c records stands labels i ≡ least o c k
+  read_one : (i f : ℕ) (k : Node S) → Has records stands i f (state k) (process_status k) → ((l : S) (js : Nodes S) → k ≡ Forked l js → labels i ≡ min_dead_label_among o c js) → label_at o c records stands labels i ≡ min_dead_label o c k
   read_one i f k h forked = (λ t. read_record o c (h.state_is t) (h.stands_so t) (labels i)) ∙ by_sort k forked
     where
-      by_sort : (k : Node S) → ((l : S) (js : Nodes S) → k ≡ Forked l js → labels i ≡ least_among o c js) → read_label o c (state k) (process_status k) (labels i) ≡ least o c k
+      by_sort : (k : Node S) → ((l : S) (js : Nodes S) → k ≡ Forked l js → labels i ≡ min_dead_label_among o c js) → read_label o c (state k) (process_status k) (labels i) ≡ min_dead_label o c k
       by_sort (Live l) g = refl
       by_sort (Forked l js) g = g l js refl
       by_sort (Ended l) g = refl
       by_sort (Dead l d) g = refl
 
-module _ {S : Type 0} (o : Ops S) (law : LocalLaws o) (rp : Path) (records : List S) (stands : List RecordView) (c : Channel) (new : Node S) (counts : ℕ → Option Tally) (shown : Shows o rp records stands new) (have : HaveCounts o rp records stands c counts new) where
+module _ {S : Type 0} (o : Ops S) (law : LocalLaws o) (rp : Path) (records : List S) (stands : List RecordView) (c : Channel) (new : Node S) (counts : ℕ → Option Tally) (shown : Represents o rp records stands new) (have : HaveCounts o rp records stands c counts new) where
   module _ (labels : ℕ → Option ℕ) (empty : NoneUncounted counts labels) (i g n : ℕ) (s l : S) (ks : Nodes S) (has : Has records stands i g s (forks n)) (there : at (place o rp s) new ≡ Some (Forked l ks)) (shares : o.shares l c ≡ true)
-      (right : (b f m : ℕ) (t u : S) (js : Nodes S) → b < n → Has records stands (g + b) f t (forks m) → counts (g + b) ≢ None → at (place o rp t) new ≡ Some (Forked u js) → labels (g + b) ≡ least_among o c js) where
+      (right : (b f m : ℕ) (t u : S) (js : Nodes S) → b < n → Has records stands (g + b) f t (forks m) → counts (g + b) ≢ None → at (place o rp t) new ≡ Some (Forked u js) → labels (g + b) ≡ min_dead_label_among o c js) where
     many : how_many_nodes ks ≡ n
     many = fork_count (how_many_nodes ks) n (seen_sort (Forked l ks) s (forks n) (sym (ap seen there) ∙ shown.agrees.shown i g s (forks n) has))
 
-    child : (b : ℕ) (k : Node S) → child_at b [] ks ≡ Some k → label_at o c records stands labels (g + b) ≡ least o c k
+    child : (b : ℕ) (k : Node S) → child_at b [] ks ≡ Some k → label_at o c records stands labels (g + b) ≡ min_dead_label o c k
     child b k e =
         let less = child_counted b [] ks k e in
         let z = shown.agrees.below i g n s has b (omega (arith, less, many)) in
@@ -69,7 +69,7 @@ module _ {S : Type 0} (o : Ops S) (law : LocalLaws o) (rp : Path) (records : Lis
         read_one o c records stands labels (g + b) z.0 k its
         (λ u js is. forked b k e (omega (arith, less, many)) z.0 z.1 its at_k u js is state_is)
       where
-        forked : (b : ℕ) (k : Node S) → child_at b [] ks ≡ Some k → b < n → (f : ℕ) (t : S) → Has records stands (g + b) f (state k) (process_status k) → at (place o rp t) new ≡ Some k → (u : S) (js : Nodes S) → k ≡ Forked u js → state k ≡ t → labels (g + b) ≡ least_among o c js
+        forked : (b : ℕ) (k : Node S) → child_at b [] ks ≡ Some k → b < n → (f : ℕ) (t : S) → Has records stands (g + b) f (state k) (process_status k) → at (place o rp t) new ≡ Some k → (u : S) (js : Nodes S) → k ≡ Forked u js → state k ≡ t → labels (g + b) ≡ min_dead_label_among o c js
         forked b k e less f t its at_k u js is same = on (counts (g + b)) refl
           where
             has' : Has records stands (g + b) f u (forks (how_many_nodes js))
@@ -78,22 +78,22 @@ module _ {S : Type 0} (o : Ops S) (law : LocalLaws o) (rp : Path) (records : Lis
             at_u : at (place o rp u) new ≡ Some (Forked u js)
             at_u = ap (λ z. at (place o rp z) new) (sym (ap state is) ∙ same) ∙ (at_k ∙ ap Some is)
 
-            on : (x : Option Tally) → counts (g + b) ≡ x → labels (g + b) ≡ least_among o c js
+            on : (x : Option Tally) → counts (g + b) ≡ x → labels (g + b) ≡ min_dead_label_among o c js
             on (Some y) w = right b f (how_many_nodes js) u u js less has' (λ z. none_some y (sym z ∙ w)) at_u
             on None w =
                 let sound = sound_at o (place o rp s) new (Forked l ks) shown.sound.below there in
                 let v = child_sound o l sound.number 0 b ks k sound.children e in
-                empty (g + b) w ∙ sym ((leasts_tell o law).uncounted new (place o rp u) u js c shown.sound at_u
+                empty (g + b) w ∙ sym ((min_labels_decide o law).uncounted new (place o rp u) u js c shown.sound at_u
                 (λ x r h. shared_not_below o new (place o rp s) (Forked l ks) c shown.sound there shares (sound.number, v.1) (x ∷ r) (h ∙ (ap (λ z. o.path (state z) ++ x ∷ r) (sym is) ∙ v.2 (x ∷ r))))
                 (λ counted. (have (g + b) f (how_many_nodes js) u u js has' at_u).1 counted w))
 
-    pub read_off : least_label_among o c records stands labels g n ≡ least_among o c ks
-    read_off = ap (least_label_among o c records stands labels g) (sym many) ∙ read_all o c records stands labels ks g child
+    pub read_off : min_label_among o c records stands labels g n ≡ min_dead_label_among o c ks
+    read_off = ap (min_label_among o c records stands labels g) (sym many) ∙ read_all o c records stands labels ks g child
 
 -- ---- the way up
 
 module _ {S : Type 0} (o : Ops S) (law : LocalLaws o) (rp : Path) (records : List S) (stands : List RecordView) (up : ℕ → Option ℕ) (c : Channel) (old new m a : Node S) (q : List ℕ) (counts : ℕ → Option Tally)
-    (shown : Shows o rp records stands new) (linked : AreLinked records stands up) (rep : IsReplaced q m a old new) (have : HaveCounts o rp records stands c counts new) where
+    (shown : Represents o rp records stands new) (linked : AreLinked records stands up) (rep : IsReplaced q m a old new) (have : HaveCounts o rp records stands c counts new) where
   abbrev On : (ℕ → Option ℕ) → List ℕ → Type 0
   On labels p = LabelsOnTheWay o rp records stands c counts labels old new p
 
@@ -113,7 +113,7 @@ module _ {S : Type 0} (o : Ops S) (law : LocalLaws o) (rp : Path) (records : Lis
   cut_off : (labels : ℕ → Option ℕ) (x f : ℕ) (s : S) (k : ProcessStatus) → Has records stands x f s k → c.home ≡ o.path s → On labels (place o rp s) → Done labels
   cut_off labels x f s k has home way i d n u l ks fork counted there = on (is_above (place o rp u) (place o rp s)) refl
     where
-      on : (b : Bool) → is_above (place o rp u) (place o rp s) ≡ b → labels i ≡ least_among o c ks
+      on : (b : Bool) → is_above (place o rp u) (place o rp s) ≡ b → labels i ≡ min_dead_label_among o c ks
       on false w = way i d n u l ks fork counted (ap (λ z. at (place o rp u) (cond z old new)) w ∙ there)
       on true w =
           let y = some_counts i counted in
@@ -155,12 +155,12 @@ module _ {S : Type 0} (o : Ops S) (law : LocalLaws o) (rp : Path) (records : Lis
     pub fork : Has records stands j u.below.first u.below.parent (forks u.below.many)
     fork = subst (λ z. Has records stands z u.below.first u.below.parent (forks u.below.many)) u.number u.below.has
 
-    its_own : before j ≡ least_among o c u.ks
+    its_own : before j ≡ min_dead_label_among o c u.ks
     its_own = way j u.below.first u.below.many u.below.parent u.state u.ks fork counted
         (ap (λ p. at r (cond (is_above r p) old new)) u.below.is ∙ (ap (λ d. at r (cond d old new)) (above_its_own r u.below.branch) ∙ u.was))
 
     -- its children's labels are those of the tree behind
-    kids_right : (b d n : ℕ) (v w : S) (js : Nodes S) → b < u.below.many → Has records stands (u.below.first + b) d v (forks n) → counts (u.below.first + b) ≢ None → at (place o rp v) new ≡ Some (Forked w js) → before (u.below.first + b) ≡ least_among o c js
+    kids_right : (b d n : ℕ) (v w : S) (js : Nodes S) → b < u.below.many → Has records stands (u.below.first + b) d v (forks n) → counts (u.below.first + b) ≢ None → at (place o rp v) new ≡ Some (Forked w js) → before (u.below.first + b) ≡ min_dead_label_among o c js
     kids_right b d n v w js less h is_counted there =
         let z = shown.agrees.below j u.below.first u.below.many u.below.parent fork b less in
         let same : v ≡ z.1 = one_state records stands (u.below.first + b) d z.0 v z.1 (forks n) z.2 h z.3 in
@@ -176,7 +176,7 @@ module _ {S : Type 0} (o : Ops S) (law : LocalLaws o) (rp : Path) (records : Lis
         beside (y ∷ r) b d = ap (λ z. z && is_above (r ++ b ∷ []) (r ++ d ∷ [])) (eq-eqb y y refl) ∙ beside r b d
 
     -- so what is read off them is the fork's label behind
-    pub fresh : (y : Option ℕ) → IsReadOff o c records stands before j y → y ≡ least_among o c u.js
+    pub fresh : (y : Option ℕ) → IsReadOff o c records stands before j y → y ≡ min_dead_label_among o c u.js
     fresh y h =
         let its = counts_share o rp records stands new shown c counts have j u.below.first u.below.many u.below.parent (some_counts j counted).0 fork (some_counts j counted).1 in
         let same : u.below.parent ≡ u.state = sym (seen_state (Forked u.state u.js) u.below.parent (forks u.below.many) (sym (ap seen u.is) ∙ shown.agrees.shown j u.below.first u.below.parent (forks u.below.many) fork)) in
@@ -190,16 +190,16 @@ module _ {S : Type 0} (o : Ops S) (law : LocalLaws o) (rp : Path) (records : Lis
       aside = λ p far. rep.aside p (λ z e. far (u.below.branch ∷ (t ++ z)) (e ∙ (ap (λ w. w ++ z) u.split ∙ append_assoc r (u.below.branch ∷ t) z)));
     }
 
-    kids_same : (l : S) (ks js : Nodes S) → Some (Forked l ks) ≡ Some (Forked u.state js) → least_among o c ks ≡ least_among o c js
-    kids_same l ks js e = ap (least_among o c) (fork_parts o c l u.state ks js e).1
+    kids_same : (l : S) (ks js : Nodes S) → Some (Forked l ks) ≡ Some (Forked u.state js) → min_dead_label_among o c ks ≡ min_dead_label_among o c js
+    kids_same l ks js e = ap (min_dead_label_among o c) (fork_parts o c l u.state ks js e).1
 
-    here : (i d n : ℕ) (v l : S) (ks : Nodes S) → Has records stands i d v (forks n) → i ≡ j → at (place o rp v) (cond (is_above (place o rp v) r) old new) ≡ Some (Forked l ks) → least_among o c ks ≡ least_among o c u.js
+    here : (i d n : ℕ) (v l : S) (ks : Nodes S) → Has records stands i d v (forks n) → i ≡ j → at (place o rp v) (cond (is_above (place o rp v) r) old new) ≡ Some (Forked l ks) → min_dead_label_among o c ks ≡ min_dead_label_among o c u.js
     here i d n v l ks h w there =
         let same : v ≡ u.below.parent = one_state records stands j d u.below.first v u.below.parent (forks n) (forks u.below.many) (subst (λ z. Has records stands z d v (forks n)) w h) fork in
         let at_r : place o rp v ≡ r = ap (place o rp) same in
         kids_same l ks u.js (sym there ∙ ((λ e. at (at_r e) (cond (is_above (at_r e) r) old new)) ∙ (ap (λ z. at r (cond z old new)) (not_above_itself r) ∙ u.is)))
 
-    elsewhere : (labels : ℕ → Option ℕ) → ((i : ℕ) → i ≢ j → labels i ≡ before i) → labels j ≡ least_among o c u.js → On labels r
+    elsewhere : (labels : ℕ → Option ℕ) → ((i : ℕ) → i ≢ j → labels i ≡ before i) → labels j ≡ min_dead_label_among o c u.js → On labels r
     elsewhere labels others mine i d n v l ks h is_counted there = elim (same_or_not i j) [
       | inl w ↦ ap labels w ∙ (mine ∙ sym (here i d n v l ks h w there))
       | inr w ↦
@@ -212,11 +212,11 @@ module _ {S : Type 0} (o : Ops S) (law : LocalLaws o) (rp : Path) (records : Lis
 
     pub done_here : IsReadOff o c records stands before j (before j) → Done before
     done_here off =
-        let stays : least_among o c u.js ≡ least_among o c u.ks = sym (fresh (before j) off) ∙ its_own in
+        let stays : min_dead_label_among o c u.js ≡ min_dead_label_among o c u.ks = sym (fresh (before j) off) ∙ its_own in
         let way' = elsewhere before (λ i w. refl) (fresh (before j) off) in
         λ i d n v l ks h is_counted there. on i d n v l ks h is_counted there stays way' (is_above (place o rp v) r) refl
       where
-        on : (i d n : ℕ) (v l : S) (ks : Nodes S) → Has records stands i d v (forks n) → counts i ≢ None → at (place o rp v) new ≡ Some (Forked l ks) → least_among o c u.js ≡ least_among o c u.ks → On before r → (b : Bool) → is_above (place o rp v) r ≡ b → before i ≡ least_among o c ks
+        on : (i d n : ℕ) (v l : S) (ks : Nodes S) → Has records stands i d v (forks n) → counts i ≢ None → at (place o rp v) new ≡ Some (Forked l ks) → min_dead_label_among o c u.js ≡ min_dead_label_among o c u.ks → On before r → (b : Bool) → is_above (place o rp v) r ≡ b → before i ≡ min_dead_label_among o c ks
         on i d n v l ks h is_counted there stays way' false w = way' i d n v l ks h is_counted (ap (λ z. at (place o rp v) (cond z old new)) w ∙ there)
         on i d n v l ks h is_counted there stays way' true w =
             let y = way_from (place o rp v) r w in
@@ -224,8 +224,8 @@ module _ {S : Type 0} (o : Ops S) (law : LocalLaws o) (rp : Path) (records : Lis
             let now : at (place o rp v) new ≡ Some (Forked f'.state (put_child y.branch y.rest (Forked u.state u.js) f'.children)) =
             ap (at (place o rp v)) (is_put r (Forked u.state u.ks) (Forked u.state u.js) old new replaced_fork) ∙ (ap (λ z. at (place o rp v) (put z (Forked u.state u.js) old)) y.is ∙ with_split (place o rp v) (y.branch ∷ y.rest) (Forked u.state u.js) old (Forked f'.state f'.children) f'.there) in
             let same = fork_parts o c l f'.state ks (put_child y.branch y.rest (Forked u.state u.js) f'.children) (sym there ∙ now) in
-            let law' = (leasts_follow o).stays c old new (Forked u.state u.ks) (Forked u.state u.js) r (place o rp v) f'.state f'.children (put_child y.branch y.rest (Forked u.state u.js) f'.children) replaced_fork stays w f'.there now in
-            way' i d n v f'.state f'.children h is_counted (ap (λ z. at (place o rp v) (cond z old new)) w ∙ f'.there) ∙ (sym law' ∙ ap (least_among o c) (sym same.1))
+            let law' = (min_labels_follow o).stays c old new (Forked u.state u.ks) (Forked u.state u.js) r (place o rp v) f'.state f'.children (put_child y.branch y.rest (Forked u.state u.js) f'.children) replaced_fork stays w f'.there now in
+            way' i d n v f'.state f'.children h is_counted (ap (λ z. at (place o rp v) (cond z old new)) w ∙ f'.there) ∙ (sym law' ∙ ap (min_dead_label_among o c) (sym same.1))
 
   go : {n x : ℕ} {before behind : ℕ → Option ℕ} → Recounted o c records stands up counts n before x behind → NoneUncounted counts before → (f : ℕ) (s : S) (k : ProcessStatus) → Has records stands x f s k → o.shares s c ≡ true → (t : List ℕ) → q ≡ place o rp s ++ t → length (place o rp s) ≤ n
       → On before (place o rp s) → Done behind

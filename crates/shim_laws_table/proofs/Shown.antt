@@ -21,16 +21,16 @@ use Rattle.shim_semantics.proofs.MeetStays.{meeting_stays}
 use Rattle.shim_laws_schedules.proofs.Lengths.{went_on}
 use Rattle.shim_base.proofs.Facts.{some_same, none_some, cond_some}
 use Rattle.shim_laws_table.specs.Seen.{ProcessStatus, lives, forks, ends, dies, seen, process_status, is_leaf, place}
-use Rattle.shim_laws_table.specs.Agrees.{RecordView, used, Has, Agrees, Rooted, Shows, StartShows}
+use Rattle.shim_laws_table.specs.Agrees.{RecordView, used, Has, Agrees, Rooted, Represents, StartRepresents}
 use Rattle.shim_laws_table.specs.Places.{IsBy, IsReplaced, got, killed, seen_killed}
-use Rattle.shim_laws_table.specs.Changes.{HasChanged, HasForked, HasClosed, HaveReceived, HaveDied, segment, prevailing_among, EventsAreShown, OneIsShown}
+use Rattle.shim_laws_table.specs.Changes.{HasChanged, HasForked, HasClosed, HaveReceived, HaveDied, segment, prevailing_among, EventsPreserve, OneChangeIsRepresented}
 use Rattle.shim_laws_table.proofs.SameTrees.{same_or_not, aside_or_further, is_put, seen_live, seen_fork}
 use Rattle.shim_laws_table.proofs.OneChange.{one_state, agrees_changed}
 use Rattle.shim_laws_table.proofs.Forking.{agrees_forked}
 use Rattle.shim_laws_table.proofs.Closing.{one_less, agrees_closed}
 use Rattle.shim_laws_table.proofs.Meeting.{agrees_met}
 use Rattle.shim_laws_table.proofs.Poisoning.{agrees_poisoned}
-use Rattle.shim_laws_table.proofs.Children.{children_are_shown}
+use Rattle.shim_laws_table.proofs.Children.{children_are_represented}
 use Rattle.shim_laws_table.proofs.EventPlaces.{has_met as met_root, events_show}
 
 branches_both : (p q : Path) → branches (p ++ q) ≡ branches p ++ branches q
@@ -82,7 +82,7 @@ module _ {S : Type 0} (o : Ops S) (law : LocalLaws o) where
       }
 
   -- what a tree keeps through any event
-  shows_after : (rp : Path) (before behind : List S) (stood stands : List RecordView) (t u : Tree S) (e : Event) → Shows o rp before stood t.root → after o e t ≡ Some u → Rooted o rp behind stands → Agrees o rp behind stands u.root → Shows o rp behind stands u.root
+  shows_after : (rp : Path) (before behind : List S) (stood stands : List RecordView) (t u : Tree S) (e : Event) → Represents o rp before stood t.root → after o e t ≡ Some u → Rooted o rp behind stands → Agrees o rp behind stands u.root → Represents o rp behind stands u.root
   shows_after rp before behind stood stands t u e s h r ok = record {
     sound = (events_keep_sound o law).kept t s.sound e u h;
     root_path = (events_show o law).root_path t u e s.sound h ∙ s.root_path;
@@ -108,8 +108,8 @@ module _ {S : Type 0} (o : Ops S) (law : LocalLaws o) where
   ]
 
   stepped : (rp : Path) (before behind : List S) (stood stands : List RecordView) (t u : Tree S) (e : Event) (i f : ℕ) (l : S) (a : Acted S)
-      → Shows o rp before stood t.root → Has before stood i f l lives → IsBy (o.path l) e → after o e t ≡ Some u → act_live o l (o.stop l) ≡ Some a → is_leaf a.node ≡ true
-      → HasChanged before behind stood stands i (state a.node) (process_status a.node) → Shows o rp behind stands u.root
+      → Represents o rp before stood t.root → Has before stood i f l lives → IsBy (o.path l) e → after o e t ≡ Some u → act_live o l (o.stop l) ≡ Some a → is_leaf a.node ≡ true
+      → HasChanged before behind stood stands i (state a.node) (process_status a.node) → Represents o rp behind stands u.root
   stepped rp before behind stood stands t u e i f l a s has by h act leaf changed =
       let there : at (place o rp l) t.root ≡ Some (Live l) = seen_live (at (place o rp l) t.root) l (s.agrees.shown i f l lives has) in
       let x = acts_by rp l (Live l) t u e s.root_path by h there in
@@ -154,8 +154,8 @@ module _ {S : Type 0} (o : Ops S) (law : LocalLaws o) where
       replaced_twice (place o rp l) (Live l) (Live (o.quiet l)) (Live last) t.root x.0.root u.root one (subst (λ z. IsReplaced z (Live (o.quiet l)) (Live last) x.0.root u.root) stays rest)
 
   advanced : (rp : Path) (before behind : List S) (stood stands : List RecordView) (t u : Tree S) (i f n : ℕ) (l last : S)
-      → Shows o rp before stood t.root → Has before stood i f l lives → QuietSteps o n l last → Advances o (o.path l) n t u
-      → HasChanged before behind stood stands i last lives → Shows o rp behind stands u.root
+      → Represents o rp before stood t.root → Has before stood i f l lives → QuietSteps o n l last → Advances o (o.path l) n t u
+      → HasChanged before behind stood stands i last lives → Represents o rp behind stands u.root
   advanced rp before behind stood stands t u i f n l last s has taken h changed =
       let there : at (place o rp l) t.root ≡ Some (Live l) = seen_live (at (place o rp l) t.root) l (s.agrees.shown i f l lives has) in
       let path = quiet_path n l last (sound_at o (place o rp l) t.root (Live l) s.sound.below there) taken in
@@ -185,8 +185,8 @@ module _ {S : Type 0} (o : Ops S) (law : LocalLaws o) where
   forks_so p ks l = record { node = Forked p (all_live ks); effects = nothing }
 
   forked : (rp : Path) (before behind : List S) (stood stands : List RecordView) (t u : Tree S) (i f g : ℕ) (l p : S) (ks : List S)
-      → Shows o rp before stood t.root → Has before stood i f l lives → after o (Own (o.path l)) t ≡ Some u → o.stop l ≡ AtFork → o.fork l ≡ Parted p ks
-      → HasForked before behind stood stands i g p ks → Shows o rp behind stands u.root
+      → Represents o rp before stood t.root → Has before stood i f l lives → after o (Own (o.path l)) t ≡ Some u → o.stop l ≡ AtFork → o.fork l ≡ Parted p ks
+      → HasForked before behind stood stands i g p ks → Represents o rp behind stands u.root
   forked rp before behind stood stands t u i f g l p ks s has h stop parts changed =
       let q = place o rp l in
       let there : at (place o rp l) t.root ≡ Some (Live l) = seen_live (at q t.root) l (s.agrees.shown i f l lives has) in
@@ -219,14 +219,14 @@ module _ {S : Type 0} (o : Ops S) (law : LocalLaws o) where
   closed_there l ks a e = cond_some (all_done ks) (closed o l (states ks) (prevailing_death ks)) a e
 
   has_closed : (rp : Path) (before behind : List S) (stood stands : List RecordView) (t u : Tree S) (i g n : ℕ) (l : S) (a : Acted S)
-      → Shows o rp before stood t.root → Has before stood i g l (forks n) → after o (Close (o.path l)) t ≡ Some u → a ≡ closed o l (segment g n before) (prevailing_among (segment g n stood))
-      → HasClosed before behind stood stands i g n (state a.node) (process_status a.node) → Shows o rp behind stands u.root
+      → Represents o rp before stood t.root → Has before stood i g l (forks n) → after o (Close (o.path l)) t ≡ Some u → a ≡ closed o l (segment g n before) (prevailing_among (segment g n stood))
+      → HasClosed before behind stood stands i g n (state a.node) (process_status a.node) → Represents o rp behind stands u.root
   has_closed rp before behind stood stands t u i g n l a s has h is changed =
       let q = place o rp l in
       let k = seen_fork (at q t.root) l n (s.agrees.shown i g l (forks n) has) in
       let ks = k.0 in
       let there = k.1 in
-      let kids = children_are_shown o rp before stood t.root i g n l ks s.agrees has there in
+      let kids = children_are_represented o rp before stood t.root i g n l ks s.agrees has there in
       let x = acts_by rp l (Forked l ks) t u (Close (o.path l)) s.root_path refl h there in
       let w = closed_there l ks x.acted x.acts in
       let same : x.acted ≡ a = sym w.1 ∙ ((λ j. closed o l (kids.1 j) (kids.2 j)) ∙ sym is) in
@@ -265,7 +265,7 @@ module _ {S : Type 0} (o : Ops S) (law : LocalLaws o) where
   got_path rp c v s (dies d) sound = refl
 
   has_met : (rp : Path) (before behind : List S) (stands : List RecordView) (t u : Tree S) (c : Channel) (v : ℤ)
-      → Shows o rp before stands t.root → after o (Meet c) t ≡ Some u → v ≡ value_of o c (source o c t.root) → HaveReceived o c v stands before behind → Shows o rp behind stands u.root
+      → Represents o rp before stands t.root → after o (Meet c) t ≡ Some u → v ≡ value_of o c (source o c t.root) → HaveReceived o c v stands before behind → Represents o rp behind stands u.root
   has_met rp before behind stands t u c v s h is changed =
       let ok = agrees_met o c v rp before behind stands t.root changed (λ i f l k has. stays i f l k has) s.agrees in
       let r = s.rooted in
@@ -280,8 +280,8 @@ module _ {S : Type 0} (o : Ops S) (law : LocalLaws o) where
   -- ---- a poison
 
   has_poisoned : (rp : Path) (states' : List S) (stood stands : List RecordView) (t u : Tree S) (c : Channel) (i f g b n : ℕ) (l k : S) (x : ProcessStatus)
-      → Shows o rp states' stood t.root → Has states' stood i g l (forks n) → b < n → Has states' stood (g + b) f k x → after o (Poison (o.path k) c) t ≡ Some u
-      → HaveDied o rp (place o rp k) c (death (o.handlers l - 1)) states' stood stands → Shows o rp states' stands u.root
+      → Represents o rp states' stood t.root → Has states' stood i g l (forks n) → b < n → Has states' stood (g + b) f k x → after o (Poison (o.path k) c) t ≡ Some u
+      → HaveDied o rp (place o rp k) c (death (o.handlers l - 1)) states' stood stands → Represents o rp states' stands u.root
   has_poisoned rp states' stood stands t u c i f g b n l k x s has less child h changed =
       let y = (events_show o law).poisons t u (o.path k) c h in
       let r = route_rest rp (o.path k) (y.fork_place ++ y.branch ∷ []) (ap (λ z. route z (o.path k)) (sym s.root_path) ∙ y.leads) in
@@ -303,8 +303,8 @@ module _ {S : Type 0} (o : Ops S) (law : LocalLaws o) where
         | inr far ↦ record { first = s.rooted.first; state = s.rooted.state; status = killed o c (death (o.handlers l - 1)) s.rooted.state s.rooted.status; has = record { state_is = s.rooted.has.state_is; stands_so = changed.below 0 s.rooted.first s.rooted.state s.rooted.status far.0 s.rooted.has far.1 }; at_root = s.rooted.at_root }
       ]
 
-  pub events_are_shown : EventsAreShown o
-  events_are_shown = record {
+  pub events_preserve : EventsPreserve o
+  events_preserve = record {
     stepped = stepped;
     advanced = advanced;
     forked = forked;
@@ -314,8 +314,8 @@ module _ {S : Type 0} (o : Ops S) (law : LocalLaws o) where
   }
 
 module _ {S : Type 0} (o : Ops S) where
-  pub one_is_shown : OneIsShown o
-  one_is_shown rp before behind stood stands old new m a i f ok has leaf leaf' path x changed =
+  pub one_change_is_represented : OneChangeIsRepresented o
+  one_change_is_represented rp before behind stood stands old new m a i f ok has leaf leaf' path x changed =
       subst (Agrees o rp behind stands) (sym (is_put (place o rp (state m)) m a old new x))
       (agrees_changed o rp before behind stood stands old m a i f ok has x.was leaf leaf' (ap (λ z. branches (drop (length rp) z)) path) changed)
 
@@ -345,8 +345,8 @@ module _ {S : Type 0} (o : Ops S) where
       below = λ i f n t h. absurd (no_forks n (is_one i f t (forks n) h).2);
     }
 
-  pub start_shows : StartShows o
-  start_shows l s = record {
+  pub start_represents : StartRepresents o
+  start_represents l s = record {
     sound = s;
     root_path = refl;
     rooted = record { first = 0; state = l; status = lives; has = record { state_is = refl; stands_so = refl }; at_root = own_branches (o.path l) };

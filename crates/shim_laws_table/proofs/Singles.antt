@@ -14,10 +14,10 @@ use Rattle.shim_semantics.proofs.Replaced.{sound_at, replaced}
 use Rattle.shim_laws_schedules.proofs.Stood.{base_below}
 use Rattle.shim_base.proofs.Facts.{some_same}
 use Rattle.shim_laws_table.specs.Seen.{lives, process_status, is_leaf, place}
-use Rattle.shim_laws_table.specs.Agrees.{RecordView, Has, Agrees, Shows}
+use Rattle.shim_laws_table.specs.Agrees.{RecordView, Has, Agrees, Represents}
 use Rattle.shim_laws_table.specs.Places.{IsReplaced}
 use Rattle.shim_laws_table.specs.Changes.{HasChanged}
-use Rattle.shim_laws_table.specs.Singles.{SinglesAreShown}
+use Rattle.shim_laws_table.specs.Singles.{SingleChangesAreRepresented}
 use Rattle.shim_laws_table.proofs.SameTrees.{is_put}
 use Rattle.shim_laws_table.proofs.OneChange.{agrees_changed}
 use Rattle.shim_laws_table.proofs.Shown.{rooted_changed}
@@ -30,8 +30,8 @@ module _ {S : Type 0} (o : Ops S) (law : LocalLaws o) where
   root_put (i ∷ q) (Ended l) m a e same = refl
   root_put (i ∷ q) (Dead l d) m a e same = refl
 
-  single : (rp : Path) (before behind : List S) (stood stands : List RecordView) (old new : Node S) (i f : ℕ) (l : S) (a : Node S) → Shows o rp before stood old → Has before stood i f l lives → Keeps o (Live l) a → is_leaf a ≡ true
-      → IsReplaced (place o rp l) (Live l) a old new → HasChanged before behind stood stands i (state a) (process_status a) → Shows o rp behind stands new
+  single : (rp : Path) (before behind : List S) (stood stands : List RecordView) (old new : Node S) (i f : ℕ) (l : S) (a : Node S) → Represents o rp before stood old → Has before stood i f l lives → Keeps o (Live l) a → is_leaf a ≡ true
+      → IsReplaced (place o rp l) (Live l) a old new → HasChanged before behind stood stands i (state a) (process_status a) → Represents o rp behind stands new
   single rp before behind stood stands old new i f l a s has keeps leaf rep changed =
       let q = place o rp l in
       let is = is_put q (Live l) a old new rep in
@@ -43,8 +43,8 @@ module _ {S : Type 0} (o : Ops S) (law : LocalLaws o) where
         agrees = subst (Agrees o rp behind stands) (sym is) (agrees_changed o rp before behind stood stands old (Live l) a i f s.agrees has rep.was refl leaf (ap (λ z. branches (drop (length rp) z)) path) changed);
       }
 
-  pub singles_are_shown : SinglesAreShown o
-  singles_are_shown = record {
+  pub single_changes_are_represented : SingleChangesAreRepresented o
+  single_changes_are_represented = record {
     received = λ rp before behind stood stands old new i f l c v s has stop rep changed.
         let sound = sound_at o (place o rp l) old (Live l) s.sound.below rep.was in
         single rp before behind stood stands old new i f l (Live (o.receive l v)) s has (stays_keeps o (Live l) (Live (o.receive l v)) (call_stays o law l (o.receive l v) sound (by_receive c v stop refl))) refl rep changed;

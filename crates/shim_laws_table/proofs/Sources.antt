@@ -12,7 +12,7 @@ use Rattle.shim_laws_schedules.proofs.Unshared.{no_name}
 use Rattle.shim_base.proofs.Facts.{some_same, none_some, true_or_false, false_unless, or_left, or_right}
 use Rattle.shim_base.proofs.SamePaths.{same_channel_refl}
 use Rattle.shim_laws_table.specs.Seen.{ProcessStatus, lives, process_status, place}
-use Rattle.shim_laws_table.specs.Agrees.{RecordView, Has, Shows}
+use Rattle.shim_laws_table.specs.Agrees.{RecordView, Has, Represents}
 use Rattle.shim_laws_table.specs.Sources.{is_before, SourcesByRecords}
 use Rattle.shim_laws_table.proofs.SameTrees.{seen_live, seen_some}
 use Rattle.shim_laws_table.proofs.OneTree.{covered}
@@ -106,7 +106,7 @@ module _ {S : Type 0} (o : Ops S) (c : Channel) where
     source_none_in (node_and k ks) e zero q m f = source_none k (no_option (source o c k) (source_among o c ks) e).0 q m f
     source_none_in (node_and k ks) e (suc i) q m f = source_none_in ks (no_option (source o c k) (source_among o c ks) e).1 i q m f
 
-  module _ (rp : Path) (records : List S) (stands : List RecordView) (root : Node S) (s : Shows o rp records stands root) where
+  module _ (rp : Path) (records : List S) (stands : List RecordView) (root : Node S) (s : Represents o rp records stands root) where
     -- two that carry it stand in one place
     one_place : (p q : List ℕ) (m k : Node S) → at p root ≡ Some m → at q root ≡ Some k → o.carries (state m) c ≡ true → o.carries (state k) c ≡ true → p ≡ q
     one_place p q m k e f g h = elim (same_places p q) [

@@ -16,19 +16,19 @@ use Rattle.shim_semantics.proofs.Replaced.{sound_at}
 use Rattle.shim_semantics.proofs.SoundEvents.{here_keeps}
 use Rattle.shim_laws_schedules.proofs.Homes.{unshared_is_unshared}
 use Rattle.shim_laws_table.specs.Seen.{ProcessStatus, process_status, is_leaf, place}
-use Rattle.shim_laws_table.specs.Agrees.{RecordView, Has, Shows}
+use Rattle.shim_laws_table.specs.Agrees.{RecordView, Has, Represents}
 use Rattle.shim_laws_table.specs.Places.{IsReplaced}
-use Rattle.shim_laws_table.specs.Counts.{Tally, reading}
+use Rattle.shim_laws_table.specs.Counts.{Tally, child_status}
 use Rattle.shim_laws_table.specs.Tallied.{Tallied, OnTheWay, is_above, HaveCounts}
-use Rattle.shim_laws_table.specs.Dooms.{least, least_among}
+use Rattle.shim_laws_table.specs.Dooms.{min_dead_label, min_dead_label_among}
 use Rattle.shim_laws_table.specs.LoweredLabels.{Labelled, LabelsOnTheWay}
-use Rattle.shim_laws_table.specs.Sufficing.{GivenSuffice, read_leaf, ActorsAreRead}
+use Rattle.shim_laws_table.specs.Sufficing.{GivenSuffice, leaf_status, ActorsAreRead}
 use Rattle.shim_laws_table.proofs.SameTrees.{is_put}
 use Rattle.shim_laws_table.proofs.Way.{way_from, with_split, fork_above}
 use Rattle.shim_laws_table.proofs.Begun.{fork_parts}
 use Rattle.shim_laws_table.proofs.Brought.{counts_follow}
 use Rattle.shim_laws_table.proofs.Foreign.{foreign_stays}
-use Rattle.shim_laws_table.proofs.Leasts.{leasts_follow, unshared_least}
+use Rattle.shim_laws_table.proofs.MinLabels.{min_labels_follow, unshared_least}
 use Rattle.shim_laws_table.proofs.Hanging.{ends_of, given_place, node_of, counts_share, none_above}
 
 -- a path leads on from another one, or not
@@ -56,7 +56,7 @@ some_counts None h = absurd (h refl)
 some_counts (Some y) h = (y, refl)
 
 module _ {S : Type 0} (o : Ops S) (law : LocalLaws o) (rp : Path) (records : List S) (stands : List RecordView) (c : Channel) (old new m : Node S) (a : Acted S) (x f : ℕ) (s : S) (k : ProcessStatus)
-    (sound : IsSound o old) (shown : Shows o rp records stands new) (has : Has records stands x f s k) (rep : IsReplaced (place o rp s) m a.node old new) (acts : act_here o m ≡ Some a) (not_given : IsGiven o s c → o.shares s c ≡ true → ⊥) where
+    (sound : IsSound o old) (shown : Represents o rp records stands new) (has : Has records stands x f s k) (rep : IsReplaced (place o rp s) m a.node old new) (acts : act_here o m ≡ Some a) (not_given : IsGiven o s c → o.shares s c ≡ true → ⊥) where
   abbrev q : List ℕ
   q = place o rp s
 
@@ -86,10 +86,10 @@ module _ {S : Type 0} (o : Ops S) (law : LocalLaws o) (rp : Path) (records : Lis
     lacked : o.shares (state m) c ≡ false
     lacked = sym ((foreign_stays o law).shares old m q a c sound rep.was acts (λ e. out_before [] (e ∙ sym (append-nil (o.path (state m)))))) ∙ (ap (λ z. o.shares z c) its_state ∙ lacks out)
 
-    no_label_before : least o c m ≡ None
+    no_label_before : min_dead_label o c m ≡ None
     no_label_before = unshared_least o c m (unshared_is_unshared o c m (sound_at o q old m sound.below rep.was) lacked out_before)
 
-    no_label_now : least o c a.node ≡ None
+    no_label_now : min_dead_label o c a.node ≡ None
     no_label_now = unshared_least o c a.node (unshared_is_unshared o c a.node (sound_at o q new a.node shown.sound.below rep.is) (ap (λ z. o.shares z c) its_state ∙ lacks out) (λ r e. out r (e ∙ ap (λ z. o.path z ++ r) its_state)))
 
   module _ (counts : ℕ → Option Tally) (have : HaveCounts o rp records stands c counts new) where
@@ -103,16 +103,16 @@ module _ {S : Type 0} (o : Ops S) (law : LocalLaws o) (rp : Path) (records : Lis
       cut_off : (r : Path) → c.home ≡ o.path s ++ r → Labelled o rp records stands c counts labels new
       cut_off r home i d n u l ks fork counted there = on (is_above (place o rp u) q) refl
         where
-          on : (b : Bool) → is_above (place o rp u) q ≡ b → labels i ≡ least_among o c ks
+          on : (b : Bool) → is_above (place o rp u) q ≡ b → labels i ≡ min_dead_label_among o c ks
           on false w = way i d n u l ks fork counted (ap (λ z. at (place o rp u) (cond z old new)) w ∙ there)
           on true w =
               let y = some_counts (counts i) counted in
               absurd (none_above o rp records stands new shown c x f i d n s u k r has home fork w (counts_share o rp records stands new shown c counts have i d n u y.0 fork y.1))
 
-      as_before : least o c a.node ≡ least o c m → Labelled o rp records stands c counts labels new
+      as_before : min_dead_label o c a.node ≡ min_dead_label o c m → Labelled o rp records stands c counts labels new
       as_before same i d n u l ks fork counted there = on (is_above (place o rp u) q) refl
         where
-          on : (b : Bool) → is_above (place o rp u) q ≡ b → labels i ≡ least_among o c ks
+          on : (b : Bool) → is_above (place o rp u) q ≡ b → labels i ≡ min_dead_label_among o c ks
           on false w = way i d n u l ks fork counted (ap (λ z. at (place o rp u) (cond z old new)) w ∙ there)
           on true w =
               let y = way_from (place o rp u) q w in
@@ -120,8 +120,8 @@ module _ {S : Type 0} (o : Ops S) (law : LocalLaws o) (rp : Path) (records : Lis
               let now : at (place o rp u) new ≡ Some (Forked v.state (put_child y.branch y.rest a.node v.children)) =
               ap (at (place o rp u)) (is_put q m a.node old new rep) ∙ (ap (λ z. at (place o rp u) (put z a.node old)) y.is ∙ with_split (place o rp u) (y.branch ∷ y.rest) a.node old (Forked v.state v.children) v.there) in
               let parts = fork_parts o c l v.state ks (put_child y.branch y.rest a.node v.children) (sym there ∙ now) in
-              let stays = (leasts_follow o).stays c old new m a.node q (place o rp u) v.state v.children (put_child y.branch y.rest a.node v.children) rep same w v.there now in
-              way i d n u v.state v.children fork counted (ap (λ z. at (place o rp u) (cond z old new)) w ∙ v.there) ∙ (sym stays ∙ ap (least_among o c) (sym parts.1))
+              let stays = (min_labels_follow o).stays c old new m a.node q (place o rp u) v.state v.children (put_child y.branch y.rest a.node v.children) rep same w v.there now in
+              way i d n u v.state v.children fork counted (ap (λ z. at (place o rp u) (cond z old new)) w ∙ v.there) ∙ (sym stays ∙ ap (min_dead_label_among o c) (sym parts.1))
 
       labels_stay : Labelled o rp records stands c counts labels new
       labels_stay = elim (below_or_not (o.path s) c.home) [
@@ -157,15 +157,15 @@ module _ {S : Type 0} (o : Ops S) where
   live_unread c l (AtThrow x) a e = refl
   live_unread c l (AtTrap kind line) a e = refl
 
-  before : (c : Channel) (m : Node S) (a : Acted S) → act_here o m ≡ Some a → reading o c m ≡ record { joining = o.shares (state m) c; readiness = false; failing = false }
-  before c (Live l) a e = λ i. record { joining = o.shares l c; readiness = live_unread c l (o.stop l) a e i; failing = false }
+  before : (c : Channel) (m : Node S) (a : Acted S) → act_here o m ≡ Some a → child_status o c m ≡ record { alive = o.shares (state m) c; ready_on = false; dead_on = false }
+  before c (Live l) a e = λ i. record { alive = o.shares l c; ready_on = live_unread c l (o.stop l) a e i; dead_on = false }
   before c (Forked l ks) a e =
       let done = (cond_some (all_done ks) (closed o l (states ks) (prevailing_death ks)) a e).0 in
-      λ i. record { joining = o.shares l c; readiness = none_shares c ks done i && all_ready o c ks; failing = false }
+      λ i. record { alive = o.shares l c; ready_on = none_shares c ks done i && all_ready o c ks; dead_on = false }
   before c (Ended l) a e = none_some a e
   before c (Dead l d) a e = none_some a e
 
-  behind : (c : Channel) (a : Node S) → is_leaf a ≡ true → reading o c a ≡ read_leaf o c (state a) (process_status a)
+  behind : (c : Channel) (a : Node S) → is_leaf a ≡ true → child_status o c a ≡ leaf_status o c (state a) (process_status a)
   behind c (Live l) e = refl
   behind c (Forked l ks) e = absurd cc
   behind c (Ended l) e = refl

@@ -8,7 +8,7 @@ use Rattle.shim_semantics.specs.Places.{at, child_at}
 use Rattle.shim_semantics.proofs.ReplacedNodes.{put, put_child}
 use Rattle.shim_base.proofs.Facts.{some_same, none_some}
 use Rattle.shim_laws_table.specs.Places.{IsReplaced}
-use Rattle.shim_laws_table.specs.Counts.{joins, isnt_ready, fails, count, all_there, tally_of, bit, Reading, reading, IsExchanged, CountsTell}
+use Rattle.shim_laws_table.specs.Counts.{joins, isnt_ready, fails, count, tally_ready, tally_of, bit, ChildStatus, child_status, IsExchanged, CountsTell}
 use Rattle.shim_laws_table.proofs.SameTrees.{is_put}
 use Rattle.shim_laws_table.proofs.Readiness.{by_counts}
 
@@ -37,18 +37,18 @@ module _ {S : Type 0} (f : Node S → Bool) where
 
 module _ {S : Type 0} (o : Ops S) (c : Channel) where
   -- what is read of a fork is told by its counts
-  pub fork_read : (l : S) (ks : Nodes S) → reading o c (Forked l ks) ≡ record { joining = o.shares l c; readiness = all_there (tally_of o c ks); failing = false }
-  fork_read l ks = ap (λ b. let r : Reading = record { joining = o.shares l c; readiness = b; failing = false } in r) (by_counts o c l ks)
+  pub fork_read : (l : S) (ks : Nodes S) → child_status o c (Forked l ks) ≡ record { alive = o.shares l c; ready_on = tally_ready (tally_of o c ks); dead_on = false }
+  fork_read l ks = ap (λ b. let r : ChildStatus = record { alive = o.shares l c; ready_on = b; dead_on = false } in r) (by_counts o c l ks)
 
-  pub fork_alike : (l : S) (ks js : Nodes S) → tally_of o c js ≡ tally_of o c ks → reading o c (Forked l ks) ≡ reading o c (Forked l js)
+  pub fork_alike : (l : S) (ks js : Nodes S) → tally_of o c js ≡ tally_of o c ks → child_status o c (Forked l ks) ≡ child_status o c (Forked l js)
   fork_alike l ks js e =
-      fork_read l ks ∙ (ap (λ t. let r : Reading = record { joining = o.shares l c; readiness = all_there t; failing = false } in r) (sym e) ∙ sym (fork_read l js))
+      fork_read l ks ∙ (ap (λ t. let r : ChildStatus = record { alive = o.shares l c; ready_on = tally_ready t; dead_on = false } in r) (sym e) ∙ sym (fork_read l js))
 
-  with_alike : (k a : Node S) (ks : Nodes S) → reading o c k ≡ reading o c a → tally_of o c (node_and a ks) ≡ tally_of o c (node_and k ks)
+  with_alike : (k a : Node S) (ks : Nodes S) → child_status o c k ≡ child_status o c a → tally_of o c (node_and a ks) ≡ tally_of o c (node_and k ks)
   with_alike k a ks h = λ t. record {
-    live = if (sym h t).joining then suc (count (joins o c) ks) else count (joins o c) ks;
-    not_ready = if (sym h t).joining && not (sym h t).readiness then suc (count (isnt_ready o c) ks) else count (isnt_ready o c) ks;
-    dead = if (sym h t).failing then suc (count (fails o c) ks) else count (fails o c) ks;
+    live = if (sym h t).alive then suc (count (joins o c) ks) else count (joins o c) ks;
+    not_ready = if (sym h t).alive && not (sym h t).ready_on then suc (count (isnt_ready o c) ks) else count (isnt_ready o c) ks;
+    dead = if (sym h t).dead_on then suc (count (fails o c) ks) else count (fails o c) ks;
   }
 
   behind_same : (k : Node S) (ks js : Nodes S) → tally_of o c js ≡ tally_of o c ks → tally_of o c (node_and k js) ≡ tally_of o c (node_and k ks)
@@ -59,14 +59,14 @@ module _ {S : Type 0} (o : Ops S) (c : Channel) where
   }
 
   mutual
-    pub alike_up : (q : List ℕ) (m a n : Node S) → at q n ≡ Some m → reading o c m ≡ reading o c a → reading o c n ≡ reading o c (put q a n)
-    alike_up [] m a n e h = ap (reading o c) (some_same n m e) ∙ h
+    pub alike_up : (q : List ℕ) (m a n : Node S) → at q n ≡ Some m → child_status o c m ≡ child_status o c a → child_status o c n ≡ child_status o c (put q a n)
+    alike_up [] m a n e h = ap (child_status o c) (some_same n m e) ∙ h
     alike_up (i ∷ q) m a (Live l) e h = none_some m e
     alike_up (i ∷ q) m a (Ended l) e h = none_some m e
     alike_up (i ∷ q) m a (Dead l x) e h = none_some m e
     alike_up (i ∷ q) m a (Forked l ks) e h = fork_alike l ks (put_child i q a ks) (tally_up i q m a ks e h)
 
-    pub tally_up : (i : ℕ) (q : List ℕ) (m a : Node S) (ks : Nodes S) → child_at i q ks ≡ Some m → reading o c m ≡ reading o c a → tally_of o c (put_child i q a ks) ≡ tally_of o c ks
+    pub tally_up : (i : ℕ) (q : List ℕ) (m a : Node S) (ks : Nodes S) → child_at i q ks ≡ Some m → child_status o c m ≡ child_status o c a → tally_of o c (put_child i q a ks) ≡ tally_of o c ks
     tally_up i q m a no_node e h = none_some m e
     tally_up zero q m a (node_and k ks) e h = with_alike k (put q a k) ks (alike_up q m a k e h)
     tally_up (suc i) q m a (node_and k ks) e h = behind_same k ks (put_child i q a ks) (tally_up i q m a ks e h)
@@ -109,12 +109,12 @@ counts_tell o = record {
   fork = fork_read o;
   moves = λ c l ks js b p m a k h x e f.
       let w = child_of l b p ks js m a k h x e f in
-      subst (λ z. IsExchanged (reading o c k) (reading o c h) (tally_of o c ks) (tally_of o c z)) (sym w.0) (subst (λ z. IsExchanged (reading o c k) (reading o c z) (tally_of o c ks) (tally_of o c (put_child b p a ks))) (sym w.1) (record {
+      subst (λ z. IsExchanged (child_status o c k) (child_status o c h) (tally_of o c ks) (tally_of o c z)) (sym w.0) (subst (λ z. IsExchanged (child_status o c k) (child_status o c z) (tally_of o c ks) (tally_of o c (put_child b p a ks))) (sym w.1) (record {
         live = count_changed (joins o c) b p ks k a e;
         not_ready = count_changed (isnt_ready o c) b p ks k a e;
         dead = count_changed (fails o c) b p ks k a e;
       }));
-  going = λ l ks js b p m a k h x e f.
+  running_children = λ l ks js b p m a k h x e f.
       let w = child_of l b p ks js m a k h x e f in
       (λ i. count goes (w.0 i) + bit (goes k)) ∙ (count_changed goes b p ks k a e ∙ ap (λ z. count goes ks + bit (goes z)) (sym w.1));
   fresh = λ c ks i. record { live = fresh_live o c ks i; not_ready = fresh_not_ready o c ks i; dead = fresh_dead o c ks i };

@@ -14,18 +14,18 @@ use Rattle.shim_laws_schedules.proofs.Opened.{told, opened}
 use Rattle.shim_laws_schedules.proofs.PoisonDiamond.{with_root, nodes_changed_some}
 use Rattle.shim_base.proofs.Facts.{some_same, cond_some}
 use Rattle.shim_laws_table.specs.Seen.{lives, forks, place}
-use Rattle.shim_laws_table.specs.Agrees.{RecordView, Shows}
+use Rattle.shim_laws_table.specs.Agrees.{RecordView, Represents}
 use Rattle.shim_laws_table.specs.Changes.{segment, prevailing_among}
-use Rattle.shim_laws_table.specs.Told.{EventsTell}
+use Rattle.shim_laws_table.specs.EventEffects.{EffectsOfEvents}
 use Rattle.shim_laws_table.proofs.SameTrees.{seen_live, seen_fork}
-use Rattle.shim_laws_table.proofs.Children.{children_are_shown}
+use Rattle.shim_laws_table.proofs.Children.{children_are_represented}
 
 module _ {S : Type 0} (o : Ops S) where
   -- the same tree with its own root written out
   told_root : (e : Event) (t u : Tree S) (n : Node S) (s : Effects) → told e t n s ≡ u → u ≡ told e t u.root s
   told_root e t u n s h = sym h ∙ ap (λ z. told e t z s) (ap (λ (z : Tree S). z.root) h)
 
-  module _ (rp : Path) (records : List S) (stands : List RecordView) (t u : Tree S) (l : S) (m : Node S) (a : Acted S) (s : Shows o rp records stands t.root) (there : at (place o rp l) t.root ≡ Some m) (is : state m ≡ l) where
+  module _ (rp : Path) (records : List S) (stands : List RecordView) (t u : Tree S) (l : S) (m : Node S) (a : Acted S) (s : Represents o rp records stands t.root) (there : at (place o rp l) t.root ≡ Some m) (is : state m ≡ l) where
     tells : (e : Event) → IsAlone e → doer e ≡ o.path l → after o e t ≡ Some u → ((b : Acted S) → act_here o m ≡ Some b → b ≡ a) → u ≡ told e t u.root a.effects
     tells e d its h one =
         let x = opened o e t u d h in
@@ -35,15 +35,15 @@ module _ {S : Type 0} (o : Ops S) where
         let acted : x.new ≡ a = one x.new (ap (act_here o) (sym same) ∙ x.here) in
         told_root e t u (put x.place x.new.node t.root) x.new.effects x.is ∙ ap (λ (z : Acted S). told e t u.root z.effects) acted
 
-  pub events_tell : EventsTell o
-  events_tell = record {
+  pub effects_of_events : EffectsOfEvents o
+  effects_of_events = record {
     own = λ rp records stands t u i f l a s has act h.
         tells rp records stands t u l (Live l) a s (seen_live (at (place o rp l) t.root) l (s.agrees.shown i f l lives has)) refl (Own (o.path l)) (λ z. cc) refl h (λ b e. some_same b a (sym e ∙ act));
     end = λ rp records stands t u i f l a s has act h.
         tells rp records stands t u l (Live l) a s (seen_live (at (place o rp l) t.root) l (s.agrees.shown i f l lives has)) refl (End (o.path l)) (λ z. cc) refl h (λ b e. some_same b a (sym e ∙ act));
     close = λ rp records stands t u i g n l s has h.
         let k = seen_fork (at (place o rp l) t.root) l n (s.agrees.shown i g l (forks n) has) in
-        let kids = children_are_shown o rp records stands t.root i g n l k.0 s.agrees has k.1 in
+        let kids = children_are_represented o rp records stands t.root i g n l k.0 s.agrees has k.1 in
         let a : Acted S = closed o l (segment g n records) (prevailing_among (segment g n stands)) in
         tells rp records stands t u l (Forked l k.0) a s k.1 refl (Close (o.path l)) (λ z. cc) refl h
         (λ b e. sym (cond_some (all_done k.0) (closed o l (states k.0) (prevailing_death k.0)) b e).1 ∙ (λ j. closed o l (kids.1 j) (kids.2 j)));

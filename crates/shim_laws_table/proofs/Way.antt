@@ -10,7 +10,7 @@ use Rattle.shim_semantics.proofs.ReplacedNodes.{put, put_child}
 use Rattle.shim_base.proofs.Facts.{some_same, none_some}
 use Rattle.shim_laws_table.specs.Seen.{is_leaf, place, IsAside}
 use Rattle.shim_laws_table.specs.Agrees.{RecordView}
-use Rattle.shim_laws_table.specs.Counts.{Tally, tally_of, reading}
+use Rattle.shim_laws_table.specs.Counts.{Tally, tally_of, child_status}
 use Rattle.shim_laws_table.specs.Tallied.{Tallied, is_above, OnTheWay}
 use Rattle.shim_laws_table.proofs.Aside.{none_below}
 use Rattle.shim_laws_table.proofs.Poisoning.{put_twice}
@@ -142,7 +142,7 @@ module _ {S : Type 0} (o : Ops S) (rp : Path) (states : List S) (stands : List R
   topped counts old new t i f n s y l ks has w g = t i f n s y l ks has w (ap (λ d. at (place o rp s) (cond d old new)) (not_above_root (place o rp s)) ∙ g)
 
   -- a fork above a node that is seen as before has the same counts
-  same_above : (root m a : Node S) (p x : List ℕ) → at p root ≡ Some m → reading o c m ≡ reading o c a → is_above x p ≡ true → (l : S) (ks : Nodes S) → at x (put p a root) ≡ Some (Forked l ks)
+  same_above : (root m a : Node S) (p x : List ℕ) → at p root ≡ Some m → child_status o c m ≡ child_status o c a → is_above x p ≡ true → (l : S) (ks : Nodes S) → at x (put p a root) ≡ Some (Forked l ks)
       → (k : S) × (js : Nodes S) × (at x root ≡ Some (Forked k js)) × (tally_of o c js ≡ tally_of o c ks)
   same_above root m a p x e like u l ks g =
       let w = way_from x p u in
@@ -156,7 +156,7 @@ module _ {S : Type 0} (o : Ops S) (rp : Path) (states : List S) (stands : List R
             ∙ forked_same o c v.state l (put_child w.branch w.rest a v.children) ks (sym h ∙ j),
       )
 
-  pub ended : (counts : ℕ → Option Tally) (root m a : Node S) (p t : List ℕ) → at p root ≡ Some m → reading o c m ≡ reading o c (put t a m)
+  pub ended : (counts : ℕ → Option Tally) (root m a : Node S) (p t : List ℕ) → at p root ≡ Some m → child_status o c m ≡ child_status o c (put t a m)
       → OnTheWay o rp states stands c counts root (put (p ++ t) a root) p → Tallied o rp states stands c counts (put (p ++ t) a root)
   ended counts root m a p t e like way i f n s y l ks has w g = on (is_above (place o rp s) p) refl
     where

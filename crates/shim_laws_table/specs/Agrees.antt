@@ -36,7 +36,7 @@ pub record Rooted {S : Type 0} (o : Ops S) (rp : Path) (states : List S) (stands
   pub at_root : place o rp state ≡ []
 
 -- the records show a sound tree
-pub record Shows {S : Type 0} (o : Ops S) (rp : Path) (states : List S) (stands : List RecordView) (root : Node S) : Type 0 where
+pub record Represents {S : Type 0} (o : Ops S) (rp : Path) (states : List S) (stands : List RecordView) (root : Node S) : Type 0 where
   pub sound : IsSound o root
   pub root_path : o.path (state root) ≡ rp
   pub rooted : Rooted o rp states stands
@@ -47,5 +47,5 @@ abbrev pub OneTree : {S : Type 0} → Ops S → Type 0
 OneTree {S} o = (rp : Path) (states : List S) (stands : List RecordView) (t u : Node S) → Rooted o rp states stands → Agrees o rp states stands t → Agrees o rp states stands u → t ≡ u
 
 -- one live process has one record
-abbrev pub StartShows : {S : Type 0} → Ops S → Type 0
-StartShows {S} o = (l : S) → IsSound o (Live l) → Shows o (o.path l) (l ∷ []) (used 0 lives ∷ []) (Live l)
+abbrev pub StartRepresents : {S : Type 0} → Ops S → Type 0
+StartRepresents {S} o = (l : S) → IsSound o (Live l) → Represents o (o.path l) (l ∷ []) (used 0 lives ∷ []) (Live l)

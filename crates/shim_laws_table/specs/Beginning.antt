@@ -10,7 +10,7 @@ use Rattle.shim_laws_table.specs.Seen.{lives, process_status, is_leaf, place}
 use Rattle.shim_laws_table.specs.Agrees.{RecordView, Has, Agrees}
 use Rattle.shim_laws_table.specs.Places.{IsReplaced}
 use Rattle.shim_laws_table.specs.Changes.{HasChanged, HasForked, HasClosed}
-use Rattle.shim_laws_table.specs.Counts.{Tally, tally_of, reading}
+use Rattle.shim_laws_table.specs.Counts.{Tally, tally_of, child_status}
 use Rattle.shim_laws_table.specs.LoweredLabels.{Labelled, LabelsOnTheWay}
 use Rattle.shim_laws_table.specs.Tallied.{Tallied, OnTheWay, IsCounted, HaveCounts}
 
@@ -61,4 +61,4 @@ pub record ForeignStays {S : Type 0} (o : Ops S) : Type 0 where
       → o.shares (state a.node) c ≡ o.shares (state m) c
   -- so of a channel that it doesn't share, and that was declared neither by it nor below, the same is read before and behind
   pub reads : (root m : Node S) (q : List ℕ) (a : Acted S) (c : Channel) → IsSound o root → at q root ≡ Some m → act_here o m ≡ Some a → ((r : Path) → c.home ≢ o.path (state m) ++ r)
-      → o.shares (state m) c ≡ false → reading o c m ≡ reading o c a.node
+      → o.shares (state m) c ≡ false → child_status o c m ≡ child_status o c a.node

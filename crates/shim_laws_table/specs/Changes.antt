@@ -9,7 +9,7 @@ use Rattle.shim_semantics.specs.Places.{at}
 use Rattle.shim_semantics.specs.Quiets.{Advances}
 use Rattle.shim_semantics.specs.Trees.{Tree, Event, Own, Meet, Poison, Close, after}
 use Rattle.shim_laws_table.specs.Seen.{ProcessStatus, lives, forks, ends, dies, process_status, is_leaf, place, how_many_nodes}
-use Rattle.shim_laws_table.specs.Agrees.{RecordView, free, used, Has, Agrees, Shows}
+use Rattle.shim_laws_table.specs.Agrees.{RecordView, free, used, Has, Agrees, Represents}
 use Rattle.shim_laws_table.specs.Places.{IsReplaced, IsBy, got, killed}
 
 -- the record i says this now, and no other record has changed
@@ -64,35 +64,35 @@ abbrev pub segment : {A : Type 0} → ℕ → ℕ → List A → List A
 segment g n xs = take n (drop g xs)
 
 -- Records that show a tree and have changed so show the tree after the event.
-pub record EventsAreShown {S : Type 0} (o : Ops S) : Type 0 where
+pub record EventsPreserve {S : Type 0} (o : Ops S) : Type 0 where
   -- a live process's own step that is no fork, or its end
   pub stepped : (rp : Path) (before behind : List S) (stood stands : List RecordView) (t u : Tree S) (e : Event) (i f : ℕ) (l : S) (a : Acted S)
-      → Shows o rp before stood t.root → Has before stood i f l lives → IsBy (o.path l) e → after o e t ≡ Some u → act_live o l (o.stop l) ≡ Some a → is_leaf a.node ≡ true
-      → HasChanged before behind stood stands i (state a.node) (process_status a.node) → Shows o rp behind stands u.root
+      → Represents o rp before stood t.root → Has before stood i f l lives → IsBy (o.path l) e → after o e t ≡ Some u → act_live o l (o.stop l) ≡ Some a → is_leaf a.node ≡ true
+      → HasChanged before behind stood stands i (state a.node) (process_status a.node) → Represents o rp behind stands u.root
   -- so many quiet steps of it
   pub advanced : (rp : Path) (before behind : List S) (stood stands : List RecordView) (t u : Tree S) (i f n : ℕ) (l last : S)
-      → Shows o rp before stood t.root → Has before stood i f l lives → QuietSteps o n l last → Advances o (o.path l) n t u
-      → HasChanged before behind stood stands i last lives → Shows o rp behind stands u.root
+      → Represents o rp before stood t.root → Has before stood i f l lives → QuietSteps o n l last → Advances o (o.path l) n t u
+      → HasChanged before behind stood stands i last lives → Represents o rp behind stands u.root
   pub forked : (rp : Path) (before behind : List S) (stood stands : List RecordView) (t u : Tree S) (i f g : ℕ) (l p : S) (ks : List S)
-      → Shows o rp before stood t.root → Has before stood i f l lives → after o (Own (o.path l)) t ≡ Some u → o.stop l ≡ AtFork → o.fork l ≡ Parted p ks
-      → HasForked before behind stood stands i g p ks → Shows o rp behind stands u.root
+      → Represents o rp before stood t.root → Has before stood i f l lives → after o (Own (o.path l)) t ≡ Some u → o.stop l ≡ AtFork → o.fork l ≡ Parted p ks
+      → HasForked before behind stood stands i g p ks → Represents o rp behind stands u.root
   pub closed : (rp : Path) (before behind : List S) (stood stands : List RecordView) (t u : Tree S) (i g n : ℕ) (l : S) (a : Acted S)
-      → Shows o rp before stood t.root → Has before stood i g l (forks n) → after o (Close (o.path l)) t ≡ Some u → a ≡ closed o l (segment g n before) (prevailing_among (segment g n stood))
-      → HasClosed before behind stood stands i g n (state a.node) (process_status a.node) → Shows o rp behind stands u.root
+      → Represents o rp before stood t.root → Has before stood i g l (forks n) → after o (Close (o.path l)) t ≡ Some u → a ≡ closed o l (segment g n before) (prevailing_among (segment g n stood))
+      → HasClosed before behind stood stands i g n (state a.node) (process_status a.node) → Represents o rp behind stands u.root
   pub met : (rp : Path) (before behind : List S) (stands : List RecordView) (t u : Tree S) (c : Channel) (v : ℤ)
-      → Shows o rp before stands t.root → after o (Meet c) t ≡ Some u → v ≡ value_of o c (source o c t.root) → HaveReceived o c v stands before behind → Shows o rp behind stands u.root
+      → Represents o rp before stands t.root → after o (Meet c) t ≡ Some u → v ≡ value_of o c (source o c t.root) → HaveReceived o c v stands before behind → Represents o rp behind stands u.root
   pub poisoned : (rp : Path) (states : List S) (stood stands : List RecordView) (t u : Tree S) (c : Channel) (i f g b n : ℕ) (l k : S) (x : ProcessStatus)
-      → Shows o rp states stood t.root → Has states stood i g l (forks n) → b < n → Has states stood (g + b) f k x → after o (Poison (o.path k) c) t ≡ Some u
-      → HaveDied o rp (place o rp k) c (death (o.handlers l - 1)) states stood stands → Shows o rp states stands u.root
+      → Represents o rp states stood t.root → Has states stood i g l (forks n) → b < n → Has states stood (g + b) f k x → after o (Poison (o.path k) c) t ≡ Some u
+      → HaveDied o rp (place o rp k) c (death (o.handlers l - 1)) states stood stands → Represents o rp states stands u.root
 
 -- What the records of a fork's children say of them: they lie together, side by side in both lists.
-abbrev pub ChildrenAreShown : {S : Type 0} → Ops S → Type 0
-ChildrenAreShown {S} o = (rp : Path) (states' : List S) (stands : List RecordView) (root : Node S) (i g n : ℕ) (l : S) (ks : Nodes S)
+abbrev pub ChildrenAreRepresented : {S : Type 0} → Ops S → Type 0
+ChildrenAreRepresented {S} o = (rp : Path) (states' : List S) (stands : List RecordView) (root : Node S) (i g n : ℕ) (l : S) (ks : Nodes S)
     → Agrees o rp states' stands root → Has states' stands i g l (forks n) → at (place o rp l) root ≡ Some (Forked l ks)
     → (how_many_nodes ks ≡ n) × (states ks ≡ segment g n states') × (prevailing_death ks ≡ prevailing_among (segment g n stands))
 
 -- One record gets another state of the same path, or another status, neither with children: the records agree with the tree in which the node at its place is changed.
-abbrev pub OneIsShown : {S : Type 0} → Ops S → Type 0
-OneIsShown {S} o = (rp : Path) (before behind : List S) (stood stands : List RecordView) (old new m a : Node S) (i f : ℕ)
+abbrev pub OneChangeIsRepresented : {S : Type 0} → Ops S → Type 0
+OneChangeIsRepresented {S} o = (rp : Path) (before behind : List S) (stood stands : List RecordView) (old new m a : Node S) (i f : ℕ)
     → Agrees o rp before stood old → Has before stood i f (state m) (process_status m) → is_leaf m ≡ true → is_leaf a ≡ true → o.path (state a) ≡ o.path (state m)
     → IsReplaced (place o rp (state m)) m a old new → HasChanged before behind stood stands i (state a) (process_status a) → Agrees o rp behind stands new

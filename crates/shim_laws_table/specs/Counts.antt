@@ -36,11 +36,11 @@ count f (node_and k ks) = if f k then suc (count f ks) else count f ks
 
 -- the three counts of a fork for a channel
 pub record Tally : Type 0 where
-  -- children that join
+  -- children that share the channel and have neither ended nor died
   pub live : ℕ
   -- those of them that aren't ready
   pub not_ready : ℕ
-  -- children that fail
+  -- children that share the channel and are dead
   pub dead : ℕ
 
 -- the counts of these children for the channel
@@ -48,40 +48,40 @@ abbrev pub tally_of : {S : Type 0} → Ops S → Channel → Nodes S → Tally
 tally_of o c ks = record { live = count (joins o c) ks; not_ready = count (isnt_ready o c) ks; dead = count (fails o c) ks }
 
 -- how many children have neither ended nor died
-abbrev pub going_of : {S : Type 0} → Nodes S → ℕ
-going_of ks = count goes ks
+abbrev pub running_of : {S : Type 0} → Nodes S → ℕ
+running_of ks = count goes ks
 
--- some join, each that joins is ready, and none has failed
-abbrev pub all_there : Tally → Bool
-all_there y = not (is_zero y.live) && (is_zero y.not_ready && is_zero y.dead)
+-- some child is counted as live, each of these is ready, and none as dead
+abbrev pub tally_ready : Tally → Bool
+tally_ready y = not (is_zero y.live) && (is_zero y.not_ready && is_zero y.dead)
 
 -- what a fork reads of a child on a channel: three bits
-pub record Reading : Type 0 where
-  pub joining : Bool
-  pub readiness : Bool
-  pub failing : Bool
+pub record ChildStatus : Type 0 where
+  pub alive : Bool
+  pub ready_on : Bool
+  pub dead_on : Bool
 
 -- what a fork reads of this child
-abbrev pub reading : {S : Type 0} → Ops S → Channel → Node S → Reading
-reading o c k = record { joining = joins o c k; readiness = ready o c k; failing = fails o c k }
+abbrev pub child_status : {S : Type 0} → Ops S → Channel → Node S → ChildStatus
+child_status o c k = record { alive = joins o c k; ready_on = ready o c k; dead_on = fails o c k }
 
 -- what is read of a child that goes on and shares the channel, and is ready or not
-abbrev pub live_reading : Bool → Reading
-live_reading b = record { joining = true; readiness = b; failing = false }
+abbrev pub live_child_status : Bool → ChildStatus
+live_child_status b = record { alive = true; ready_on = b; dead_on = false }
 
--- it joins, and isn't ready
-abbrev pub is_missing : Reading → Bool
-is_missing r = r.joining && not r.readiness
+-- it is alive, and isn't ready
+abbrev pub is_missing : ChildStatus → Bool
+is_missing r = r.alive && not r.ready_on
 
--- the counts with one child's reading taken away and another one brought in
-pub record IsExchanged (was is : Reading) (y z : Tally) : Type 0 where
-  pub live : z.live + bit was.joining ≡ y.live + bit is.joining
+-- the counts with another status of one child in place of that before
+pub record IsExchanged (was is : ChildStatus) (y z : Tally) : Type 0 where
+  pub live : z.live + bit was.alive ≡ y.live + bit is.alive
   pub not_ready : z.not_ready + bit (is_missing was) ≡ y.not_ready + bit (is_missing is)
-  pub dead : z.dead + bit was.failing ≡ y.dead + bit is.failing
+  pub dead : z.dead + bit was.dead_on ≡ y.dead + bit is.dead_on
 
 -- what a fork with these counts is read as, by its own fork
-abbrev pub read_of : Bool → Tally → Reading
-read_of shares y = record { joining = shares; readiness = all_there y; failing = false }
+abbrev pub fork_status : Bool → Tally → ChildStatus
+fork_status shares y = record { alive = shares; ready_on = tally_ready y; dead_on = false }
 
 -- the counts of children that a fork has just made, of how many of their states a test is true
 abbrev pub fresh_tally : {S : Type 0} → Ops S → Channel → List S → Tally
@@ -89,14 +89,14 @@ fresh_tally o c ks = record { live = how_many (λ s. o.shares s c) ks; not_ready
 
 -- What counts tell of a fork and of its children:
 pub record CountsTell {S : Type 0} (o : Ops S) : Type 0 where
-  -- what is read of a fork is told by its counts; so it is ready where they say so
-  pub fork : (c : Channel) (l : S) (ks : Nodes S) → reading o c (Forked l ks) ≡ read_of (o.shares l c) (tally_of o c ks)
+  -- a fork's own status is that of its counts; so it is ready exactly if they are
+  pub fork : (c : Channel) (l : S) (ks : Nodes S) → child_status o c (Forked l ks) ≡ fork_status (o.shares l c) (tally_of o c ks)
   -- where a node at or below a child changes, the counts move with what is read of the child
   pub moves : (c : Channel) (l : S) (ks js : Nodes S) (b : ℕ) (p : List ℕ) (m a k h : Node S) → IsReplaced (b ∷ p) m a (Forked l ks) (Forked l js)
-      → child_at b [] ks ≡ Some k → child_at b [] js ≡ Some h → IsExchanged (reading o c k) (reading o c h) (tally_of o c ks) (tally_of o c js)
+      → child_at b [] ks ≡ Some k → child_at b [] js ≡ Some h → IsExchanged (child_status o c k) (child_status o c h) (tally_of o c ks) (tally_of o c js)
   -- and so many go on as before, but for the child
-  pub going : (l : S) (ks js : Nodes S) (b : ℕ) (p : List ℕ) (m a k h : Node S) → IsReplaced (b ∷ p) m a (Forked l ks) (Forked l js)
-      → child_at b [] ks ≡ Some k → child_at b [] js ≡ Some h → going_of js + bit (goes k) ≡ going_of ks + bit (goes h)
+  pub running_children : (l : S) (ks js : Nodes S) (b : ℕ) (p : List ℕ) (m a k h : Node S) → IsReplaced (b ∷ p) m a (Forked l ks) (Forked l js)
+      → child_at b [] ks ≡ Some k → child_at b [] js ≡ Some h → running_of js + bit (goes k) ≡ running_of ks + bit (goes h)
   -- of new children the states alone tell
   pub fresh : (c : Channel) (ks : List S) → tally_of o c (all_live ks) ≡ fresh_tally o c ks
-  pub all_go : (ks : List S) → going_of {S = S} (all_live ks) ≡ length ks
+  pub all_go : (ks : List S) → running_of {S = S} (all_live ks) ≡ length ks

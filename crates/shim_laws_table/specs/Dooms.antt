@@ -18,15 +18,15 @@ lesser (Some x) (Some y) = Some (min x y)
 
 -- the least label of the dead here and below that share the channel
 abbrev mutual
-  pub least : {S : Type 0} → Ops S → Channel → Node S → Option ℕ
-  least o c (Live l) = None
-  least o c (Forked l ks) = least_among o c ks
-  least o c (Ended l) = None
-  least o c (Dead l d) = cond (o.shares l c) (Some d.label) None
+  pub min_dead_label : {S : Type 0} → Ops S → Channel → Node S → Option ℕ
+  min_dead_label o c (Live l) = None
+  min_dead_label o c (Forked l ks) = min_dead_label_among o c ks
+  min_dead_label o c (Ended l) = None
+  min_dead_label o c (Dead l d) = cond (o.shares l c) (Some d.label) None
 
-  pub least_among : {S : Type 0} → Ops S → Channel → Nodes S → Option ℕ
-  least_among o c no_node = None
-  least_among o c (node_and k ks) = lesser (least o c k) (least_among o c ks)
+  pub min_dead_label_among : {S : Type 0} → Ops S → Channel → Nodes S → Option ℕ
+  min_dead_label_among o c no_node = None
+  min_dead_label_among o c (node_and k ks) = lesser (min_dead_label o c k) (min_dead_label_among o c ks)
 
 -- there is a label, and it is one of so many handlers'
 abbrev pub is_below : Option ℕ → ℕ → Bool
@@ -34,23 +34,23 @@ is_below None h = false
 is_below (Some x) h = ltb x h
 
 -- What the least labels of dead sharers tell of who is doomed:
-pub record LeastsTell {S : Type 0} (o : Ops S) : Type 0 where
+pub record MinLabelsDecide {S : Type 0} (o : Ops S) : Type 0 where
   -- where a death dooms, the least label does
-  pub here : (h : ℕ) (c : Channel) (n : Node S) → dooms o h c n ≡ is_below (least o c n) h
-  pub among : (h : ℕ) (c : Channel) (ks : Nodes S) → any_dooms o h c ks ≡ is_below (least_among o c ks) h
+  pub here : (h : ℕ) (c : Channel) (n : Node S) → dooms o h c n ≡ is_below (min_dead_label o c n) h
+  pub among : (h : ℕ) (c : Channel) (ks : Nodes S) → any_dooms o h c ks ≡ is_below (min_dead_label_among o c ks) h
   -- so a child can be poisoned exactly where its fork shares the channel, it is ready, and the least label below the fork is one of its handlers'
   pub poisons : (root : Node S) (q : List ℕ) (l : S) (ks : Nodes S) (b : ℕ) (k : Node S) (c : Channel) → IsSound o root → at q root ≡ Some (Forked l ks) → child_at b [] ks ≡ Some k
-      → (can_poison o l c b ks ≡ true) ↔ ((o.shares l c ≡ true) × (ready o c k ≡ true) × (is_below (least_among o c ks) (o.handlers l) ≡ true))
+      → (can_poison o l c b ks ≡ true) ↔ ((o.shares l c ≡ true) × (ready o c k ≡ true) × (is_below (min_dead_label_among o c ks) (o.handlers l) ≡ true))
   -- below a fork that doesn't count a channel, which was declared by none below it, no dead process shares it
-  pub uncounted : (root : Node S) (q : List ℕ) (l : S) (ks : Nodes S) (c : Channel) → IsSound o root → at q root ≡ Some (Forked l ks) → ((x : ℕ × ℕ) (r : Path) → c.home ≢ o.path l ++ x ∷ r) → (IsCounted o l ks c → ⊥) → least_among o c ks ≡ None
+  pub uncounted : (root : Node S) (q : List ℕ) (l : S) (ks : Nodes S) (c : Channel) → IsSound o root → at q root ≡ Some (Forked l ks) → ((x : ℕ × ℕ) (r : Path) → c.home ≢ o.path l ++ x ∷ r) → (IsCounted o l ks c → ⊥) → min_dead_label_among o c ks ≡ None
 
 -- Another node stands in a place. What that does to the least label of each fork:
-pub record LeastsFollow {S : Type 0} (o : Ops S) : Type 0 where
+pub record MinLabelsFollow {S : Type 0} (o : Ops S) : Type 0 where
   -- where there was none at the place, the label that came is taken into all forks above
-  pub taken_in : (c : Channel) (old new m a : Node S) (q r : List ℕ) (l : S) (ks js : Nodes S) → IsReplaced q m a old new → least o c m ≡ None → is_above r q ≡ true
-      → at r old ≡ Some (Forked l ks) → at r new ≡ Some (Forked l js) → least_among o c js ≡ lesser (least_among o c ks) (least o c a)
+  pub taken_in : (c : Channel) (old new m a : Node S) (q r : List ℕ) (l : S) (ks js : Nodes S) → IsReplaced q m a old new → min_dead_label o c m ≡ None → is_above r q ≡ true
+      → at r old ≡ Some (Forked l ks) → at r new ≡ Some (Forked l js) → min_dead_label_among o c js ≡ lesser (min_dead_label_among o c ks) (min_dead_label o c a)
   -- where there is the same at the place, it is the same in all forks above
-  pub stays : (c : Channel) (old new m a : Node S) (q r : List ℕ) (l : S) (ks js : Nodes S) → IsReplaced q m a old new → least o c a ≡ least o c m → is_above r q ≡ true
-      → at r old ≡ Some (Forked l ks) → at r new ≡ Some (Forked l js) → least_among o c js ≡ least_among o c ks
+  pub stays : (c : Channel) (old new m a : Node S) (q r : List ℕ) (l : S) (ks js : Nodes S) → IsReplaced q m a old new → min_dead_label o c a ≡ min_dead_label o c m → is_above r q ≡ true
+      → at r old ≡ Some (Forked l ks) → at r new ≡ Some (Forked l js) → min_dead_label_among o c js ≡ min_dead_label_among o c ks
   -- and no fork changes that is neither above the place nor there nor below
   pub aside : (old new m a : Node S) (q r : List ℕ) → IsReplaced q m a old new → is_above r q ≡ false → IsAside r q → at r new ≡ at r old

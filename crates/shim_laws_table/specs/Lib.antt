@@ -12,8 +12,8 @@ pub mod Enabled
 pub mod Singles
 pub mod Links
 pub mod Sources
-pub mod Told
+pub mod EventEffects
 pub mod LoweredLabels
 pub mod Recounting
 pub mod Sufficing
-pub mod ShownTree
+pub mod RepresentedTree

@@ -5,10 +5,10 @@ use Rattle.shim_local.specs.Process.{Ops}
 use Rattle.shim_semantics.specs.Nodes.{Node, Nodes, Forked, state, goes}
 use Rattle.shim_semantics.specs.Places.{at}
 use Rattle.shim_laws_table.specs.Seen.{ProcessStatus, lives, process_status, is_leaf}
-use Rattle.shim_laws_table.specs.Agrees.{RecordView, Has, Shows}
+use Rattle.shim_laws_table.specs.Agrees.{RecordView, Has, Represents}
 use Rattle.shim_laws_table.specs.Places.{IsReplaced}
 use Rattle.shim_laws_table.specs.Changes.{HasChanged, HasForked, HasClosed}
-use Rattle.shim_laws_table.specs.Counts.{bit, going_of}
+use Rattle.shim_laws_table.specs.Counts.{bit, running_of}
 use Rattle.shim_laws_table.specs.Updating.{AreLinked}
 
 -- How what children know of their forks follows what records do:
@@ -19,13 +19,13 @@ pub record LinksFollow {S : Type 0} (o : Ops S) : Type 0 where
   pub closed : (before behind : List S) (stood stands : List RecordView) (i g n : ℕ) (a : Node S) (up : ℕ → Option ℕ) → is_leaf a ≡ true → HasClosed before behind stood stands i g n (state a) (process_status a)
       → AreLinked before stood up → AreLinked behind stands up
   -- where it forks the children know it, and the others what they did
-  pub forked : (rp : Path) (before behind : List S) (stood stands : List RecordView) (root : Node S) (i f g : ℕ) (l p : S) (ks : List S) (up now : ℕ → Option ℕ) → Shows o rp before stood root → Has before stood i f l lives
+  pub forked : (rp : Path) (before behind : List S) (stood stands : List RecordView) (root : Node S) (i f g : ℕ) (l p : S) (ks : List S) (up now : ℕ → Option ℕ) → Represents o rp before stood root → Has before stood i f l lives
       → HasForked before behind stood stands i g p ks → ((b : ℕ) → b < length ks → now (g + b) ≡ Some i) → ((j d : ℕ) (s : S) (k : ProcessStatus) → Has before stood j d s k → now j ≡ up j)
       → AreLinked before stood up → AreLinked behind stands now
 
 -- Another node stands in a place: of the fork right above so many children go on as before, but for this one, and of each other fork above as many as before.
-pub record GoingFollow {S : Type 0} (o : Ops S) : Type 0 where
+pub record RunningFollow {S : Type 0} (o : Ops S) : Type 0 where
   pub right_above : (old new m a : Node S) (r : List ℕ) (b : ℕ) (l : S) (ks js : Nodes S) → IsReplaced (r ++ b ∷ []) m a old new → at r old ≡ Some (Forked l ks) → at r new ≡ Some (Forked l js)
-      → going_of js + bit (goes m) ≡ going_of ks + bit (goes a)
+      → running_of js + bit (goes m) ≡ running_of ks + bit (goes a)
   pub further_above : (old new m a : Node S) (r : List ℕ) (b d : ℕ) (t : List ℕ) (l : S) (ks js : Nodes S) → IsReplaced (r ++ b ∷ d ∷ t) m a old new → at r old ≡ Some (Forked l ks) → at r new ≡ Some (Forked l js)
-      → going_of js ≡ going_of ks
+      → running_of js ≡ running_of ks

@@ -5,16 +5,16 @@ use Rattle.shim_local.specs.Process.{Ops}
 use Rattle.shim_semantics.specs.Nodes.{Node, Nodes, Forked}
 use Rattle.shim_semantics.specs.Places.{at}
 use Rattle.shim_laws_table.specs.Seen.{ProcessStatus, forks, place}
-use Rattle.shim_laws_table.specs.Agrees.{RecordView, Has, Shows}
+use Rattle.shim_laws_table.specs.Agrees.{RecordView, Has, Represents}
 use Rattle.shim_laws_table.specs.Places.{IsReplaced}
 use Rattle.shim_laws_table.specs.Counts.{Tally}
 use Rattle.shim_laws_table.specs.Tallied.{is_above, HaveCounts}
 use Rattle.shim_laws_table.specs.Updating.{AreLinked}
-use Rattle.shim_laws_table.specs.Dooms.{lesser, least, least_among}
+use Rattle.shim_laws_table.specs.Dooms.{lesser, min_dead_label, min_dead_label_among}
 
 -- What records keep for a channel: a number's label. Where a fork counts the channel, it is the least one of the node in its place, of the tree for each place.
 abbrev pub LabelledIn : {S : Type 0} → Ops S → Path → List S → List RecordView → Channel → (ℕ → Option Tally) → (ℕ → Option ℕ) → (List ℕ → Node S) → Type 0
-LabelledIn {S} o rp records stands c counts labels tree = (i f n : ℕ) (s : S) (l : S) (ks : Nodes S) → Has records stands i f s (forks n) → counts i ≢ None → at (place o rp s) (tree (place o rp s)) ≡ Some (Forked l ks) → labels i ≡ least_among o c ks
+LabelledIn {S} o rp records stands c counts labels tree = (i f n : ℕ) (s : S) (l : S) (ks : Nodes S) → Has records stands i f s (forks n) → counts i ≢ None → at (place o rp s) (tree (place o rp s)) ≡ Some (Forked l ks) → labels i ≡ min_dead_label_among o c ks
 
 -- they are those of the nodes of one tree
 abbrev pub Labelled : {S : Type 0} → Ops S → Path → List S → List RecordView → Channel → (ℕ → Option Tally) → (ℕ → Option ℕ) → Node S → Type 0
@@ -40,6 +40,6 @@ pub data LoweredAbove (up : ℕ → Option ℕ) (counts : ℕ → Option Tally) 
 -- Where a node without dead sharers made room for one, and that was taken into the labels above, all labels are those of the tree behind.
 abbrev pub LabelsLowered : {S : Type 0} → Ops S → Type 0
 LabelsLowered {S} o = (rp : Path) (records : List S) (stands : List RecordView) (up : ℕ → Option ℕ) (c : Channel) (old new m a : Node S) (n x f : ℕ) (s : S) (k : ProcessStatus) (counts : ℕ → Option Tally) (before behind : ℕ → Option ℕ)
-    → Shows o rp records stands new → AreLinked records stands up → Has records stands x f s k → IsReplaced (place o rp s) m a old new → least o c m ≡ None → o.shares s c ≡ true
-    → HaveCounts o rp records stands c counts new → length (place o rp s) ≤ n → LabelsOnTheWay o rp records stands c counts before old new (place o rp s) → LoweredAbove up counts (least o c a) n before x behind
+    → Represents o rp records stands new → AreLinked records stands up → Has records stands x f s k → IsReplaced (place o rp s) m a old new → min_dead_label o c m ≡ None → o.shares s c ≡ true
+    → HaveCounts o rp records stands c counts new → length (place o rp s) ≤ n → LabelsOnTheWay o rp records stands c counts before old new (place o rp s) → LoweredAbove up counts (min_dead_label o c a) n before x behind
     → Labelled o rp records stands c counts behind new

@@ -4,7 +4,7 @@ use Rattle.shim_base.specs.Paths.{Path, Channel}
 use Rattle.shim_local.specs.Process.{Ops}
 use Rattle.shim_semantics.specs.Nodes.{Node}
 use Rattle.shim_laws_table.specs.Seen.{ProcessStatus, lives, forks, ends, dies, place}
-use Rattle.shim_laws_table.specs.Agrees.{RecordView, used, Has, Shows}
+use Rattle.shim_laws_table.specs.Agrees.{RecordView, used, Has, Represents}
 use Rattle.shim_laws_table.specs.Places.{IsReplaced}
 use Rattle.shim_laws_table.specs.Counts.{Tally}
 use Rattle.shim_laws_table.specs.Tallied.{HaveCounts}
@@ -29,9 +29,9 @@ abbrev pub label_at : {S : Type 0} → Ops S → Channel → List S → List Rec
 label_at o c records stands labels i = read_record o c (slice_get records i) (slice_get stands i) (labels i)
 
 -- the least of what is read of so many from a number on
-abbrev pub least_label_among : {S : Type 0} → Ops S → Channel → List S → List RecordView → (ℕ → Option ℕ) → ℕ → ℕ → Option ℕ
-least_label_among o c records stands labels g zero = None
-least_label_among o c records stands labels g (suc n) = lesser (label_at o c records stands labels g) (least_label_among o c records stands labels (g + 1) n)
+abbrev pub min_label_among : {S : Type 0} → Ops S → Channel → List S → List RecordView → (ℕ → Option ℕ) → ℕ → ℕ → Option ℕ
+min_label_among o c records stands labels g zero = None
+min_label_among o c records stands labels g (suc n) = lesser (label_at o c records stands labels g) (min_label_among o c records stands labels (g + 1) n)
 
 -- no label is kept where none is counted
 abbrev pub NoneUncounted : (ℕ → Option Tally) → (ℕ → Option ℕ) → Type 0
@@ -39,7 +39,7 @@ NoneUncounted counts labels = (i : ℕ) → counts i ≡ None → labels i ≡ N
 
 -- this is what is read of the children of the fork with this number
 abbrev pub IsReadOff : {S : Type 0} → Ops S → Channel → List S → List RecordView → (ℕ → Option ℕ) → ℕ → Option ℕ → Type 0
-IsReadOff {S} o c records stands labels j y = (g n : ℕ) (s : S) → Has records stands j g s (forks n) → y ≡ least_label_among o c records stands labels g n
+IsReadOff {S} o c records stands labels j y = (g n : ℕ) (s : S) → Has records stands j g s (forks n) → y ≡ min_label_among o c records stands labels g n
 
 -- From the record x, at most so many forks up: each one's label is read off its children, until there is no fork further up, or one without counts, or one that keeps its label.
 pub data Recounted {S : Type 0} (o : Ops S) (c : Channel) (records : List S) (stands : List RecordView) (up : ℕ → Option ℕ) (counts : ℕ → Option Tally) : ℕ → (ℕ → Option ℕ) → ℕ → (ℕ → Option ℕ) → Type 0 where
@@ -53,6 +53,6 @@ pub data Recounted {S : Type 0} (o : Ops S) (c : Channel) (records : List S) (st
 -- Where another node stands in a place, and the labels above were read off again, all labels are those of the tree behind.
 abbrev pub LabelsRecount : {S : Type 0} → Ops S → Type 0
 LabelsRecount {S} o = (rp : Path) (records : List S) (stands : List RecordView) (up : ℕ → Option ℕ) (c : Channel) (old new m a : Node S) (n x f : ℕ) (s : S) (k : ProcessStatus) (counts : ℕ → Option Tally) (before behind : ℕ → Option ℕ)
-    → Shows o rp records stands new → AreLinked records stands up → Has records stands x f s k → IsReplaced (place o rp s) m a old new → o.shares s c ≡ true → HaveCounts o rp records stands c counts new
+    → Represents o rp records stands new → AreLinked records stands up → Has records stands x f s k → IsReplaced (place o rp s) m a old new → o.shares s c ≡ true → HaveCounts o rp records stands c counts new
     → NoneUncounted counts before → length (place o rp s) ≤ n → LabelsOnTheWay o rp records stands c counts before old new (place o rp s) → Recounted o c records stands up counts n before x behind
     → Labelled o rp records stands c counts behind new

@@ -7,9 +7,9 @@ use Rattle.shim_semantics.specs.Nodes.{Node, state, is_next}
 use Rattle.shim_semantics.specs.Acts.{Acted, act_here}
 use Rattle.shim_semantics.specs.Sound.{IsSound}
 use Rattle.shim_laws_table.specs.Seen.{ProcessStatus, lives, forks, ends, dies, process_status, is_leaf, place}
-use Rattle.shim_laws_table.specs.Agrees.{RecordView, Has, Shows}
+use Rattle.shim_laws_table.specs.Agrees.{RecordView, Has, Represents}
 use Rattle.shim_laws_table.specs.Places.{IsReplaced}
-use Rattle.shim_laws_table.specs.Counts.{Tally, Reading, reading}
+use Rattle.shim_laws_table.specs.Counts.{Tally, ChildStatus, child_status}
 use Rattle.shim_laws_table.specs.Tallied.{Tallied, OnTheWay, HaveCounts}
 use Rattle.shim_laws_table.specs.LoweredLabels.{Labelled, LabelsOnTheWay}
 
@@ -17,23 +17,23 @@ use Rattle.shim_laws_table.specs.LoweredLabels.{Labelled, LabelsOnTheWay}
 pub record GivenSuffice {S : Type 0} (o : Ops S) : Type 0 where
   -- no counts
   pub counts : (rp : Path) (records : List S) (stands : List RecordView) (c : Channel) (old new m : Node S) (a : Acted S) (x f : ℕ) (s : S) (k : ProcessStatus) (counts : ℕ → Option Tally)
-      → IsSound o old → Shows o rp records stands new → Has records stands x f s k → IsReplaced (place o rp s) m a.node old new → act_here o m ≡ Some a → (IsGiven o s c → o.shares s c ≡ true → ⊥)
+      → IsSound o old → Represents o rp records stands new → Has records stands x f s k → IsReplaced (place o rp s) m a.node old new → act_here o m ≡ Some a → (IsGiven o s c → o.shares s c ≡ true → ⊥)
       → HaveCounts o rp records stands c counts new → OnTheWay o rp records stands c counts old new (place o rp s) → Tallied o rp records stands c counts new
   -- and no label
   pub labels : (rp : Path) (records : List S) (stands : List RecordView) (c : Channel) (old new m : Node S) (a : Acted S) (x f : ℕ) (s : S) (k : ProcessStatus) (counts : ℕ → Option Tally) (labels : ℕ → Option ℕ)
-      → IsSound o old → Shows o rp records stands new → Has records stands x f s k → IsReplaced (place o rp s) m a.node old new → act_here o m ≡ Some a → (IsGiven o s c → o.shares s c ≡ true → ⊥)
+      → IsSound o old → Represents o rp records stands new → Has records stands x f s k → IsReplaced (place o rp s) m a.node old new → act_here o m ≡ Some a → (IsGiven o s c → o.shares s c ≡ true → ⊥)
       → HaveCounts o rp records stands c counts new → LabelsOnTheWay o rp records stands c counts labels old new (place o rp s) → Labelled o rp records stands c counts labels new
 
 -- what a fork reads of a child without children, with this state and status
-abbrev pub read_leaf : {S : Type 0} → Ops S → Channel → S → ProcessStatus → Reading
-read_leaf o c s lives = record { joining = o.shares s c; readiness = is_next (o.stop s) c; failing = false }
-read_leaf o c s (forks n) = record { joining = false; readiness = false; failing = false }
-read_leaf o c s ends = record { joining = false; readiness = false; failing = false }
-read_leaf o c s (dies d) = record { joining = false; readiness = false; failing = o.shares s c }
+abbrev pub leaf_status : {S : Type 0} → Ops S → Channel → S → ProcessStatus → ChildStatus
+leaf_status o c s lives = record { alive = o.shares s c; ready_on = is_next (o.stop s) c; dead_on = false }
+leaf_status o c s (forks n) = record { alive = false; ready_on = false; dead_on = false }
+leaf_status o c s ends = record { alive = false; ready_on = false; dead_on = false }
+leaf_status o c s (dies d) = record { alive = false; ready_on = false; dead_on = o.shares s c }
 
 -- What is read of a process that does anything by itself:
 pub record ActorsAreRead {S : Type 0} (o : Ops S) : Type 0 where
   -- before, it isn't ready on any channel, and not dead
-  pub before : (c : Channel) (m : Node S) (a : Acted S) → act_here o m ≡ Some a → reading o c m ≡ record { joining = o.shares (state m) c; readiness = false; failing = false }
+  pub before : (c : Channel) (m : Node S) (a : Acted S) → act_here o m ≡ Some a → child_status o c m ≡ record { alive = o.shares (state m) c; ready_on = false; dead_on = false }
   -- afterwards, if it has no children, its state and its status tell
-  pub behind : (c : Channel) (a : Node S) → is_leaf a ≡ true → reading o c a ≡ read_leaf o c (state a) (process_status a)
+  pub behind : (c : Channel) (a : Node S) → is_leaf a ≡ true → child_status o c a ≡ leaf_status o c (state a) (process_status a)

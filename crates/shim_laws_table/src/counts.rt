@@ -3,7 +3,7 @@ ghost use Rattle.shim_laws_table.specs.Counts.{CountsTell};
 ghost use Rattle.shim_laws_table.specs.Updating.{CountsFollow};
 ghost use Rattle.shim_laws_table.specs.Beginning.{CountsBegin, ForeignStays};
 ghost use Rattle.shim_laws_table.specs.Sufficing.{GivenSuffice, ActorsAreRead};
-ghost use Rattle.shim_laws_table.specs.Links.{LinksFollow, GoingFollow};
+ghost use Rattle.shim_laws_table.specs.Links.{LinksFollow, RunningFollow};
 
 use shim_local::Local;
 
@@ -49,6 +49,6 @@ pub fn links_follow<L: Local>()
 {}
 
 /// How many of a fork's children go on follows a change below it.
-pub fn going_follow<L: Local>()
-    ensures { GoingFollow L.ops }
+pub fn running_follow<L: Local>()
+    ensures { RunningFollow L.ops }
 {}

@@ -1,5 +1,5 @@
 // Laws of what can happen, told by records and their counts.
-ghost use Rattle.shim_laws_table.specs.Dooms.{LeastsTell, LeastsFollow};
+ghost use Rattle.shim_laws_table.specs.Dooms.{MinLabelsDecide, MinLabelsFollow};
 ghost use Rattle.shim_laws_table.specs.Beginning.{LabelsBegin};
 ghost use Rattle.shim_laws_table.specs.Enabled.{EnabledByRecords, EnabledAreFound, NothingNew};
 ghost use Rattle.shim_laws_table.specs.LoweredLabels.{LabelsLowered};
@@ -10,14 +10,14 @@ use shim_local::Local;
 /// The least label of the dead below a fork that share a channel tells who is doomed: a child can be
 /// poisoned where its fork shares the channel, it is ready, and that label has its handler at the fork or
 /// above.
-pub fn leasts_tell<L: Local>()
-    ensures { LeastsTell L.ops }
+pub fn min_labels_decide<L: Local>()
+    ensures { MinLabelsDecide L.ops }
 {}
 
 /// How that label follows a change: a death is taken into all forks above, and where it stays at a fork it
 /// stays above.
-pub fn leasts_follow<L: Local>()
-    ensures { LeastsFollow L.ops }
+pub fn min_labels_follow<L: Local>()
+    ensures { MinLabelsFollow L.ops }
 {}
 
 /// What can happen at a record is told by its state, its counts and that label.

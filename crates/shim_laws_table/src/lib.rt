@@ -12,4 +12,4 @@ pub mod counts;
 /// What can happen, told by records and their counts.
 pub mod enabled;
 /// The tree that records show, as a function of them.
-pub mod shown_tree;
+pub mod represented_tree;

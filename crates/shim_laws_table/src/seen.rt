@@ -1,10 +1,10 @@
 // Laws of what is seen of a tree, and of records that say it.
-ghost use Rattle.shim_laws_table.specs.Agrees.{OneTree, StartShows};
+ghost use Rattle.shim_laws_table.specs.Agrees.{OneTree, StartRepresents};
 ghost use Rattle.shim_laws_table.specs.Places.{NodesAreReplaced, EventsShow};
-ghost use Rattle.shim_laws_table.specs.Changes.{EventsAreShown, ChildrenAreShown, OneIsShown};
-ghost use Rattle.shim_laws_table.specs.Singles.{SinglesAreShown};
+ghost use Rattle.shim_laws_table.specs.Changes.{EventsPreserve, ChildrenAreRepresented, OneChangeIsRepresented};
+ghost use Rattle.shim_laws_table.specs.Singles.{SingleChangesAreRepresented};
 ghost use Rattle.shim_laws_table.specs.Sources.{SourcesByRecords};
-ghost use Rattle.shim_laws_table.specs.Told.{EventsTell};
+ghost use Rattle.shim_laws_table.specs.EventEffects.{EffectsOfEvents};
 
 use shim_local::Local;
 
@@ -26,39 +26,39 @@ pub fn events_show<L: Local>()
 {}
 
 /// One record shows the tree in which one process lives.
-pub fn start_shows<L: Local>()
-    ensures { StartShows L.ops }
+pub fn start_represents<L: Local>()
+    ensures { StartRepresents L.ops }
 {}
 
 /// Where records show a sound tree and have changed as an event changes them, with nobody else, they show
 /// the tree after the event.
-pub fn events_are_shown<L: Local>()
-    ensures { EventsAreShown L.ops }
+pub fn events_preserve<L: Local>()
+    ensures { EventsPreserve L.ops }
 {}
 
 /// What the records of a fork's children say together: how many they are, their states, and the prevailing
 /// death among them.
-pub fn children_are_shown<L: Local>()
-    ensures { ChildrenAreShown L.ops }
+pub fn children_are_represented<L: Local>()
+    ensures { ChildrenAreRepresented L.ops }
 {}
 
 /// Where one record, of a process with nothing below it, gets another state of the same path or another
 /// status, the records agree with the tree in which just its node is changed.
-pub fn one_is_shown<L: Local>()
-    ensures { OneIsShown L.ops }
+pub fn one_change_is_represented<L: Local>()
+    ensures { OneChangeIsRepresented L.ops }
 {}
 
 /// Where one process has received a value, or has died of an exception for which it has no handler, and
 /// nobody else has changed, the records show a sound tree again. So meetings and poisons can be done one
 /// process after the other.
-pub fn singles_are_shown<L: Local>()
-    ensures { SinglesAreShown L.ops }
+pub fn single_changes_are_represented<L: Local>()
+    ensures { SingleChangesAreRepresented L.ops }
 {}
 
 /// What an event leaves of a tree beside its nodes: what it puts, logs and counts, and what a meeting adds to
 /// its channel's history.
-pub fn events_tell<L: Local>()
-    ensures { EventsTell L.ops }
+pub fn effects_of_events<L: Local>()
+    ensures { EffectsOfEvents L.ops }
 {}
 
 /// The source of a channel is in the one record that carries it, and the name that its first meeting brings

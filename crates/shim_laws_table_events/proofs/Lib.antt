@@ -3,4 +3,4 @@ pub mod keeping
 pub mod forks
 pub mod closes
 pub mod meetings
-pub mod waking
+pub mod queues

@@ -2,7 +2,7 @@
 pub mod Closed
 pub mod Closes
 pub mod Cuts
-pub mod Goings
+pub mod RunningChildren
 pub mod Labels
 pub mod Saying
 pub mod Taking

@@ -5,7 +5,7 @@ pub mod AtHome
 pub mod Descents
 pub mod Dies
 pub mod Leading
-pub mod Leaves
+pub mod Terminates
 pub mod Lists
 pub mod Meets
 pub mod Names

@@ -2,6 +2,6 @@
 pub mod Knowing
 pub mod Tables
 pub mod Moves
-pub mod Arriving
+pub mod Propagating
 pub mod Laws
 pub mod Acting

@@ -1,70 +1,70 @@
 // Laws of what each event does to records, and of where the next one is looked for.
-ghost use Rattle.shim_laws_table_events.specs.keeping.Laws.{StartKeeps, AdvancesKeep};
-ghost use Rattle.shim_laws_table_events.specs.keeping.Acting.{LivesOnKeeps, LeavesKeep};
-ghost use Rattle.shim_laws_table_events.specs.forks.Forking.{ForksMove, TrapsMove};
-ghost use Rattle.shim_laws_table_events.specs.closes.Laws.{ClosesKeep, CutsKeep};
+ghost use Rattle.shim_laws_table_events.specs.keeping.Laws.{StartEstablishes, QuietStepsPreserve};
+ghost use Rattle.shim_laws_table_events.specs.keeping.Acting.{StepPreserves, ExitPreserves};
+ghost use Rattle.shim_laws_table_events.specs.forks.Forking.{ForkPreserves, ForkTrapPreserves};
+ghost use Rattle.shim_laws_table_events.specs.closes.Laws.{ClosePreserves, TruncatePreserves};
 ghost use Rattle.shim_laws_table_events.specs.meetings.Descents.{DescentsFind};
-ghost use Rattle.shim_laws_table_events.specs.meetings.Meetings.{MeetingsMove, SharersReceive};
+ghost use Rattle.shim_laws_table_events.specs.meetings.Meetings.{MeetingPreserves, SharersReceive};
 ghost use Rattle.shim_laws_table_events.specs.meetings.Plans.{PlansFind, SourcesLead};
-ghost use Rattle.shim_laws_table_events.specs.meetings.Poisons.{PoisonsMove};
+ghost use Rattle.shim_laws_table_events.specs.meetings.Poisons.{PoisonPreserves};
 ghost use Rattle.shim_laws_table_events.specs.meetings.Names.{NamesFound};
-ghost use Rattle.shim_laws_table_events.specs.meetings.Laws.{ReceivedKeeps, DiedKeeps};
-ghost use Rattle.shim_laws_table_events.specs.waking.Waking.{WakingSuffices, LookedFor};
-ghost use Rattle.shim_laws_table_events.specs.waking.Looks.{LooksDecide};
-ghost use Rattle.shim_laws_table_events.specs.waking.NoMore.{NoMoreIsTold};
-ghost use Rattle.shim_laws_table_events.specs.waking.Awake.{ListingStays};
+ghost use Rattle.shim_laws_table_events.specs.meetings.Laws.{ReceivePreserves, DeathPreserves};
+ghost use Rattle.shim_laws_table_events.specs.queues.Requeueing.{RequeueingSuffices, EventHasOneOwner};
+ghost use Rattle.shim_laws_table_events.specs.queues.RecordDecisions.{RecordDecides};
+ghost use Rattle.shim_laws_table_events.specs.queues.NoMore.{NoMoreCanHappen};
+ghost use Rattle.shim_laws_table_events.specs.queues.EventQueue.{QueueStaysComplete};
 
 use shim_local::Local;
 
-/// One record of a root shows the tree in which it lives.
-pub fn start_keeps<L: Local>()
-    ensures { StartKeeps L.ops }
+/// The record of a root, alone, represents the tree of one live process.
+pub fn start_establishes<L: Local>()
+    ensures { StartEstablishes L.ops }
 {}
 
 /// Where a live process does quiet steps, the records show the tree behind them.
-pub fn advances_keep<L: Local>()
-    ensures { AdvancesKeep L.ops }
+pub fn quiet_steps_preserve<L: Local>()
+    ensures { QuietStepsPreserve L.ops }
 {}
 
 /// Where a live process did something by itself that leaves it alive, the records show the tree behind it.
-pub fn lives_on_keeps<L: Local>()
-    ensures { LivesOnKeeps L.ops }
+pub fn step_preserves<L: Local>()
+    ensures { StepPreserves L.ops }
 {}
 
 /// Where a live process ended or died, the records show the tree behind it.
-pub fn leaves_keep<L: Local>()
-    ensures { LeavesKeep L.ops }
+pub fn exit_preserves<L: Local>()
+    ensures { ExitPreserves L.ops }
 {}
 
 /// Where a process forks, and the records of its children are put in place of free ones or behind all others,
 /// the records show the tree behind it.
-pub fn forks_move<L: Local>()
-    ensures { ForksMove L.ops }
+pub fn fork_preserves<L: Local>()
+    ensures { ForkPreserves L.ops }
 {}
 
 /// So they do where its fork traps.
-pub fn traps_move<L: Local>()
-    ensures { TrapsMove L.ops }
+pub fn fork_trap_preserves<L: Local>()
+    ensures { ForkTrapPreserves L.ops }
 {}
 
 /// Where a fork closes, the records show the tree behind it.
-pub fn closes_keep<L: Local>()
-    ensures { ClosesKeep L.ops }
+pub fn close_preserves<L: Local>()
+    ensures { ClosePreserves L.ops }
 {}
 
 /// Where free records at the end are cut off, those that are left show the same tree.
-pub fn cuts_keep<L: Local>()
-    ensures { CutsKeep L.ops }
+pub fn truncate_preserves<L: Local>()
+    ensures { TruncatePreserves L.ops }
 {}
 
 /// Where a live process receives at the channel at which it stands, the records show the tree behind that.
-pub fn received_keeps<L: Local>()
-    ensures { ReceivedKeeps L.ops }
+pub fn receive_preserves<L: Local>()
+    ensures { ReceivePreserves L.ops }
 {}
 
 /// Where a live process dies of an exception for which it has no handler, so do they.
-pub fn died_keeps<L: Local>()
-    ensures { DiedKeeps L.ops }
+pub fn death_preserves<L: Local>()
+    ensures { DeathPreserves L.ops }
 {}
 
 /// A descent from a process that shares a channel finds all that share it there and below.
@@ -74,8 +74,8 @@ pub fn descents_find<L: Local>()
 
 /// Where all that stand at a channel received the value of its source one after the other, the tree moves by the
 /// meeting.
-pub fn meetings_move<L: Local>()
-    ensures { MeetingsMove L.ops }
+pub fn meeting_preserves<L: Local>()
+    ensures { MeetingPreserves L.ops }
 {}
 
 /// All that share a channel at and below its home are receivers enough for a meeting.
@@ -96,8 +96,8 @@ pub fn sources_lead<L: Local>()
 
 /// Where all that live and share a channel at and below a child died one after the other of the innermost label
 /// in force at its fork, the tree moves by the child's poison.
-pub fn poisons_move<L: Local>()
-    ensures { PoisonsMove L.ops }
+pub fn poison_preserves<L: Local>()
+    ensures { PoisonPreserves L.ops }
 {}
 
 /// The first name among all that share a channel is the one that its first meeting brings.
@@ -106,29 +106,29 @@ pub fn names_found<L: Local>()
 {}
 
 /// What becomes possible is at a record that has changed, or at the parent of one.
-pub fn waking_suffices<L: Local>()
-    ensures { WakingSuffices L.ops }
+pub fn requeueing_suffices<L: Local>()
+    ensures { RequeueingSuffices L.ops }
 {}
 
-/// Each enabled event is looked for at one record.
-pub fn looked_for<L: Local>()
-    ensures { LookedFor L.ops }
+/// Each enabled event is looked for at one record, and at no other.
+pub fn event_has_one_owner<L: Local>()
+    ensures { EventHasOneOwner L.ops }
 {}
 
-/// What can happen at a record is told by its state, by what it says itself, and by the states and records of
+/// What can happen at a record is decided by its state, by what it says itself, and by the states and records of
 /// its children.
-pub fn looks_decide<L: Local>()
-    ensures { LooksDecide L.ops }
+pub fn record_decides<L: Local>()
+    ensures { RecordDecides L.ops }
 {}
 
-/// A record tells of no more than before, where neither it nor a child of its fork has become ready on a channel on
-/// which that tells anything.
-pub fn no_more_is_told<L: Local>()
-    ensures { NoMoreIsTold L.ops }
+/// By a record no more can happen than before, where neither it nor a child of its fork has become ready on a
+/// channel by which something could.
+pub fn no_more_can_happen<L: Local>()
+    ensures { NoMoreCanHappen L.ops }
 {}
 
-/// So a list of numbers at which events may be enabled stays one, where whatever tells of more than before is
-/// listed, too; what tells of nothing but a quiet step may be dropped.
-pub fn listing_stays<L: Local>()
-    ensures { ListingStays L.ops }
+/// So an event queue stays complete, where each record by which more can happen than before is listed, too; one by
+/// which nothing but a quiet step can happen may be dropped.
+pub fn queue_stays_complete<L: Local>()
+    ensures { QueueStaysComplete L.ops }
 {}

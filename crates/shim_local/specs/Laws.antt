@@ -75,16 +75,16 @@ pub record LocalLaws {S : Type 0} (o : Ops S) : Type 0 where
   pub fork_handlers : (l p : S) (ks : List S) → o.sound l → Forks o l p ks → o.handlers p ≡ o.handlers l
   pub fork_trap_handlers : (l m : S) → o.sound l → o.stop l ≡ AtFork → o.fork l ≡ Trapped m → o.handlers m ≡ o.handlers l
   pub join_handlers : (l : S) (ks : List S) → o.sound l → AllOf o.sound ks → o.born l ks → o.handlers (o.join l ks false) ≡ o.handlers l
-  -- what it stands at is its own
+  -- a process shares the channel of its `next` and each channel that it carries, has the output at a `put`, and throws only what is in force
   pub next_shares : (l : S) (c : NamedChannel) → o.sound l → o.stop l ≡ AtNext c → o.shares l c.channel ≡ true
   pub carries_shares : (l : S) (c : Channel) → o.sound l → o.carries l c ≡ true → o.shares l c ≡ true
   pub put_holds : (l : S) → o.sound l → o.stop l ≡ AtPut → o.holds_output l ≡ true
   pub throw_below : (l : S) (x : ℕ) → o.sound l → o.stop l ≡ AtThrow x → x < o.handlers l
-  -- a trap is stood at, and behind a put that puts a byte there is none
+  -- a put or a fork that traps leaves its process trapped, and a put that puts a byte doesn't
   pub put_traps : (l : S) → o.sound l → o.stop l ≡ AtPut → o.byte l ≡ None → IsTrapped o (o.put l)
   pub put_goes : (l : S) (b : ℕ) → o.sound l → o.stop l ≡ AtPut → o.byte l ≡ Some b → IsTrapped o (o.put l) → ⊥
   pub fork_traps : (l m : S) → o.sound l → o.stop l ≡ AtFork → o.fork l ≡ Trapped m → IsTrapped o m
-  -- a throw with a number changes nothing, and one without is stood trapped at
+  -- computing the number of a throw changes nothing if there is one, and else leaves the process trapped
   pub thrown_same : (l : S) (x : ℕ) (v : ℤ) → o.sound l → o.stop l ≡ AtThrow x → o.number l ≡ Some v → o.thrown l ≡ l
   pub throw_traps : (l : S) (x : ℕ) → o.sound l → o.stop l ≡ AtThrow x → o.number l ≡ None → IsTrapped o (o.thrown l)
   -- what it shares: a quiet step, and the way to a handler, add channels of its own alone, and lose none; no other call changes anything

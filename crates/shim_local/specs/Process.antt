@@ -22,7 +22,7 @@ pub data ForkedView (S : Type 0) : Type 0 where
 
 -- The state after each call, and what the calls answer, for states of any kind. A call says nothing of a state that stands at another stop.
 pub record Ops (S : Type 0) : Type 1 where
-  -- the state has what all states have that a process comes to
+  -- an invariant of states: each call keeps it, and the children of a fork have it
   pub sound : S → Type 0
   pub stop : S → StopView
   -- after one quiet step

@@ -11,9 +11,9 @@ use Rattle.shim_laws_replay.proofs.Keeping.{nets_keep}
 use Rattle.shim_laws_replay.proofs.Ends.{journals_mean}
 use Rattle.shim_laws_replay.proofs.Moments.{ends_are_told}
 use Rattle.shim_run_state.specs.RunStates.{RunStateView}
-use Rattle.shim_run_state.specs.Holding.{NoneHeld}
+use Rattle.shim_run_state.specs.CheckingOut.{NoneCheckedOut}
 use Rattle.shim_net.specs.Nets.{NetView, OpenGrant, IsNet, granted}
-use Rattle.shim_net.specs.Holding.{AreHeld}
+use Rattle.shim_net.specs.CheckingOut.{AreCheckedOut}
 use Rattle.shim_net.specs.Standings.{StandsAs, IsQuiescentNet, IsSpentNet}
 use Rattle.shim_net.specs.declared.standing.Standing.{Standing}
 use Rattle.shim_net.specs.declared.standing.Standing.TheVariants.{Running, Quiescent, Spent}
@@ -38,9 +38,9 @@ pub may_end : {S : Type 0} (o : Ops S) (n : NetView S) → IsNet o n → IsQuies
 may_end o n w (inl q) = inl (omega (arith, w.keeps.fits), q.1)
 may_end o n w (inr s) = inr s.1
 
--- with no grant open, nobody is held
-pub nobody_held : {S : Type 0} (o : Ops S) (v : RunStateView S) (grants : List (OpenGrant S)) → AreHeld o v grants → grants ≡ [] → NoneHeld o v
-nobody_held {S} o v grants are none i l held = let any = subst (λ (gs : List (OpenGrant S)). Any (λ g. (g.pid ≡ i) × (g.start ≡ l)) gs) none (are.only i l held) in
+-- with no grant open, nobody is checked out
+pub nobody_out : {S : Type 0} (o : Ops S) (v : RunStateView S) (grants : List (OpenGrant S)) → AreCheckedOut o v grants → grants ≡ [] → NoneCheckedOut o v
+nobody_out {S} o v grants are none i l checked_out = let any = subst (λ (gs : List (OpenGrant S)). Any (λ g. (g.pid ≡ i) × (g.start ≡ l)) gs) none (are.only i l checked_out) in
     let none_below = any.2 in omega (arith, none_below)
 
 pub none_open : {S : Type 0} (o : Ops S) (n : NetView S) → IsQuiescentNet o n ⊎ IsSpentNet o n → n.grants ≡ []

@@ -1,7 +1,7 @@
 -- The lemmas of this crate, one module for each subject.
 pub mod Keeping
 pub mod Granting
-pub mod Holding
+pub mod CheckingOut
 pub mod Closing
 pub mod Settling
 pub mod InPlace

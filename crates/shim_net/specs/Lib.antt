@@ -1,7 +1,7 @@
 -- The definitions of this crate, one module for each subject.
 pub mod Entries
 pub mod Nets
-pub mod Holding
+pub mod CheckingOut
 pub mod Codes
 pub mod Granting
 pub mod Taking

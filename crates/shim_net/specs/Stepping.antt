@@ -10,7 +10,7 @@ use Rattle.shim_net.specs.Nets.{NetView, reserved_in}
 use Rattle.shim_net.specs.Granting.{GivesNone, IsAtHome}
 use Rattle.shim_net.specs.Taking.{with_piece}
 
--- the process at home with this number; the root alone has the number 0
+-- some process is at home, and this number may be its own: it is 0 exactly if that process is the root
 pub record IsHomeNumber {S : Type 0} (o : Ops S) (n : NetView S) (pid : ℕ) : Type 0 where
   pub process : S
   pub home : IsAtHome o n.tree n.grants process
@@ -20,7 +20,7 @@ pub record IsHomeNumber {S : Type 0} (o : Ops S) (n : NetView S) (pid : ℕ) : T
 abbrev pub left_of : {S : Type 0} → NetView S → ℕ
 left_of n = n.budget - (steps n.tree + reserved_in n.grants)
 
--- this is the number of a process at home, and nothing has changed; or there is none, because nothing is left of the budget or no process is at home
+-- Nothing has changed. A step is left, and this may be the number of a process at home; or there is no number, because nothing is left of the budget or no process is at home.
 abbrev pub IsNextHome : {S : Type 0} → Ops S → NetView S → NetView S → Option ℕ → Type 0
 IsNextHome o before after None = GivesNone o before after
 IsNextHome o before after (Some pid) = (after ≡ before) × (1 ≤ left_of before) × IsHomeNumber o before pid

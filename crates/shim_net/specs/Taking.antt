@@ -55,6 +55,11 @@ pub record Redoes {S : Type 0} (o : Ops S) (before after : NetView S) : Type 0 w
   pub most : used ≤ closes.grant.most
   pub fewer : FewerWithCause o used closes.grant.most false last
 
+-- open grants were closed so, one after the other, and nothing else was done
+pub data RedoesSome {S : Type 0} (o : Ops S) (before : NetView S) : NetView S → Type 0 where
+  redid_none : RedoesSome o before before
+  redid_one : (between after : NetView S) → RedoesSome o before between → Redoes o between after → RedoesSome o before after
+
 abbrev pub RedoesOne : {S : Type 0} → Ops S → NetView S → NetView S → Bool → Type 0
 RedoesOne o before after true = Redoes o before after
 RedoesOne o before after false = (after ≡ before) × (before.grants ≡ [])

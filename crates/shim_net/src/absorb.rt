@@ -56,7 +56,7 @@ impl<L: Local> Net<L> {
     {
         let grant = self.grants.remove(at);
         self.reserved -= grant.most();
-        self.tree.release(grant.number(), last, used);
+        self.tree.check_in(grant.number(), last, used);
         if used == 0 {
             return;
         }

@@ -21,7 +21,7 @@ impl<L: Local> Net<L> {
         self.redo_all()?;
         self.settle()?;
         while self.standing() == Standing::Running {
-            self.step_next(u64::MAX)?;
+            self.step_next()?;
             self.settle()?;
         }
         Ok(())

@@ -12,8 +12,9 @@ impl<L: Local> Net<L> {
     /// Gives out work of a process that stands before a quiet step and isn't out: `most` steps, which
     /// are at least 1, or what is left of the budget where that is less. `slot` and `round` are the
     /// caller's numbers for the piece: they come back with it and tell the open grants apart, so no open
-    /// grant may have both. `pid` is the number of the process in this net, 0 exactly for the root, and
-    /// the same in all its pieces. `None` exactly where no process can be given out, or nothing is left.
+    /// grant may have both. `pid` is the number of the process in this net, 0 exactly for the root; no
+    /// clause says that all its pieces have the same. `None` exactly where no process can be given out, or nothing is
+    /// left.
     /// Want of memory changes nothing.
     pub fn grant(&mut self, most: u64, slot: u64, round: u64) -> Result<Option<Parcel<L>>, NoMemory>
         requires most { 1 ≤ most }
@@ -33,7 +34,7 @@ impl<L: Local> Net<L> {
         self.grants.reserve(1)?;
         let given = OpenGrant::new(self.tree.process(number), number, slot, round, grant)?;
         let parcel = given.parcel()?;
-        self.tree.hold(number);
+        self.tree.check_out(number);
         self.grants.push_reserved(given);
         self.reserved += grant;
         Ok(Some(parcel))

@@ -8,7 +8,7 @@ impl<L: Local> Net<L> {
         self.tree.hand_over_cost()
     }
 
-    /// How many processes may have quiet steps to do, at home or out: at least as many as have.
+    /// How many processes may have quiet steps to do, at home or out. It is meant to be at least as many as have.
     pub fn runnable(&self) -> usize {
         self.tree.listed_quiet().saturating_add(self.grants.len())
     }

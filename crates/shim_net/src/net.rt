@@ -2,7 +2,7 @@
 ghost use Rattle.std.specs.Prelude.{◌≡◌, ◌≤◌, ◌-◌, ◌+◌, [], IfOk};
 ghost use Rattle.shim_semantics.specs.Sound.{SharesItsOwn};
 ghost use Rattle.shim_semantics.specs.Trees.{steps};
-ghost use Rattle.shim_run_state.specs.RunStates.{tree_in, KeepsTree};
+ghost use Rattle.shim_run_state.specs.RunStates.{tree_in, RunStateInvariant};
 ghost use Rattle.shim_net.specs.Nets.{started, reserved_in};
 
 use crate::open_grant::OpenGrant;
@@ -22,7 +22,7 @@ use std::snapshot::Snapshot;
 pub struct Net<L: Local> {
     pub(crate) root: Snapshot<L>,
     pub(crate) budget: u64,
-    // of which the processes of all open grants are held, and no others
+    // of which the processes of all open grants are checked out, and no others
     pub(crate) tree: RunState<L>,
     // with room for an entry of each open grant
     pub(crate) journal: Vec<Entry>,
@@ -36,7 +36,7 @@ impl<L: Local> Model for Net<L> {
     ghost use Rattle.shim_net.specs.Entries.{entry_of};
     ghost use Rattle.shim_net.specs.Nets.{NetView, IsNet, reserved_in};
     ghost use Rattle.shim_run_state.specs.RunStates.{tree_in};
-    ghost use Rattle.shim_net.specs.Holding.{AreHeld};
+    ghost use Rattle.shim_net.specs.CheckingOut.{AreCheckedOut};
     ghost use Rattle.shim_net.specs.Codes.{net_code};
 
     ghost Value = { NetView L };
@@ -47,7 +47,7 @@ impl<L: Local> Model for Net<L> {
 
     ghost invariant = { λ n. IsNet L.ops (record { root = n.root.value; budget = n.budget; tree = tree_in L.ops n.tree; journal = map entry_of n.journal.items; grants = n.grants.items })
         × (n.reserved ≡ reserved_in n.grants.items) × (vec_len n.journal + vec_len n.grants ≤ vec_capacity n.journal)
-        × AreHeld L.ops n.tree n.grants.items };
+        × AreCheckedOut L.ops n.tree n.grants.items };
 }
 
 impl<L: Local> Net<L> {
@@ -86,7 +86,7 @@ impl<L: Local> Net<L> {
 pub(crate) fn left_in<L: Local>(tree: &RunState<L>, budget: u64, reserved: u64) -> u64
     requires { steps (tree_in L.ops tree.now) + reserved ≤ budget }
     ensures left { result ≡ budget - (steps (tree_in L.ops tree.now) + reserved) }
-    ensures keeps { KeepsTree L.ops tree.now }
+    ensures keeps { RunStateInvariant L.ops tree.now }
 {
     budget - tree.steps() - reserved
 }

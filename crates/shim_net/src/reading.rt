@@ -27,7 +27,8 @@ impl<L: Local> Net<L> {
         self.tree.steps()
     }
 
-    /// What was done in it. An event that stands there by itself is no quiet step, as the clauses of `settle` say.
+    /// What was done in it. An event that `settle` did stands there by itself, and is no quiet step; of what `finish`
+    /// did no clause says so.
     pub fn journal(&self) -> &[Entry]
         ensures { map entry_of result.now ≡ self.now.journal }
     {

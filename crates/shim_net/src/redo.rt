@@ -1,6 +1,6 @@
 // Doing work that was given out again.
 ghost use Rattle.std.specs.Prelude.{◌≡◌, [], IfOk, OnOk, OnErr};
-ghost use Rattle.shim_net.specs.Taking.{RedoesOne};
+ghost use Rattle.shim_net.specs.Taking.{RedoesOne, RedoesSome};
 ghost use Rattle.shim_net.specs.Progress.{GoesOn, AreAmong};
 
 use crate::net::Net;
@@ -34,6 +34,7 @@ impl<L: Local> Net<L> {
     /// Does the work of all open grants, each from its start, and takes it in. Where memory is wanted, the
     /// grants whose work was done stay closed, and the others stay open.
     pub fn redo_all(&mut self) -> Result<(), NoMemory>
+        ensures redoes { RedoesSome L.ops self.old self.new }
         ensures goes_on { GoesOn L.ops self.old self.new }
         ensures left { AreAmong self.new.grants self.old.grants }
         ensures home { OnOk result (self.new.grants ≡ []) }

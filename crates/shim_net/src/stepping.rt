@@ -25,7 +25,7 @@ fn add_steps(journal: &mut Vec<Entry>, path: Path, steps: u64)
 }
 
 impl<L: Local> Net<L> {
-    /// The number of a process that stands before a quiet step and isn't out: the one that `step_here`,
+    /// The number of a process that stands before a quiet step and isn't out: the one that `step`,
     /// `enter_and_step` or `grant` would take next. `None` exactly where there is none, or nothing is left of the
     /// budget. It takes no memory.
     pub fn next_home(&mut self) -> Option<u64>
@@ -42,7 +42,7 @@ impl<L: Local> Net<L> {
     /// budget where that is less. They are one entry of the journal, and no grant changes. It does fewer only
     /// where it comes to another stop, or memory was wanted for a further step (`short`); `None` exactly where
     /// no process is at home, or nothing is left. Want of memory before the first step changes nothing.
-    pub fn step_here(&mut self, most: u64) -> Result<Option<Quiet>, NoMemory>
+    pub fn step(&mut self, most: u64) -> Result<Option<Quiet>, NoMemory>
         requires most { 1 ≤ most }
         ensures ok { IfOk result (λ quiet. StepsHome L.ops self.old self.new most quiet) }
         ensures err { OnErr result (self.new ≡ self.old) }
@@ -50,7 +50,7 @@ impl<L: Local> Net<L> {
         self.enter_and_step(most, &NoOpGate::new())
     }
 
-    /// Does as `step_here` does, behind the gate, which is entered with the number of the process that is next.
+    /// Does as `step` does, behind the gate, which is entered with the number of the process that is next.
     pub fn enter_and_step<G: Gate>(
         &mut self,
         most: u64,
@@ -71,22 +71,20 @@ impl<L: Local> Net<L> {
         self.journal.reserve(self.grants.len() + 1)?;
         let path = self.tree.path(number).copy()?;
         gate.enter(number as u64, L::COMPILED);
-        let quiet = self.tree.step_here(number, most.min(left));
+        let quiet = self.tree.step(number, most.min(left));
         add_steps(&mut self.journal, path, quiet.taken);
         Ok(Some(quiet))
     }
 
-    /// The process that is next at home, of which there is one, does quiet steps in place: up to `most`, which
-    /// are at least 1, or what is left of the budget where that is less. Want of memory for a step leaves those
-    /// before it, and they stand in the journal.
-    pub fn step_next(&mut self, most: u64) -> Result<(), NoMemory>
-        requires most { 1 ≤ most }
+    // The process that is next at home, of which there is one, does quiet steps in place, up to what is left of
+    // the budget. Want of memory for a step leaves those before it, and they stand in the journal.
+    pub(crate) fn step_next(&mut self) -> Result<(), NoMemory>
         requires can { CanGive L.ops self.old }
         ensures goes_on { GoesOn L.ops self.old self.new }
         ensures same { self.new.grants ≡ self.old.grants }
         ensures more { OnOk result (trees.steps self.old.tree < trees.steps self.new.tree) }
     {
-        match self.step_here(most)? {
+        match self.step(u64::MAX)? {
             None => Ok(()), // excluded, since something can be given out
             Some(quiet) => {
                 if quiet.short {

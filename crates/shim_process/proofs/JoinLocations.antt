@@ -6,7 +6,7 @@ use Rattle.shim_local.specs.Laws.{AnyOf}
 use Rattle.shim_units.specs.declared.unit.UBranch.{UBranch}
 use Rattle.shim_units.specs.declared.unit.Arg.{Arg}
 use Rattle.shim_units.specs.declared.unit.Arg.TheVariants.{Ref, Pass, Fresh}
-use Rattle.shim_process.specs.Locations.{Location, Locations, Ownership, Own, Lent, Copy, at_number, channel_in, channel_at, regained, with_back}
+use Rattle.shim_process.specs.Locations.{Location, Locations, Ownership, Own, Lent, Copy, at_number, channel_in, channel_at, restored, with_back}
 use Rattle.shim_process.specs.LocalState.{LocalState, number_of}
 use Rattle.shim_process.specs.Forks.{taken_back, all_back}
 use Rattle.shim_process.specs.Sharers.{carries}
@@ -53,7 +53,7 @@ widened : (P Q : Channel → Type 0) (before : Locations) (n : ℕ) (x : Locatio
 widened P Q before n x h (same_ownership w) = same_ownership w
 widened P Q before n x h (came_back y there channel lent own away) = came_back y there channel lent own (h x.channel.channel away)
 
-ownership_back : (m k : Ownership) → (regained m k ≡ k) ⊎ ((m ≡ Own) × (k ≡ Lent) × (regained m k ≡ Own))
+ownership_back : (m k : Ownership) → (restored m k ≡ k) ⊎ ((m ≡ Own) × (k ≡ Lent) × (restored m k ≡ Own))
 ownership_back Own Own = inl refl
 ownership_back Own Lent = inr (refl, refl, refl)
 ownership_back Own Copy = inl refl
@@ -61,9 +61,9 @@ ownership_back Lent k = inl refl
 ownership_back Copy k = inl refl
 
 with_channel : (k : LocalState) (m : ℕ) (before : Locations) (n : ℕ) (back l x : Location) → at_number k.locations m ≡ Some back → at_number before n ≡ Some l → back.channel ≡ l.channel
-    → Some (record l { value = back.value; ownership = regained back.ownership l.ownership }) ≡ Some x → Kept (Carries k) before n x
+    → Some (record l { value = back.value; ownership = restored back.ownership l.ownership }) ≡ Some x → Kept (Carries k) before n x
 with_channel k m before n back l x a b on e =
-    let same = some_same (record l { value = back.value; ownership = regained back.ownership l.ownership }) x e in
+    let same = some_same (record l { value = back.value; ownership = restored back.ownership l.ownership }) x e in
     let channel : l.channel ≡ x.channel = ap (λ (r : Location). r.channel) same in
     elim (ownership_back back.ownership l.ownership) [
       | inl h ↦ same_ownership (record { location = l; there = b; channel = channel; ownership = sym h ∙ ap (λ (r : Location). r.ownership) same })

@@ -70,12 +70,12 @@ moved Lent = Copy
 moved Copy = Copy
 
 -- the ownership afterwards of what a branch took by reference, from that which the child's location has then, and that which was kept
-abbrev pub regained : Ownership → Ownership → Ownership
-regained Own Own = Own
-regained Own Lent = Own
-regained Own Copy = Copy
-regained Lent ownership = ownership
-regained Copy ownership = ownership
+abbrev pub restored : Ownership → Ownership → Ownership
+restored Own Own = Own
+restored Own Lent = Own
+restored Own Copy = Copy
+restored Lent ownership = ownership
+restored Copy ownership = ownership
 
 -- what the process keeps of a location that a branch takes by reference
 abbrev pub with_kept : Option Location → Option Location
@@ -96,7 +96,7 @@ is_on c l = same_channel l.channel.channel c
 
 -- the value comes back from the child's location, and the ownership if it was lent
 abbrev pub with_back : Option Location → Option Location → Option Location
-with_back (Some back) (Some l) = Some (record l { value = back.value; ownership = regained back.ownership l.ownership })
+with_back (Some back) (Some l) = Some (record l { value = back.value; ownership = restored back.ownership l.ownership })
 with_back _ l = l
 
 -- the first location that is the channel's own variable

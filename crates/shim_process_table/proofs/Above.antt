@@ -6,10 +6,10 @@ use Rattle.shim_semantics.proofs.HowMany.{clash}
 use Rattle.shim_records.specs.Pairs.{up_in}
 use Rattle.shim_records.proofs.Reaching.{among_more, one_above}
 use Rattle.shim_laws_table_events.specs.keeping.Tables.{TableView}
-use Rattle.shim_laws_table_events.specs.waking.Waking.{Wakes}
-use Rattle.shim_laws_table_events.specs.waking.Awake.{is_listed}
+use Rattle.shim_laws_table_events.specs.queues.Requeueing.{CoversChanges}
+use Rattle.shim_laws_table_events.specs.queues.EventQueue.{is_listed}
 use Rattle.shim_records.specs.Ways.{IsAbove, its_fork, further}
-use Rattle.shim_process_table.specs.Touching.{TouchesForking, TouchesEach}
+use Rattle.shim_process_table.specs.Touching.{ChangesOnlyForking, ChangesOnlyEach}
 
 module _ (up : ℕ → Option ℕ) where
   -- nothing is above a process without a fork
@@ -56,8 +56,8 @@ module _ {S : Type 0} (n number : ℕ) (before behind : TableView S) (flags : Li
       one_more n = omega arith
 
   -- Where a list has the number, the forks that were touched, the one above these, and the new children, it has what is to be looked at again.
-  pub wake_forked : (first count : ℕ) → ((b : ℕ) → b < count → is_listed flags (first + b) ≡ true) → TouchesForking n number first count before behind → Wakes before behind (is_listed flags)
-  wake_forked first count new touches = record {
+  pub requeue_forked : (first count : ℕ) → ((b : ℕ) → b < count → is_listed flags (first + b) ≡ true) → ChangesOnlyForking n number first count before behind → CoversChanges before behind (is_listed flags)
+  requeue_forked first count new touches = record {
     itself = λ i f s k has out. touches.others i f s k has (other i out) (not_above i out)
         (λ b less e. clash (is_listed flags i) (subst (λ z. is_listed flags z ≡ true) (sym e) (new b less)) out);
     children = λ i j f s k has up out. touches.others j f s k has (no_child i j out up) (no_parent i j out up)
@@ -65,9 +65,9 @@ module _ {S : Type 0} (n number : ℕ) (before behind : TableView S) (flags : Li
   }
 
 -- Where it has several numbers, and all that is above each, it has what is to be looked at again.
-pub wake_each : {S : Type 0} (numbers : List ℕ) (before behind : TableView S) (flags : List Bool) → ((m at : ℕ) → slice_get numbers at ≡ Some m → is_listed flags m ≡ true)
-    → ((m at i : ℕ) → slice_get numbers at ≡ Some m → IsAbove (up_in behind.records) (4294967295 + 1) m i → is_listed flags i ≡ true) → TouchesEach numbers before behind → Wakes before behind (is_listed flags)
-wake_each {S} numbers before behind flags mine all touches = record {
+pub enqueue_all : {S : Type 0} (numbers : List ℕ) (before behind : TableView S) (flags : List Bool) → ((m at : ℕ) → slice_get numbers at ≡ Some m → is_listed flags m ≡ true)
+    → ((m at i : ℕ) → slice_get numbers at ≡ Some m → IsAbove (up_in behind.records) (4294967295 + 1) m i → is_listed flags i ≡ true) → ChangesOnlyEach numbers before behind → CoversChanges before behind (is_listed flags)
+enqueue_all {S} numbers before behind flags mine all touches = record {
   itself = λ i f s k has out. touches.others i (λ m at e. (
     other 4294967295 m before behind flags (mine m at e) (λ x. all m at x e) i out,
     λ w. not_above 4294967295 m before behind flags (mine m at e) (λ x. all m at x e) i out (now_above w),

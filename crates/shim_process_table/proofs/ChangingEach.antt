@@ -13,7 +13,7 @@ use Rattle.shim_laws_table.proofs.SameTrees.{same_or_not}
 use Rattle.shim_records.specs.Members.{IsAmong}
 use Rattle.shim_records.proofs.ReadOff.{same_stands}
 use Rattle.shim_records.proofs.Stepping.{set_there, set_elsewhere}
-use Rattle.shim_laws_table_events.specs.keeping.Tables.{TableView, HasProcessState, Keeps, stands}
+use Rattle.shim_laws_table_events.specs.keeping.Tables.{TableView, HasProcessState, TableInvariant, stands}
 use Rattle.shim_laws_table_events.specs.meetings.Meetings.{ReceivesOne, stands_elsewhere, received, ReceiveAll, none_left, one_more}
 use Rattle.shim_laws_table_events.specs.meetings.Poisons.{DiesOne, survived, was_killed, AllDie, none_left as none_die, one_more as one_dies}
 use Rattle.shim_laws_table_events.proofs.meetings.Among.{among_later}
@@ -71,7 +71,7 @@ module _ {S : Type 0} (o : Ops S) where
   -- ---- one receives
 
   module _ (law : LocalLaws o) (c : Channel) (v : ℤ) where
-    receives_changed : (i : ℕ) (before behind : TableView S) → ReceivesOne o c v i before behind → (rp : Path) (root : Node S) → Keeps o rp before root → IsChanged o (i ∷ []) before behind
+    receives_changed : (i : ℕ) (before behind : TableView S) → ReceivesOne o c v i before behind → (rp : Path) (root : Node S) → TableInvariant o rp before root → IsChanged o (i ∷ []) before behind
     receives_changed i before behind (stands_elsewhere none same) rp root kept = none_changed (i ∷ []) before behind same
     receives_changed i before behind (received f l d has stop is states moves) rp root kept = one_changed i f l s lives lives before behind has become (law.moved_path l s sound (by_call (by_receive d v stop refl)))
       where
@@ -80,8 +80,8 @@ module _ {S : Type 0} (o : Ops S) where
 
         sound : o.sound l
         sound =
-            let n = node_at o rp before.states (stands before) root kept.shows i f l lives has in
-            subst (λ z. o.sound z) n.2 (state_sound o n.0 (sound_at o (place o rp l) root n.0 kept.shows.sound.below n.1))
+            let n = node_at o rp before.states (stands before) root kept.represents i f l lives has in
+            subst (λ z. o.sound z) n.2 (state_sound o n.0 (sound_at o (place o rp l) root n.0 kept.represents.sound.below n.1))
 
         stay : stands behind ≡ stands before
         stay = same_stands before.records behind.records (moves_on_rest moves)

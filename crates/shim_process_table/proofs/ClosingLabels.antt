@@ -13,7 +13,7 @@ use Rattle.shim_records.specs.Pairs.{stands_of, stands_by, rest_of}
 use Rattle.shim_records.specs.Recounting.{IsRecounted}
 use Rattle.shim_records.specs.declared.record.Record.{Record}
 use Rattle.shim_records.proofs.Walked.{none_earlier}
-use Rattle.shim_records.proofs.Showing.{map_get}
+use Rattle.shim_records.proofs.Representing.{map_get}
 use Rattle.shim_laws_table_events.specs.closes.Closing.{AllRecounted, none_left, one_more, GivenRecounted}
 use Rattle.shim_laws_table_events.proofs.closes.Labels.{rest_recounted}
 
@@ -33,9 +33,9 @@ none_read rs g n =
     sym (ap (λ z. prevailing_among (segment (g + n) z (map stands_of rs))) none ∙ ap prevailing_among (no_block (drop (g + n) (map stands_of rs))))
 
 -- one more child
-pub one_read : (rs : List Record) (g n i : ℕ) (r : Record) (least now : Option Death) → i < n → slice_get rs (g + i) ≡ Some r → ((f : ℕ) → now ≡ prevailing_with (stands_by f r.status) least)
-    → least ≡ prevailing_among (segment (g + (i + 1)) (n - (i + 1)) (map stands_of rs)) → now ≡ prevailing_among (segment (g + i) (n - i) (map stands_of rs))
-one_read rs g n i r least now less there is so =
+pub one_read : (rs : List Record) (g n i : ℕ) (r : Record) (min_dead_label now : Option Death) → i < n → slice_get rs (g + i) ≡ Some r → ((f : ℕ) → now ≡ prevailing_with (stands_by f r.status) min_dead_label)
+    → min_dead_label ≡ prevailing_among (segment (g + (i + 1)) (n - (i + 1)) (map stands_of rs)) → now ≡ prevailing_among (segment (g + i) (n - i) (map stands_of rs))
+one_read rs g n i r min_dead_label now less there is so =
     let left : n - i ≡ suc (n - (i + 1)) = omega (arith, less) in
     let next : suc (g + i) ≡ g + (i + 1) = omega arith in
     let here : slice_get (map stands_of rs) (g + i) ≡ Some (stands_of r) = map_get stands_of rs (g + i) ∙ ap (option_map stands_of) there in
@@ -43,8 +43,8 @@ one_read rs g n i r least now less there is so =
     ∙ (ap (prevailing_with (stands_of r)) (so ∙ ap (λ z. prevailing_among (segment z (n - (i + 1)) (map stands_of rs))) (sym next))
     ∙ sym (ap (λ z. prevailing_among (segment (g + i) z (map stands_of rs))) left ∙ ap (λ z. prevailing_among (take (suc (n - (i + 1))) z)) (drop_at (map stands_of rs) (g + i) (stands_of r) here)))
 
-pub all_read : (rs : List Record) (g n i : ℕ) (least : Option Death) → i ≡ 0 → least ≡ prevailing_among (segment (g + i) (n - i) (map stands_of rs)) → least ≡ prevailing_among (segment g n (map stands_of rs))
-all_read rs g n i least e so =
+pub all_read : (rs : List Record) (g n i : ℕ) (min_dead_label : Option Death) → i ≡ 0 → min_dead_label ≡ prevailing_among (segment (g + i) (n - i) (map stands_of rs)) → min_dead_label ≡ prevailing_among (segment g n (map stands_of rs))
+all_read rs g n i min_dead_label e so =
     let first : g + i ≡ g = omega (arith, e) in
     let many : n - i ≡ n = omega (arith, e) in
     so ∙ (λ t. prevailing_among (segment (first t) (many t) (map stands_of rs)))

@@ -19,24 +19,24 @@ use Rattle.shim_records.specs.Pairs.{fork_size, stands_of, stands_by, chans_of, 
 use Rattle.shim_records.specs.declared.record.Record.{Record}
 use Rattle.shim_records.specs.declared.record.Status.{Status}
 use Rattle.shim_records.specs.declared.record.Status.TheVariants as code
-use Rattle.shim_records.proofs.Showing.{map_get}
+use Rattle.shim_records.proofs.Representing.{map_get}
 use Rattle.shim_records.proofs.Stepping.{set_there}
-use Rattle.shim_laws_table_events.specs.keeping.Tables.{TableView, Keeps, IsKept}
-use Rattle.shim_laws_table_events.specs.keeping.Moves.{MovesBy}
-use Rattle.shim_laws_table_events.proofs.waking.PairsFound.{record_of}
-use Rattle.shim_laws_table_events.specs.closes.Closing.{RecordWithoutStatus, without_status, AreFreed, HasCome, LeavesIf, RecountedIf}
+use Rattle.shim_laws_table_events.specs.keeping.Tables.{TableView, TableInvariant, HasTableInvariant}
+use Rattle.shim_laws_table_events.specs.keeping.Moves.{Performs}
+use Rattle.shim_laws_table_events.proofs.queues.PairsFound.{record_of}
+use Rattle.shim_laws_table_events.specs.closes.Closing.{RecordWithoutStatus, without_status, AreFreed, HasCome, CountsOffIfOver, RecountedIf}
 use Rattle.shim_laws_table_events.proofs.closes.Closed.{behind as behind_close, given_few}
-use Rattle.shim_laws_table_events.proofs.closes.Closes.{closes_keep, stands_stay}
+use Rattle.shim_laws_table_events.proofs.closes.Closes.{close_preserves, stands_stay}
 use Rattle.shim_laws_table_events.proofs.closes.Cuts.{cut, closed_cut}
 use Rattle.shim_laws_table_events.proofs.closes.Saying.{map_length, said_alike, was_item}
 use Rattle.shim_laws_table_events.proofs.closes.Taking.{born, below, within, apart}
-use Rattle.shim_process_table.specs.Closing.{CanClose, told_by, ClosedAs, acted_by, status_by_close, ClosesHere, ClosesRecord}
+use Rattle.shim_process_table.specs.Closing.{CanClose, close_effects, ClosedAs, acted_by, status_by_close, ClosesAt, ClosesRecord}
 use Rattle.shim_process_table.specs.declared.acting.Thrown.TheVariants as thrown
 use Rattle.shim_process_table.specs.declared.closing.CloseOutcome.{CloseOutcome}
 use Rattle.shim_process_table.specs.declared.closing.CloseOutcome.TheVariants.{GoesOn, Threw}
 use Rattle.shim_process_table.proofs.ClosingTakes.{read_there}
-use Rattle.shim_process_table.specs.Reading.{IsInUse}
-use Rattle.shim_process_table.specs.Touching.{TouchesAbove, TouchesRecords}
+use Rattle.shim_process_table.specs.Lookups.{IsInUse}
+use Rattle.shim_process_table.specs.Touching.{ChangesOnlyAbove, ChangesOnlyRecords}
 use Rattle.shim_process_table.proofs.TouchingCloses.{closes_touch}
 use Rattle.shim_process_table.proofs.TouchingCuts.{cut_touched}
 
@@ -69,7 +69,7 @@ sort_told (Threw (thrown.Caught name line)) s = refl
 sort_told (Threw (thrown.Died d)) s = refl
 sort_told (Threw thrown.Trapped) s = refl
 
-effects_told : {S : Type 0} (outcome : CloseOutcome) (s : S) → (acted_by outcome s).effects ≡ told_by outcome
+effects_told : {S : Type 0} (outcome : CloseOutcome) (s : S) → (acted_by outcome s).effects ≡ close_effects outcome
 effects_told GoesOn s = refl
 effects_told (Threw (thrown.Caught name line)) s = refl
 effects_told (Threw (thrown.Died d)) s = refl
@@ -105,7 +105,7 @@ module _ {S : Type 0} (states : List S) (rs : List Record) (number : ℕ) (done 
       let many : n ≡ done.many = is_n ∙ (ap (λ (z : Record). fork_size z.status) (read_there rs number p done.said record_there is_p done.there) ∙ told.1) in
       subst (λ z. Has states (map stands_of rs) number z done.process (forks n)) (sym first) (subst (λ z. Has states (map stands_of rs) number done.first done.process (forks z)) (sym many) done.forked)
 
-module _ {S : Type 0} (o : Ops S) (law : LocalLaws o) (states : List S) (rs : List Record) (number : ℕ) (kept : IsKept o (record { states = states; records = rs })) (done : CanClose (record { states = states; records = rs }) number) (first count : ℕ)
+module _ {S : Type 0} (o : Ops S) (law : LocalLaws o) (states : List S) (rs : List Record) (number : ℕ) (kept : HasTableInvariant o (record { states = states; records = rs })) (done : CanClose (record { states = states; records = rs }) number) (first count : ℕ)
     (has : Has states (map stands_of rs) number first done.process (forks count)) where
   -- ---- what is asked for
 
@@ -177,8 +177,8 @@ module _ {S : Type 0} (o : Ops S) (law : LocalLaws o) (states : List S) (rs : Li
         no_pairs = settled.come.no_pairs;
       }
 
-      leaves : LeavesIf (process_status a.node) number (slice_set freed number settled.is) settled.left
-      leaves = subst (λ z. LeavesIf z number (slice_set freed number settled.is) settled.left) same_sort settled.leaves
+      leaves : CountsOffIfOver (process_status a.node) number (slice_set freed number settled.is) settled.left
+      leaves = subst (λ z. CountsOffIfOver z number (slice_set freed number settled.is) settled.left) same_sort settled.leaves
 
       walked : AllUpdated o (state a.node) (process_status a.node) 4294967295 number settled.left settled.between
       walked = subst (λ z. AllUpdated o z (process_status a.node) 4294967295 number settled.left settled.between) same_state (subst (λ z. AllUpdated o settled.process z 4294967295 number settled.left settled.between) same_sort settled.walked)
@@ -190,12 +190,12 @@ module _ {S : Type 0} (o : Ops S) (law : LocalLaws o) (states : List S) (rs : Li
       abbrev After : TableView S
       After = record { states = take end now; records = take end behind }
 
-      pub moves : MovesBy o (Close (o.path done.process)) (record { states = states; records = rs }) After
+      pub moves : Performs o (Close (o.path done.process)) (record { states = states; records = rs }) After
       moves rp t was =
-          let w = closes_keep o law rp t states rs freed settled.left settled.between behind number first count done.process done.said settled.is a was has done.there done.none_goes is free come leaves walked again in
-          (w.0, w.1, subst (λ z. Keeps o rp (record { states = take end z; records = take end behind }) w.0.root) (sym set) (cut o rp w.0.root (slice_set states number (state a.node)) behind end w.2 unused))
+          let w = close_preserves o law rp t states rs freed settled.left settled.between behind number first count done.process done.said settled.is a was has done.there done.none_goes is free come leaves walked again in
+          (w.0, w.1, subst (λ z. TableInvariant o rp (record { states = take end z; records = take end behind }) w.0.root) (sym set) (cut o rp w.0.root (slice_set states number (state a.node)) behind end w.2 unused))
 
-      pub still_kept : IsKept o After
+      pub still_kept : HasTableInvariant o After
       still_kept = let w = moves kept.0 (tree_of o kept.1) kept.2 in (kept.0, w.0.root, w.2)
 
       closes : HasClosed states (slice_set states number (state a.node)) (map stands_of rs) (map stands_of behind) number first count (state a.node) (process_status a.node)
@@ -204,12 +204,12 @@ module _ {S : Type 0} (o : Ops S) (law : LocalLaws o) (states : List S) (rs : Li
           (sym (stands_stay o (slice_set states number (state a.node)) (state a.node) (process_status a.node) 4294967295 number (slice_set freed number settled.is) settled.left settled.between behind (prevailing_among (segment first count (map stands_of rs))) leaves walked again))
           (behind_close o law kept.0 (tree_of o kept.1) states rs number first count done.process done.said a kept.2 has done.there done.none_goes is freed settled.is free come).closes
 
-      touches : (m : ℕ) → TouchesRecords m number freed behind → TouchesAbove m number (record { states = states; records = rs }) After
+      touches : (m : ℕ) → ChangesOnlyRecords m number freed behind → ChangesOnlyAbove m number (record { states = states; records = rs }) After
       touches m moved =
-          let w = closes_keep o law kept.0 (tree_of o kept.1) states rs freed settled.left settled.between behind number first count done.process done.said settled.is a kept.2 has done.there done.none_goes is free come leaves walked again in
+          let w = close_preserves o law kept.0 (tree_of o kept.1) states rs freed settled.left settled.between behind number first count done.process done.said settled.is a kept.2 has done.there done.none_goes is free come leaves walked again in
           let now : TableView S = record { states = slice_set states number (state a.node); records = behind } in
           let mine : IsInUse now number = (closes.first, state a.node, process_status a.node, closes.parent) in
-          subst (λ z. TouchesAbove m number (record { states = states; records = rs }) (record { states = take end z; records = take end behind })) (sym set)
+          subst (λ z. ChangesOnlyAbove m number (record { states = states; records = rs }) (record { states = take end z; records = take end behind })) (sym set)
           (cut_touched o now end unused m number (record { states = states; records = rs }) (kept.0, w.0.root, w.2) mine (closes_touch states rs freed behind m number first count (state a.node) free moved))
 
       path : o.path (state a.node) ≡ o.path done.process
@@ -220,7 +220,7 @@ module _ {S : Type 0} (o : Ops S) (law : LocalLaws o) (states : List S) (rs : Li
       is_no_child : (b : ℕ) → b < count → number ≢ first + b
       is_no_child b less e = elim is_apart [ inl w ↦ absurd (omega (arith, w, e)) | inr w ↦ absurd (omega (arith, w, e, less)) ]
 
-      pub closes_here : (m : ℕ) → TouchesRecords m number freed behind → ClosesHere o m number outcome (record { states = states; records = rs }) After
+      pub closes_here : (m : ℕ) → ChangesOnlyRecords m number freed behind → ClosesAt o m number outcome (record { states = states; records = rs }) After
       closes_here m moved = record {
         first = first;
         many = count;

@@ -12,7 +12,7 @@ use Rattle.shim_records.specs.declared.record.Status.{Status}
 use Rattle.shim_records.specs.declared.record.Status.TheVariants as code
 use Rattle.shim_records.proofs.Stepping.{map_set, set_elsewhere}
 use Rattle.shim_records.proofs.Together.{freed_one}
-use Rattle.shim_laws_table_events.specs.closes.Closing.{AreFreed, without_status, LeavesIf}
+use Rattle.shim_laws_table_events.specs.closes.Closing.{AreFreed, without_status, CountsOffIfOver}
 use Rattle.shim_laws_table_events.proofs.closes.Saying.{leaves_said, said_order}
 
 pub in_use : (f : ℕ) (status : Status) → status ≢ code.Free → stands_by f status ≡ used f (process_status_of status)
@@ -22,7 +22,7 @@ in_use f (code.Forked n) h = refl
 in_use f code.Ended h = refl
 in_use f (code.Dead x) h = refl
 
-pub one_free : (first at : ℕ) (before now : List Record) (r new : Record) → AreFreed first (at - first) before now → first ≤ at → slice_get now at ≡ Some r → new ≡ record { status = code.Free; first = r.first; parent = r.parent; path = r.path; going = r.going; pairs = r.pairs } → AreFreed first (at + 1 - first) before (slice_set now at new)
+pub one_free : (first at : ℕ) (before now : List Record) (r new : Record) → AreFreed first (at - first) before now → first ≤ at → slice_get now at ≡ Some r → new ≡ record { status = code.Free; first = r.first; parent = r.parent; path = r.path; running_children = r.running_children; pairs = r.pairs } → AreFreed first (at + 1 - first) before (slice_set now at new)
 one_free first at before now r new h less e is = record {
   freed = freed_one first at before now r new h.freed less e (ap stands_of is);
   beside = map_set without_status now at r new e (ap without_status is) ∙ h.beside;
@@ -43,5 +43,5 @@ unpaired_order rs i new ordered none j r e = elim (same_or_not j i) [
 ]
 
 -- so do those with one child less that goes on
-pub settled_order : (rs left : List Record) (i : ℕ) (new : Record) (k : ProcessStatus) → AreOrdered rs → new.pairs.items ≡ [] → LeavesIf k i (slice_set rs i new) left → AreOrdered left
+pub settled_order : (rs left : List Record) (i : ℕ) (new : Record) (k : ProcessStatus) → AreOrdered rs → new.pairs.items ≡ [] → CountsOffIfOver k i (slice_set rs i new) left → AreOrdered left
 settled_order rs left i new k ordered none leaves = said_order (slice_set rs i new) left (leaves_said k i (slice_set rs i new) left leaves) (unpaired_order rs i new ordered none)

@@ -19,24 +19,24 @@ use Rattle.shim_records.specs.Acted.{process_status_of}
 use Rattle.shim_records.specs.declared.record.Record.{Record}
 use Rattle.shim_records.specs.declared.record.Status.{Status}
 use Rattle.shim_records.proofs.Stepping.{map_set}
-use Rattle.shim_records.proofs.Showing.{map_get}
-use Rattle.shim_records.proofs.WholeWay.{kept_order}
-use Rattle.shim_laws_table_events.specs.keeping.Tables.{TableView, HasProcessState, IsKept}
-use Rattle.shim_laws_table_events.specs.keeping.Moves.{MovesBy}
-use Rattle.shim_laws_table_events.specs.keeping.Arriving.{Arrives}
-use Rattle.shim_laws_table_events.specs.keeping.Acting.{event_at_stop, left_by, marked, TakesIn, Leaves}
+use Rattle.shim_records.proofs.Representing.{map_get}
+use Rattle.shim_records.proofs.FullPropagation.{kept_order}
+use Rattle.shim_laws_table_events.specs.keeping.Tables.{TableView, HasProcessState, HasTableInvariant}
+use Rattle.shim_laws_table_events.specs.keeping.Moves.{Performs}
+use Rattle.shim_laws_table_events.specs.keeping.Propagating.{PropagatesStop}
+use Rattle.shim_laws_table_events.specs.keeping.Acting.{event_at_stop, left_by, marked, TakesIn, Terminates}
 use Rattle.shim_laws_table_events.proofs.keeping.Acts.{lives_on}
 use Rattle.shim_laws_table_events.proofs.keeping.Moved.{from_map}
 use Rattle.shim_laws_table_events.proofs.keeping.OneLess.{found}
-use Rattle.shim_laws_table_events.proofs.keeping.Gone.{leaves_keep}
+use Rattle.shim_laws_table_events.proofs.keeping.Gone.{exit_preserves}
 use Rattle.shim_laws_table_events.proofs.keeping.Marks.{left_sort, rest_taken, changed_then}
 use Rattle.shim_process_table.specs.Stepping.{LivesAt, HasBecome}
-use Rattle.shim_process_table.specs.Acting.{ActsHere, status_by_throw, told_of, thrown_by}
+use Rattle.shim_process_table.specs.Acting.{ActsAlone, status_by_throw, throw_effects, thrown_by}
 use Rattle.shim_process_table.specs.declared.acting.Thrown.{Thrown}
 use Rattle.shim_process_table.specs.declared.acting.Thrown.TheVariants as thrown
-use Rattle.shim_process_table.specs.Touching.{TouchesRecords, ArrivalWakes}
+use Rattle.shim_process_table.specs.Touching.{ChangesOnlyRecords, StopReadies}
 use Rattle.shim_process_table.proofs.HereSteps.{read_set, has_become}
-use Rattle.shim_process_table.proofs.Readied.{touches_wake, arrival_wakes}
+use Rattle.shim_process_table.proofs.Readied.{touches_requeue, arrival_readies}
 use Rattle.shim_process_table.proofs.TouchingOwn.{records_touched}
 
 -- a record that says what came of its process has its pairs in order
@@ -74,15 +74,15 @@ module _ {S : Type 0} (o : Ops S) where
   inside_states states rs x stop here = slice_get_within states x here.1 here.2.state_is
 
   -- it is sound, and wasn't given too much
-  pub is_sound : (states : List S) (rs : List Record) (x f : ℕ) (l : S) → IsKept o (record { states = states; records = rs }) → HasProcessState (record { states = states; records = rs }) x f l lives → o.sound l
-  is_sound states rs x f l kept has = sound_at o (place o kept.0 l) kept.1 (Live l) kept.2.shows.sound.below (seen_live (at (place o kept.0 l) kept.1) l (kept.2.shows.agrees.shown x f l lives has))
+  pub is_sound : (states : List S) (rs : List Record) (x f : ℕ) (l : S) → HasTableInvariant o (record { states = states; records = rs }) → HasProcessState (record { states = states; records = rs }) x f l lives → o.sound l
+  is_sound states rs x f l kept has = sound_at o (place o kept.0 l) kept.1 (Live l) kept.2.represents.sound.below (seen_live (at (place o kept.0 l) kept.1) l (kept.2.represents.agrees.shown x f l lives has))
 
-  pub few_given : (states : List S) (rs : List Record) (x f : ℕ) (l : S) → IsKept o (record { states = states; records = rs }) → HasProcessState (record { states = states; records = rs }) x f l lives → length (o.given l) ≤ 18446744073709551615
+  pub few_given : (states : List S) (rs : List Record) (x f : ℕ) (l : S) → HasTableInvariant o (record { states = states; records = rs }) → HasProcessState (record { states = states; records = rs }) x f l lives → length (o.given l) ≤ 18446744073709551615
   few_given states rs x f l kept has =
       let w = from_map stands_of (slice_get rs x) (used f lives) (sym (map_get stands_of rs x) ∙ has.stands_so) in
       (kept.2.fit x f l lives w.0 has w.1).few
 
-  pub in_order : (v : TableView S) → IsKept o v → AreOrdered v.records
+  pub in_order : (v : TableView S) → HasTableInvariant o v → AreOrdered v.records
   in_order v kept = kept.2.ordered
 
   -- ---- what it does
@@ -107,7 +107,7 @@ module _ {S : Type 0} (o : Ops S) where
       (same, ap Some (sym h ∙ ap (thrown_by (thrown.Died d)) same))
 
   -- who lives on does so as it is then
-  pub throw_lives : (l s : S) (t : Thrown) (label : ℕ) → status_by_throw t ≡ lives → thrown_by t s ≡ throwing o l label (o.number l) → act_live o l (AtThrow label) ≡ Some (record { node = Live s; effects = told_of t })
+  pub throw_lives : (l s : S) (t : Thrown) (label : ℕ) → status_by_throw t ≡ lives → thrown_by t s ≡ throwing o l label (o.number l) → act_live o l (AtThrow label) ≡ Some (record { node = Live s; effects = throw_effects t })
   throw_lives l s (thrown.Caught name line) label e h = ap Some (sym h)
   throw_lives l s (thrown.Died d) label e h = absurd cc
   throw_lives l s thrown.Trapped label e h = ap Some (sym h)
@@ -126,7 +126,7 @@ module _ {S : Type 0} (o : Ops S) where
   -- ---- what was done
 
   -- the records still show a tree
-  pub still_kept : (n x : ℕ) (stop : StopView) (k : ProcessStatus) (effects : Effects) (before behind : TableView S) → ActsHere o n x stop k effects before behind → IsKept o before → IsKept o behind
+  pub still_kept : (n x : ℕ) (stop : StopView) (k : ProcessStatus) (effects : Effects) (before behind : TableView S) → ActsAlone o n x stop k effects before behind → HasTableInvariant o before → HasTableInvariant o behind
   still_kept n x stop k effects before behind did h = let w = did.moves h.0 (tree_of o h.1) h.2 in (h.0, w.0.root, w.2)
 
   module _ (law : LocalLaws o) (states : List S) (rs behind : List Record) (x : ℕ) (stop : StopView) (effects : Effects) (l : S) (here : LivesAt o (record { states = states; records = rs }) x stop) (read : l ≡ get_or states x l) where
@@ -137,18 +137,18 @@ module _ {S : Type 0} (o : Ops S) where
     stop_is = stood states rs x stop l here read
 
     -- it is there, as it is read then
-    pub lives_then : (s now : S) → now ≡ get_or (slice_set states x s) x now → Arrives o now 4294967295 x rs behind → (f : ℕ) × HasProcessState (record { states = slice_set states x s; records = behind }) x f now lives
+    pub lives_then : (s now : S) → now ≡ get_or (slice_set states x s) x now → PropagatesStop o now 4294967295 x rs behind → (f : ℕ) × HasProcessState (record { states = slice_set states x s; records = behind }) x f now lives
     lives_then s now read_then came =
         let is = read_set states x l s now has.state_is read_then in
-        let b = has_become o states rs behind x here.0 l s has (subst (λ z. Arrives o z 4294967295 x rs behind) is came) in
+        let b = has_become o states rs behind x here.0 l s has (subst (λ z. PropagatesStop o z 4294967295 x rs behind) is came) in
         (b.first, subst (λ z. HasProcessState (record { states = slice_set states x s; records = behind }) x b.first z lives) (sym is) b.mine)
 
     -- it lives on
-    pub lives_here : (n : ℕ) (s now : S) → now ≡ get_or (slice_set states x s) x now → Arrives o now 4294967295 x rs behind → ArrivalWakes o now n x rs behind → act_live o l stop ≡ Some (record { node = Live s; effects = effects })
-        → ActsHere o n x stop lives effects (record { states = states; records = rs }) (record { states = slice_set states x s; records = behind })
+    pub lives_here : (n : ℕ) (s now : S) → now ≡ get_or (slice_set states x s) x now → PropagatesStop o now 4294967295 x rs behind → StopReadies o now n x rs behind → act_live o l stop ≡ Some (record { node = Live s; effects = effects })
+        → ActsAlone o n x stop lives effects (record { states = states; records = rs }) (record { states = slice_set states x s; records = behind })
     lives_here n s now read_then came readies does =
-        let arrives = subst (λ z. Arrives o z 4294967295 x rs behind) (read_set states x l s now has.state_is read_then) came in
-        let b = has_become o states rs behind x here.0 l s has arrives in
+        let propagates = subst (λ z. PropagatesStop o z 4294967295 x rs behind) (read_set states x l s now has.state_is read_then) came in
+        let b = has_become o states rs behind x here.0 l s has propagates in
         record {
           first = here.0;
           process = l;
@@ -158,14 +158,14 @@ module _ {S : Type 0} (o : Ops S) where
           does = does;
           came = refl;
           becomes = b;
-          moves = subst (λ z. MovesBy o (event_at_stop z (o.path l)) (record { states = states; records = rs }) (record { states = slice_set states x s; records = behind })) stop_is
-              (lives_on o law states rs behind x here.0 l s effects has (ap (act_live o l) stop_is ∙ does) arrives);
-          wakes = arrival_wakes o n x b.first states rs behind s b.mine (subst (λ z. ArrivalWakes o z n x rs behind) (read_set states x l s now has.state_is read_then) readies);
+          moves = subst (λ z. Performs o (event_at_stop z (o.path l)) (record { states = states; records = rs }) (record { states = slice_set states x s; records = behind })) stop_is
+              (lives_on o law states rs behind x here.0 l s effects has (ap (act_live o l) stop_is ∙ does) propagates);
+          newly_ready = arrival_readies o n x b.first states rs behind s b.mine (subst (λ z. StopReadies o z n x rs behind) (read_set states x l s now has.state_is read_then) readies);
         }
 
-    module _ (n : ℕ) (k : Status) (gone : goes (left_by l k) ≡ false) (leaves : Leaves o l k 4294967295 x rs behind) (touches : TouchesRecords n x rs behind) where
+    module _ (n : ℕ) (k : Status) (gone : goes (left_by l k) ≡ false) (leaves : Terminates o l k 4294967295 x rs behind) (touches : ChangesOnlyRecords n x rs behind) where
       -- it ends or dies
-      pub leaves_here : act_live o l stop ≡ Some (record { node = left_by l k; effects = effects }) → ActsHere o (n + 1) x stop (process_status_of k) effects (record { states = states; records = rs }) (record { states = states; records = behind })
+      pub leaves_here : act_live o l stop ≡ Some (record { node = left_by l k; effects = effects }) → ActsAlone o (n + 1) x stop (process_status_of k) effects (record { states = states; records = rs }) (record { states = states; records = behind })
       leaves_here does = record {
         first = here.0;
         process = l;
@@ -175,7 +175,7 @@ module _ {S : Type 0} (o : Ops S) where
         does = does;
         came = left_sort l k gone;
         becomes = subst (λ z. HasBecome x (state (left_by l k)) z (record { states = states; records = rs }) (record { states = states; records = behind })) (left_sort l k gone) (changed_then o states rs behind l k x here.0 has leaves gone);
-        moves = subst (λ z. MovesBy o (event_at_stop z (o.path l)) (record { states = states; records = rs }) (record { states = states; records = behind })) stop_is
-            (leaves_keep o law states rs behind x here.0 l k effects has (ap (act_live o l) stop_is ∙ does) gone leaves);
-        wakes = touches_wake o n x (record { states = states; records = rs }) (record { states = states; records = behind }) (records_touched n x states rs behind touches);
+        moves = subst (λ z. Performs o (event_at_stop z (o.path l)) (record { states = states; records = rs }) (record { states = states; records = behind })) stop_is
+            (exit_preserves o law states rs behind x here.0 l k effects has (ap (act_live o l) stop_is ∙ does) gone leaves);
+        newly_ready = touches_requeue o n x (record { states = states; records = rs }) (record { states = states; records = behind }) (records_touched n x states rs behind touches);
       }

@@ -8,19 +8,19 @@ use Rattle.shim_local.specs.Process.{Ops}
 use Rattle.shim_semantics.specs.Nodes.{Death}
 use Rattle.shim_laws_table.specs.Seen.{ProcessStatus, lives, forks, ends, dies}
 use Rattle.shim_laws_table.specs.Agrees.{free, used}
-use Rattle.shim_laws_table.specs.Counts.{all_there}
+use Rattle.shim_laws_table.specs.Counts.{tally_ready}
 use Rattle.shim_records.specs.Pairs.{tally, stands_of, stands_by}
 use Rattle.shim_records.specs.declared.pair.Pair.{Pair}
 use Rattle.shim_records.specs.declared.record.Record.{Record}
 use Rattle.shim_records.specs.declared.record.Status.{Status}
 use Rattle.shim_records.specs.declared.record.Status.TheVariants as code
 use Rattle.shim_records.proofs.Walked.{last_or_before}
-use Rattle.shim_records.proofs.Showing.{map_get}
+use Rattle.shim_records.proofs.Representing.{map_get}
 use Rattle.shim_laws_table_events.specs.keeping.Tables.{TableView, HasProcessState, stands}
-use Rattle.shim_laws_table_events.specs.waking.Looks.{HasNoPairDue, HasNothingDue, unused, has_ended, has_died, is_open}
-use Rattle.shim_process_table.specs.Reading.{HasPair}
+use Rattle.shim_laws_table_events.specs.queues.RecordDecisions.{HasNoPairDue, HasNothingDue, unused, has_ended, has_died, is_open}
+use Rattle.shim_process_table.specs.Lookups.{HasPair}
 use Rattle.shim_process_table.specs.Closing.{CanClose}
-use Rattle.shim_process_table.specs.Due.{AllThere, IsDoomed, DoomedAmong, DueIs}
+use Rattle.shim_process_table.specs.Due.{IsReadyToMeet, IsDoomed, DoomedAmong, DueIs}
 use Rattle.shim_process_table.specs.declared.due.Due.{Due}
 use Rattle.shim_process_table.proofs.Parents.{there_is}
 use Rattle.shim_process_table.proofs.ReadyChildren.{who_is_ready, idle_pair}
@@ -61,13 +61,13 @@ module _ {S : Type 0} (o : Ops S) (v : TableView S) (i : ℕ) where
       fork : HasProcessState v i r.first l (forks n)
       fork = its_process (forks n) (code.Forked n) forked refl
 
-      pub is_done : r.going ≡ 0 → CanClose v i
+      pub is_done : r.running_children ≡ 0 → CanClose v i
       is_done e = record { first = r.first; many = n; process = l; said = r; forked = fork; there = there; none_goes = e }
 
       has_pair : (q : ℕ) (y : Pair) → slice_get r.pairs.items q ≡ Some y → HasPair v i r.first n l q y
       has_pair q y e = record { forked = fork; said = r; there = there; pair = e }
 
-      pub are_there : (q : ℕ) (y : Pair) → slice_get r.pairs.items q ≡ Some y → (o.path l ≡ y.chan.channel.home) × (all_there (tally y) ≡ true) → AllThere o v i q
+      pub are_there : (q : ℕ) (y : Pair) → slice_get r.pairs.items q ≡ Some y → (o.path l ≡ y.chan.channel.home) × (tally_ready (tally y) ≡ true) → IsReadyToMeet o v i q
       are_there q y e met = record { first = r.first; many = n; process = l; pair_is = y; has = has_pair q y e; declared = met.0; all = met.1 }
 
       pub is_doomed : (q j : ℕ) (y : Pair) → slice_get r.pairs.items q ≡ Some y → DoomedAmong o v.states v.records l r.first n y (Some j) → IsDoomed o v i q j
@@ -90,7 +90,7 @@ module _ {S : Type 0} (o : Ops S) (v : TableView S) (i : ℕ) where
             ready = w.4;
           }
 
-      pub nothing_due : r.going ≢ 0 → ((q : ℕ) (y : Pair) → slice_get r.pairs.items q ≡ Some y → HasNoPairDue o v l r.first n y) → HasNothingDue o v i
+      pub nothing_due : r.running_children ≢ 0 → ((q : ℕ) (y : Pair) → slice_get r.pairs.items q ≡ Some y → HasNoPairDue o v l r.first n y) → HasNothingDue o v i
       nothing_due some idle = is_open r.first n l r fork there some idle
 
 -- ---- the pairs before a place
@@ -100,14 +100,14 @@ module _ {S : Type 0} (o : Ops S) (v : TableView S) (l : S) (g n : ℕ) (ps : Li
   abbrev pub IdleBefore : ℕ → Type 0
   IdleBefore i = (q : ℕ) (y : Pair) → q < i → slice_get ps q ≡ Some y → HasNoPairDue o v l g n y
 
-  pub idle_next : (i : ℕ) (p : Pair) → IdleBefore i → slice_get ps i ≡ Some p → (o.path l ≡ p.chan.channel.home → all_there (tally p) ≡ false) → DoomedAmong o v.states v.records l g n p None → IdleBefore (i + 1)
+  pub idle_next : (i : ℕ) (p : Pair) → IdleBefore i → slice_get ps i ≡ Some p → (o.path l ≡ p.chan.channel.home → tally_ready (tally p) ≡ false) → DoomedAmong o v.states v.records l g n p None → IdleBefore (i + 1)
   idle_next i p before at meets dooms q y less e = elim (last_or_before q i less) [
     | inl w ↦ before q y w e
     | inr w ↦ let same = some_same p y (sym at ∙ (ap (slice_get ps) (sym w) ∙ e)) in subst (HasNoPairDue o v l g n) same (idle_pair o v l g n p meets dooms)
   ]
 
 -- behind all pairs nothing can happen
-pub all_idle : {S : Type 0} (o : Ops S) (v : TableView S) (i : ℕ) (l : S) (r : Record) → slice_get v.states i ≡ Some l → slice_get v.records i ≡ Some r → (n : ℕ) → r.status ≡ code.Forked n → r.going ≢ 0
+pub all_idle : {S : Type 0} (o : Ops S) (v : TableView S) (i : ℕ) (l : S) (r : Record) → slice_get v.states i ≡ Some l → slice_get v.records i ≡ Some r → (n : ℕ) → r.status ≡ code.Forked n → r.running_children ≢ 0
     → (past : ℕ) → length r.pairs.items ≤ past → IdleBefore o v l r.first n r.pairs.items past → HasNothingDue o v i
 all_idle o v i l r state there n forked some past all idle =
     nothing_due o v i l r state there n forked some (λ q y e. idle q y (let w = slice_get_within r.pairs.items q y e in omega (arith, w, all)) e)

@@ -14,12 +14,12 @@ use Rattle.shim_records.specs.Pairs.{stands_of, stands_by}
 use Rattle.shim_records.specs.declared.record.Record.{Record}
 use Rattle.shim_records.specs.declared.record.Status.{Status}
 use Rattle.shim_records.specs.declared.record.Status.TheVariants as code
-use Rattle.shim_records.proofs.Showing.{map_get}
+use Rattle.shim_records.proofs.Representing.{map_get}
 use Rattle.shim_laws_table_events.specs.keeping.Tables.{TableView, HasProcessState}
 use Rattle.shim_laws_table_events.specs.meetings.Sharers.{ListsSharers}
 use Rattle.shim_laws_table_events.specs.meetings.Descents.{children, numbers_of_length, Descends, at_end, passes, finds}
 use Rattle.shim_laws_table_events.proofs.meetings.Descents.{descents_find}
-use Rattle.shim_process_table.specs.Reading.{IsInUse, AreInUse}
+use Rattle.shim_process_table.specs.Lookups.{IsInUse, AreInUse}
 use Rattle.shim_process_table.specs.Descent.{numbers_of_block, ahead_of, children_by, IsSharer, DescendsOn}
 use Rattle.shim_process_table.specs.declared.descent.Block.{Block}
 

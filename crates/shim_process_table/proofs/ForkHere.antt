@@ -10,13 +10,13 @@ use Rattle.shim_laws_table.specs.Seen.{lives}
 use Rattle.shim_laws_table.proofs.Hanging.{tree_of}
 use Rattle.shim_records.specs.declared.record.Record.{Record}
 use Rattle.shim_records.proofs.Stepping.{set_elsewhere}
-use Rattle.shim_laws_table_events.specs.keeping.Tables.{TableView, HasProcessState, IsKept}
+use Rattle.shim_laws_table_events.specs.keeping.Tables.{TableView, HasProcessState, HasTableInvariant}
 use Rattle.shim_records.specs.Blocks.{with_one, with_block}
 use Rattle.shim_laws_table_events.specs.forks.Forking.{ForksAt}
-use Rattle.shim_laws_table_events.proofs.forks.Forks.{forks_move, forks_say}
-use Rattle.shim_laws_table_events.proofs.forks.Traps.{traps_move}
+use Rattle.shim_laws_table_events.proofs.forks.Forks.{fork_preserves, forks_say}
+use Rattle.shim_laws_table_events.proofs.forks.Traps.{fork_trap_preserves}
 use Rattle.shim_process_table.specs.Forking.{HasForkedHere, HasTrappedHere}
-use Rattle.shim_process_table.specs.Touching.{TouchesForking}
+use Rattle.shim_process_table.specs.Touching.{ChangesOnlyForking}
 use Rattle.shim_process_table.proofs.Touching.{touches_none, touches_above}
 
 -- a block that is put makes a list longer by its own length at most
@@ -32,10 +32,10 @@ block_long g (x ∷ xs) ys = let w = block_long (g + 1) xs (with_one g x ys) in 
 module _ {S : Type 0} (o : Ops S) (law : LocalLaws o) (before behind : TableView S) (x f : ℕ) (l p : S) (has : HasProcessState before x f l lives) (stop : o.stop l ≡ AtFork) where
   module _ (g n : ℕ) (ks : List S) (parts : o.fork l ≡ Parted p ks) (put : ForksAt o x g p ks before behind) where
     -- the records still show a tree
-    pub still_kept : IsKept o before → IsKept o behind
-    still_kept kept = let m = forks_move o law x g f l p ks before behind has stop parts put kept.0 (tree_of o kept.1) kept.2 in (kept.0, m.0.root, m.2)
+    pub still_kept : HasTableInvariant o before → HasTableInvariant o behind
+    still_kept kept = let m = fork_preserves o law x g f l p ks before behind has stop parts put kept.0 (tree_of o kept.1) kept.2 in (kept.0, m.0.root, m.2)
 
-    pub forked_here : IsKept o before → length ks ≡ n → g + length ks ≤ 4294967295 → (m : ℕ) → TouchesForking m x g (length ks) before behind → HasForkedHere o m x g n before behind
+    pub forked_here : HasTableInvariant o before → length ks ≡ n → g + length ks ≤ 4294967295 → (m : ℕ) → ChangesOnlyForking m x g (length ks) before behind → HasForkedHere o m x g n before behind
     forked_here kept many few m touches =
         let says = forks_say o law x g f l p ks before behind has stop parts put kept.0 (tree_of o kept.1) kept.2 in
         record {
@@ -50,14 +50,14 @@ module _ {S : Type 0} (o : Ops S) (law : LocalLaws o) (before behind : TableView
           fits = omega (arith, many, few);
           unused = λ b d t k less h. put.unused b d t k (omega (arith, less, many)) h;
           becomes = says;
-          moves = forks_move o law x g f l p ks before behind has stop parts put;
-          touches = subst (λ z. TouchesForking m x g z before behind) many touches;
+          moves = fork_preserves o law x g f l p ks before behind has stop parts put;
+          touches = subst (λ z. ChangesOnlyForking m x g z before behind) many touches;
         }
 
     -- there are as many records more as there are children, at most
-    pub few_more : IsKept o before → length behind.records ≤ length before.records + length ks
+    pub few_more : HasTableInvariant o before → length behind.records ≤ length before.records + length ks
     few_more kept =
-        let m = forks_move o law x g f l p ks before behind has stop parts put kept.0 (tree_of o kept.1) kept.2 in
+        let m = fork_preserves o law x g f l p ks before behind has stop parts put kept.0 (tree_of o kept.1) kept.2 in
         let was = kept.2.beside in
         let is = m.2.beside in
         let long = ap length put.states in
@@ -78,12 +78,12 @@ module _ {S : Type 0} (o : Ops S) (law : LocalLaws o) (before : TableView S) (x 
     stood = stop;
     trapped = traps;
     behind_is = refl;
-    moves = traps_move o law x f l p before has stop traps;
+    moves = fork_trap_preserves o law x f l p before has stop traps;
     touches = touches_above 0 x before trapped (touches_none 0 x before.records before.records refl) (λ i far. set_elsewhere before.states x i p far);
   }
 
-  pub trapped_kept : IsKept o before → IsKept o trapped
-  trapped_kept kept = let m = traps_move o law x f l p before has stop traps kept.0 (tree_of o kept.1) kept.2 in (kept.0, m.0.root, m.2)
+  pub trapped_kept : HasTableInvariant o before → HasTableInvariant o trapped
+  trapped_kept kept = let m = fork_trap_preserves o law x f l p before has stop traps kept.0 (tree_of o kept.1) kept.2 in (kept.0, m.0.root, m.2)
 
 -- it is the state that was copied
 pub is_copied : {S : Type 0} (o : Ops S) (i f : ℕ) (states : List S) (rs : List Record) (l copy : S) → HasProcessState (record { states = states; records = rs }) i f l lives → copy ≡ get_or states i copy → l ≡ copy

@@ -12,7 +12,7 @@ use Rattle.shim_records.specs.Fresh.{channels, FreshPairs}
 use Rattle.shim_records.specs.Blocks.{with_block}
 use Rattle.shim_records.specs.declared.pair.Pair.{Pair}
 use Rattle.shim_records.specs.declared.record.Record.{Record}
-use Rattle.shim_records.proofs.Showing.{map_get}
+use Rattle.shim_records.proofs.Representing.{map_get}
 use Rattle.shim_laws_table_events.specs.forks.Forking.{AreOfChildren, IsOfFork, ready_chans, EachUpdatedAbove, ForksAt}
 use Rattle.shim_process_table.specs.Forking.{IsFreeBlock}
 
@@ -29,13 +29,13 @@ none_used g n states rs block b d t k less h =
     let r = from_map stands_of (slice_get rs (g + b)) (used d k) (sym (map_get stands_of rs (g + b)) ∙ h.stands_so) in
     free_used d k (sym (block.free_ones b r.0 less r.1) ∙ r.2)
 
-pub its_record : {S : Type 0} (o : Ops S) (g n : ℕ) (p : S) (ks : List S) (was is : Record) (pairs : List Pair) → length ks ≡ n → stands_of is ≡ used g (forks n) → is.parent ≡ was.parent → is.path ≡ was.path → is.going ≡ n → is.pairs.items ≡ pairs
+pub its_record : {S : Type 0} (o : Ops S) (g n : ℕ) (p : S) (ks : List S) (was is : Record) (pairs : List Pair) → length ks ≡ n → stands_of is ≡ used g (forks n) → is.parent ≡ was.parent → is.path ≡ was.path → is.running_children ≡ n → is.pairs.items ≡ pairs
     → FreshPairs o p ks pairs → IsOfFork o g p ks was is
-its_record o g n p ks was is pairs many forked parent path going same fresh = record {
+its_record o g n p ks was is pairs many forked parent path running_children same fresh = record {
   forked = forked ∙ ap (λ z. used g (forks z)) (sym many);
   parent = parent;
   path = path;
-  going = going ∙ sym many;
+  running_children = running_children ∙ sym many;
   pairs = subst (FreshPairs o p ks) (sym same) fresh;
 }
 

@@ -10,13 +10,13 @@ use Rattle.shim_local.specs.Process.{Ops, AtNext}
 use Rattle.shim_local.specs.Laws.{LocalLaws}
 use Rattle.shim_semantics.specs.Nodes.{is_next}
 use Rattle.shim_laws_schedules.proofs.Unshared.{stands_at}
-use Rattle.shim_laws_table.specs.Counts.{Tally, live_reading}
+use Rattle.shim_laws_table.specs.Counts.{Tally, live_child_status}
 use Rattle.shim_laws_table.specs.Updating.{UpdatedAbove, at_top, no_counts, stays}
-use Rattle.shim_records.specs.Pairs.{reading_of, up_in, counts_in}
+use Rattle.shim_records.specs.Pairs.{child_status_of, up_in, counts_in}
 use Rattle.shim_records.specs.Ways.{IsUpdatedAbove}
-use Rattle.shim_records.specs.declared.pair.Reading.{Reading}
+use Rattle.shim_records.specs.declared.pair.ChildStatus.{ChildStatus}
 use Rattle.shim_records.specs.declared.record.Record.{Record}
-use Rattle.shim_laws_table_events.specs.keeping.Tables.{TableView, IsKept}
+use Rattle.shim_laws_table_events.specs.keeping.Tables.{TableView, HasTableInvariant}
 use Rattle.shim_laws_table_events.specs.meetings.Receiving.{no_other, other, MovesOn}
 use Rattle.shim_laws_table_events.specs.meetings.Meetings.{ReceivesOne, received, ReceiveAll, none_left, one_more}
 use Rattle.shim_laws_table_events.proofs.meetings.Meets.{one_keeps}
@@ -46,15 +46,15 @@ same_both c d = on (same_channel c d) refl (same_channel d c) refl
     on false e false f = e ∙ sym f
 
 -- the same is read of it as before, so that no counts have to move
-as_read : (c : Channel) (n x : ℕ) (r : Reading) (rs : List Record) → IsUpdatedAbove c n x r r rs rs
+as_read : (c : Channel) (n x : ℕ) (r : ChildStatus) (rs : List Record) → IsUpdatedAbove c n x r r rs rs
 as_read c n x r rs = (way (up_in rs x) refl, record { rest = refl; elsewhere = λ d other i. refl; labels = λ d i. refl })
   where
-    counted : (j : ℕ) → up_in rs x ≡ Some j → (y : Option Tally) → counts_in c rs j ≡ y → UpdatedAbove (up_in rs) 4294967295 n (counts_in c rs) x (reading_of r) (reading_of r) (counts_in c rs)
-    counted j e None none = no_counts n (counts_in c rs) x j (reading_of r) (reading_of r) e none
-    counted j e (Some y) is = stays n (counts_in c rs) (counts_in c rs) x j (reading_of r) (reading_of r) y y e (record { old = is; new = is; moved = λ can. record { live = refl; not_ready = refl; dead = refl }; others = λ i far. refl }) refl
+    counted : (j : ℕ) → up_in rs x ≡ Some j → (y : Option Tally) → counts_in c rs j ≡ y → UpdatedAbove (up_in rs) 4294967295 n (counts_in c rs) x (child_status_of r) (child_status_of r) (counts_in c rs)
+    counted j e None none = no_counts n (counts_in c rs) x j (child_status_of r) (child_status_of r) e none
+    counted j e (Some y) is = stays n (counts_in c rs) (counts_in c rs) x j (child_status_of r) (child_status_of r) y y e (record { old = is; new = is; moved = λ can. record { live = refl; not_ready = refl; dead = refl }; others = λ i far. refl }) refl
 
-    way : (u : Option ℕ) → up_in rs x ≡ u → UpdatedAbove (up_in rs) 4294967295 n (counts_in c rs) x (reading_of r) (reading_of r) (counts_in c rs)
-    way None e = at_top n (counts_in c rs) x (reading_of r) (reading_of r) e
+    way : (u : Option ℕ) → up_in rs x ≡ u → UpdatedAbove (up_in rs) 4294967295 n (counts_in c rs) x (child_status_of r) (child_status_of r) (counts_in c rs)
+    way None e = at_top n (counts_in c rs) x (child_status_of r) (child_status_of r) e
     way (Some j) e = counted j e (counts_in c rs j) refl
 
 module _ {S : Type 0} (o : Ops S) (s : S) (c : Channel) (n x : ℕ) where
@@ -65,23 +65,23 @@ module _ {S : Type 0} (o : Ops S) (s : S) (c : Channel) (n x : ℕ) where
     was = ready;
     is = ready;
     stood = refl;
-    stands = ap live_reading (same ∙ (same_both c d.channel ∙ sym (ap (λ z. is_next z c) stop)));
+    stands = ap live_child_status (same ∙ (same_both c d.channel ∙ sym (ap (λ z. is_next z c) stop)));
     left = as_read c n x ready rs;
     came = no_other (λ e far. ap (λ z. is_next z e) stop ∙ (ap (λ z. same_channel z e) (sym (same_channel_is c d.channel (sym same))) ∙ far)) refl;
   }
     where
-      ready : Reading
-      ready = record { joining = true; readiness = true; failing = false }
+      ready : ChildStatus
+      ready = record { alive = true; ready_on = true; dead_on = false }
 
   -- at another one
-  pub stands_elsewhere : (d : NamedChannel) (was is : Reading) (before between behind : List Record) → o.stop s ≡ AtNext d → false ≡ same_channel c d.channel → LeavesChannel c n x before between
-      → reading_of was ≡ live_reading false → reading_of is ≡ live_reading true → IsUpdatedAbove d.channel n x was is between behind → MovesOn o s c n x before behind
+  pub stands_elsewhere : (d : NamedChannel) (was is : ChildStatus) (before between behind : List Record) → o.stop s ≡ AtNext d → false ≡ same_channel c d.channel → LeavesChannel c n x before between
+      → child_status_of was ≡ live_child_status false → child_status_of is ≡ live_child_status true → IsUpdatedAbove d.channel n x was is between behind → MovesOn o s c n x before behind
   stands_elsewhere d was is before between behind stop far off u v way = record {
     between = between;
     was = off.0;
     is = off.1;
     stood = off.2;
-    stands = off.3 ∙ ap live_reading (far ∙ (same_both c d.channel ∙ sym (ap (λ z. is_next z c) stop)));
+    stands = off.3 ∙ ap live_child_status (far ∙ (same_both c d.channel ∙ sym (ap (λ z. is_next z c) stop)));
     left = off.4;
     came = other d was is stop (sym far) u v way;
   }
@@ -93,7 +93,7 @@ module _ {S : Type 0} (o : Ops S) (s : S) (c : Channel) (n x : ℕ) where
     was = off.0;
     is = off.1;
     stood = off.2;
-    stands = off.3 ∙ ap live_reading (sym (none c));
+    stands = off.3 ∙ ap live_child_status (sym (none c));
     left = off.4;
     came = no_other (λ e far. none e) refl;
   }
@@ -128,7 +128,7 @@ module _ {S : Type 0} (o : Ops S) (c : Channel) where
         received before.0 before.1 before.2 before.3 before.4 before.5 (ap (slice_set states x) (is_last ∙ ap (λ z. o.receive z v) same))
         (subst (λ z. MovesOn o (o.receive before.1 v) z 4294967295 x rs behind) (sym before.5) (subst (λ z. MovesOn o z c 4294967295 x rs behind) now_is moves))
 
-    pub still_kept : IsKept o (record { states = states; records = rs }) → IsKept o (record { states = slice_set states x last; records = behind })
+    pub still_kept : HasTableInvariant o (record { states = states; records = rs }) → HasTableInvariant o (record { states = slice_set states x last; records = behind })
     still_kept h = let w = one_keeps o law c v h.0 x (record { states = states; records = rs }) (record { states = slice_set states x last; records = behind }) h.1 receives_one h.2 in (h.0, w.0, w.1)
 
   -- ---- all of them

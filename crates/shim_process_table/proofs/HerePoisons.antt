@@ -12,22 +12,22 @@ use Rattle.shim_laws_table.proofs.OneChange.{one_state}
 use Rattle.shim_records.specs.Pairs.{stands_of, AreOrdered}
 use Rattle.shim_records.specs.Killed.{living, as_dead, IsKilled}
 use Rattle.shim_records.specs.Died.{IsTaken}
-use Rattle.shim_records.specs.Leaving.{HasLeft}
+use Rattle.shim_records.specs.CountingOff.{HasCountedOff}
 use Rattle.shim_records.specs.declared.record.Record.{Record}
-use Rattle.shim_records.proofs.ManyWays.{rest_same}
-use Rattle.shim_records.proofs.Showing.{map_get}
-use Rattle.shim_records.proofs.WholeWay.{kept_order}
+use Rattle.shim_records.proofs.ManyPropagations.{rest_same}
+use Rattle.shim_records.proofs.Representing.{map_get}
+use Rattle.shim_records.proofs.FullPropagation.{kept_order}
 use Rattle.shim_semantics.specs.Trees.{Poison}
-use Rattle.shim_laws_table_events.specs.keeping.Moves.{MovesBy}
-use Rattle.shim_laws_table_events.specs.keeping.Tables.{TableView, HasProcessState, IsKept}
+use Rattle.shim_laws_table_events.specs.keeping.Moves.{Performs}
+use Rattle.shim_laws_table_events.specs.keeping.Tables.{TableView, HasProcessState, HasTableInvariant}
 use Rattle.shim_laws_table_events.specs.meetings.Dying.{dead_record, DiesAt}
 use Rattle.shim_laws_table_events.specs.meetings.Sharers.{ListsSharers}
 use Rattle.shim_laws_table_events.specs.meetings.Poisons.{DiesOne, was_killed, AllDie, none_left, one_more, AllDied}
 use Rattle.shim_laws_table_events.proofs.keeping.Moved.{from_map}
 use Rattle.shim_laws_table_events.proofs.meetings.Dies.{set_order}
-use Rattle.shim_laws_table_events.proofs.meetings.Poisoned.{one_keeps, poisons_move}
+use Rattle.shim_laws_table_events.proofs.meetings.Poisoned.{one_keeps, poison_preserves}
 use Rattle.shim_process_table.specs.Stepping.{IsLive}
-use Rattle.shim_process_table.specs.Poisoning.{IsKilledBy, CanPoison, PoisonsHere}
+use Rattle.shim_process_table.specs.Poisoning.{IsKilledBy, CanPoison, PoisonsAt}
 use Rattle.shim_process_table.proofs.HereMeets.{drop_first, none_left_over}
 
 module _ {S : Type 0} (o : Ops S) (label : ℕ) where
@@ -53,20 +53,20 @@ module _ {S : Type 0} (o : Ops S) (label : ℕ) where
     same : l ≡ before.1
     same = some_same l before.1 (sym (slice_get_read states (length states) x l refl (slice_get_within states x before.1 before.2.state_is) read_state) ∙ before.2.state_is)
 
-    pub dead_ordered : IsKept o (record { states = states; records = rs }) → AreOrdered (slice_set rs x (dead_record r label))
+    pub dead_ordered : HasTableInvariant o (record { states = states; records = rs }) → AreOrdered (slice_set rs x (dead_record r label))
     dead_ordered h = set_order rs x r (dead_record r label) there refl h.2.ordered
 
-    pub few_given : IsKept o (record { states = states; records = rs }) → length (o.given l) ≤ 18446744073709551615
+    pub few_given : HasTableInvariant o (record { states = states; records = rs }) → length (o.given l) ≤ 18446744073709551615
     few_given h = subst (λ z. length (o.given z) ≤ 18446744073709551615) (sym same) (h.2.fit x before.0 before.1 lives r its there).few
 
-    pub killed_ordered : (counted : List Record) → IsKept o (record { states = states; records = rs }) → IsKilled o l 4294967295 x (slice_set rs x (dead_record r label)) counted → AreOrdered counted
+    pub killed_ordered : (counted : List Record) → HasTableInvariant o (record { states = states; records = rs }) → IsKilled o l 4294967295 x (slice_set rs x (dead_record r label)) counted → AreOrdered counted
     killed_ordered counted h killed = kept_order (slice_set rs x (dead_record r label)) counted (rest_same (living o l) (as_dead o l) 4294967295 x killed.updated) (dead_ordered h)
 
-    module _ (counted labelled behind : List Record) (killed : IsKilled o l 4294967295 x (slice_set rs x (dead_record r label)) counted) (taken : IsTaken o l label 4294967295 x counted labelled) (left : HasLeft x labelled behind) where
+    module _ (counted labelled behind : List Record) (killed : IsKilled o l 4294967295 x (slice_set rs x (dead_record r label)) counted) (taken : IsTaken o l label 4294967295 x counted labelled) (left : HasCountedOff x labelled behind) where
       pub dies_one : DiesOne o label x (record { states = states; records = rs }) (record { states = states; records = behind })
       dies_one = was_killed before.0 before.1 its before.3 refl (subst (λ z. DiesAt o z label 4294967295 x rs behind) same (record { stood = r; there = there; counted = counted; labelled = labelled; killed = killed; taken = taken; left = left }))
 
-      pub still_kept : LocalLaws o → IsKept o (record { states = states; records = rs }) → IsKept o (record { states = states; records = behind })
+      pub still_kept : LocalLaws o → HasTableInvariant o (record { states = states; records = rs }) → HasTableInvariant o (record { states = states; records = behind })
       still_kept law h = let w = one_keeps o label x (record { states = states; records = rs }) (record { states = states; records = behind }) law h.0 h.1 h.2 dies_one in (h.0, w.0, w.1)
 
   -- ---- all of them
@@ -83,10 +83,10 @@ module _ {S : Type 0} (o : Ops S) (label : ℕ) where
 
   -- ---- the child's poison
 
-  pub poisons_here : LocalLaws o → (c : Channel) (i : ℕ) (numbers : List ℕ) (before behind : TableView S) → CanPoison o c label i before → ListsSharers o before c i numbers → AllDie o label numbers before behind → PoisonsHere o c i before behind
+  pub poisons_here : LocalLaws o → (c : Channel) (i : ℕ) (numbers : List ℕ) (before behind : TableView S) → CanPoison o c label i before → ListsSharers o before c i numbers → AllDie o label numbers before behind → PoisonsAt o c i before behind
   poisons_here law c i numbers before behind can lists all f k x has rp t kept =
       let same : can.child ≡ k = one_state before.states (map stands_of before.records) i can.is_child.own_first f can.child k can.is_child.status x can.is_child.has has in
-      subst (λ z. MovesBy o (Poison (o.path z) c) before behind) same ((poisons_move o law before behind c i label can.child can.parent numbers can.is_child can.is_label can.enabled lists all).0) rp t kept
+      subst (λ z. Performs o (Poison (o.path z) c) before behind) same ((poison_preserves o law before behind c i label can.child can.parent numbers can.is_child can.is_label can.enabled lists all).0) rp t kept
 
   pub died_here : LocalLaws o → (c : Channel) (i : ℕ) (numbers : List ℕ) (before behind : TableView S) → CanPoison o c label i before → ListsSharers o before c i numbers → AllDie o label numbers before behind → AllDied o c label i before behind
-  died_here law c i numbers before behind can lists all = (poisons_move o law before behind c i label can.child can.parent numbers can.is_child can.is_label can.enabled lists all).1
+  died_here law c i numbers before behind can lists all = (poison_preserves o law before behind c i label can.child can.parent numbers can.is_child can.is_label can.enabled lists all).1

@@ -17,15 +17,15 @@ use Rattle.shim_records.specs.declared.record.Record.{Record}
 use Rattle.shim_records.specs.declared.record.Status.{Status}
 use Rattle.shim_records.specs.declared.record.Status.TheVariants as code
 use Rattle.shim_records.proofs.Stepping.{set_there, set_elsewhere}
-use Rattle.shim_records.proofs.Showing.{map_get}
+use Rattle.shim_records.proofs.Representing.{map_get}
 use Rattle.shim_records.proofs.ReadOff.{same_stands}
-use Rattle.shim_laws_table_events.specs.keeping.Tables.{TableView, HasProcessState, IsKept}
-use Rattle.shim_laws_table_events.specs.keeping.Moves.{AdvancesBy}
-use Rattle.shim_laws_table_events.specs.keeping.Arriving.{Arrives, nowhere, there}
+use Rattle.shim_laws_table_events.specs.keeping.Tables.{TableView, HasProcessState, HasTableInvariant}
+use Rattle.shim_laws_table_events.specs.keeping.Moves.{PerformsQuiet}
+use Rattle.shim_laws_table_events.specs.keeping.Propagating.{PropagatesStop, nowhere, there}
 use Rattle.shim_laws_table_events.proofs.keeping.Steps.{advanced}
-use Rattle.shim_process_table.specs.Touching.{WakesAbove, ArrivalWakes}
-use Rattle.shim_process_table.proofs.Readied.{arrival_wakes}
-use Rattle.shim_process_table.specs.Stepping.{HasBecome, LivesAt, IsLive, IsBeforeQuiet, StepsHere, QuietlyReaches, is_live}
+use Rattle.shim_process_table.specs.Touching.{ReadiesAbove, StopReadies}
+use Rattle.shim_process_table.proofs.Readied.{arrival_readies}
+use Rattle.shim_process_table.specs.Stepping.{HasBecome, LivesAt, IsLive, IsBeforeQuiet, StepsAt, QuietlyReaches, is_live}
 
 -- one value behind none
 pub one_pushed : {A : Type 0} (new old : List A) (x : A) → new ≡ old ++ x ∷ [] → old ≡ [] → new ≡ x ∷ []
@@ -80,14 +80,14 @@ module _ {S : Type 0} (o : Ops S) where
   no_longer_quiet v i f l has other g s h e = other (ap o.stop (some_same l s (sym has.state_is ∙ h.state_is)) ∙ e)
 
   -- beside the counts the records say what they did
-  pub rest_arrived : (s : S) (n x : ℕ) (before behind : List Record) → Arrives o s n x before behind → map rest_of behind ≡ map rest_of before
+  pub rest_arrived : (s : S) (n x : ℕ) (before behind : List Record) → PropagatesStop o s n x before behind → map rest_of behind ≡ map rest_of before
   rest_arrived s n x before behind (nowhere e same) = ap (map rest_of) same
   rest_arrived s n x before behind (there d was is e u v updated) = updated.1.rest
 
-  module _ (states : List S) (rs behind : List Record) (x f : ℕ) (l s : S) (has : HasProcessState (record { states = states; records = rs }) x f l lives) (arrives : Arrives o s 4294967295 x rs behind) where
+  module _ (states : List S) (rs behind : List Record) (x f : ℕ) (l s : S) (has : HasProcessState (record { states = states; records = rs }) x f l lives) (propagates : PropagatesStop o s 4294967295 x rs behind) where
     -- another state stands in the record of a live process
     pub has_become : HasBecome x s lives (record { states = states; records = rs }) (record { states = slice_set states x s; records = behind })
-    has_become = subst (λ z. HasChanged states (slice_set states x s) (map stands_of rs) z x s lives) (sym (same_stands rs behind (rest_arrived s 4294967295 x rs behind arrives))) (record {
+    has_become = subst (λ z. HasChanged states (slice_set states x s) (map stands_of rs) z x s lives) (sym (same_stands rs behind (rest_arrived s 4294967295 x rs behind propagates))) (record {
       first = f;
       mine = record { state_is = set_there states x l s has.state_is; stands_so = has.stands_so };
       others = λ j d t k n h. record { state_is = set_elsewhere states x j s n ∙ h.state_is; stands_so = h.stands_so };
@@ -95,7 +95,7 @@ module _ {S : Type 0} (o : Ops S) where
     })
 
   module _ (law : LocalLaws o) (states : List S) (rs behind : List Record) (x n : ℕ) (l last now : S) (before : IsBeforeQuiet o x (record { states = states; records = rs }) true) (read : l ≡ get_or states x l) (taken : QuietSteps o n l last)
-      (read_then : now ≡ get_or (slice_set states x last) x now) (came : Arrives o now 4294967295 x rs behind) where
+      (read_then : now ≡ get_or (slice_set states x last) x now) (came : PropagatesStop o now 4294967295 x rs behind) where
     is : slice_get states x ≡ Some l
     is = slice_get_read states (length states) x l refl (slice_get_within states x before.1 before.2.state_is) read
 
@@ -105,25 +105,25 @@ module _ {S : Type 0} (o : Ops S) where
     stop : o.stop l ≡ AtQuiet
     stop = ap o.stop (some_same l before.1 (sym is ∙ before.2.state_is)) ∙ before.3
 
-    pub arrives : Arrives o last 4294967295 x rs behind
-    arrives = subst (λ z. Arrives o z 4294967295 x rs behind) (read_set states x l last now is read_then) came
+    pub propagates : PropagatesStop o last 4294967295 x rs behind
+    propagates = subst (λ z. PropagatesStop o z 4294967295 x rs behind) (read_set states x l last now is read_then) came
 
-    advances : AdvancesBy o (o.path l) n (record { states = states; records = rs }) (record { states = slice_set states x last; records = behind })
-    advances rp t kept = advanced o law rp t states rs behind n x before.0 l last kept its stop taken arrives
+    advances : PerformsQuiet o (o.path l) n (record { states = states; records = rs }) (record { states = slice_set states x last; records = behind })
+    advances rp t kept = advanced o law rp t states rs behind n x before.0 l last kept its stop taken propagates
 
     -- it is there, as it is read then
     pub stands_then : (f : ℕ) × HasProcessState (record { states = slice_set states x last; records = behind }) x f now lives
     stands_then =
-        let b = has_become states rs behind x before.0 l last its arrives in
+        let b = has_become states rs behind x before.0 l last its propagates in
         (b.first, subst (λ z. HasProcessState (record { states = slice_set states x last; records = behind }) x b.first z lives) (sym (read_set states x l last now is read_then)) b.mine)
 
     -- and no other record tells of more, but so many forks above
-    pub wakes_here : (m : ℕ) → ArrivalWakes o now m x rs behind → WakesAbove o m x (record { states = states; records = rs }) (record { states = slice_set states x last; records = behind })
-    wakes_here m readies =
-        let b = has_become states rs behind x before.0 l last its arrives in
-        arrival_wakes o m x b.first states rs behind last b.mine (subst (λ z. ArrivalWakes o z m x rs behind) (read_set states x l last now is read_then) readies)
+    pub readies_here : (m : ℕ) → StopReadies o now m x rs behind → ReadiesAbove o m x (record { states = states; records = rs }) (record { states = slice_set states x last; records = behind })
+    readies_here m readies =
+        let b = has_become states rs behind x before.0 l last its propagates in
+        arrival_readies o m x b.first states rs behind last b.mine (subst (λ z. StopReadies o z m x rs behind) (read_set states x l last now is read_then) readies)
 
-    pub steps_here : StepsHere o x n (record { states = states; records = rs }) (record { states = slice_set states x last; records = behind })
+    pub steps_here : StepsAt o x n (record { states = states; records = rs }) (record { states = slice_set states x last; records = behind })
     steps_here = record {
       first = before.0;
       process = l;
@@ -131,23 +131,23 @@ module _ {S : Type 0} (o : Ops S) where
       has = its;
       stood = stop;
       chain = taken;
-      becomes = has_become states rs behind x before.0 l last its arrives;
+      becomes = has_become states rs behind x before.0 l last its propagates;
       advances = advances;
     }
 
-    pub still_kept : IsKept o (record { states = states; records = rs }) → IsKept o (record { states = slice_set states x last; records = behind })
+    pub still_kept : HasTableInvariant o (record { states = states; records = rs }) → HasTableInvariant o (record { states = slice_set states x last; records = behind })
     still_kept h = let w = advances h.0 (tree_of o h.1) h.2 in (h.0, w.0.root, w.2)
 
     pub other_stop : o.stop last ≢ AtQuiet → IsBeforeQuiet o x (record { states = slice_set states x last; records = behind }) false
-    other_stop other = let b = has_become states rs behind x before.0 l last its arrives in no_longer_quiet (record { states = slice_set states x last; records = behind }) x b.first last b.mine other
+    other_stop other = let b = has_become states rs behind x before.0 l last its propagates in no_longer_quiet (record { states = slice_set states x last; records = behind }) x b.first last b.mine other
 
   -- the same where they were done elsewhere
   module _ (law : LocalLaws o) (states : List S) (rs behind : List Record) (x n : ℕ) (last now : S) (comes : QuietlyReaches o (record { states = states; records = rs }) x n last) (read_then : now ≡ get_or (slice_set states x last) x now)
-      (came : Arrives o now 4294967295 x rs behind) where
-    pub arrives_elsewhere : Arrives o last 4294967295 x rs behind
-    arrives_elsewhere = subst (λ z. Arrives o z 4294967295 x rs behind) (read_set states x comes.process last now comes.has.state_is read_then) came
+      (came : PropagatesStop o now 4294967295 x rs behind) where
+    pub arrives_elsewhere : PropagatesStop o last 4294967295 x rs behind
+    arrives_elsewhere = subst (λ z. PropagatesStop o z 4294967295 x rs behind) (read_set states x comes.process last now comes.has.state_is read_then) came
 
-    moves_on : AdvancesBy o (o.path comes.process) n (record { states = states; records = rs }) (record { states = slice_set states x last; records = behind })
+    moves_on : PerformsQuiet o (o.path comes.process) n (record { states = states; records = rs }) (record { states = slice_set states x last; records = behind })
     moves_on rp t kept = advanced o law rp t states rs behind n x comes.first comes.process last kept comes.has comes.stands comes.chain arrives_elsewhere
 
     pub stands_elsewhere : (f : ℕ) × HasProcessState (record { states = slice_set states x last; records = behind }) x f now lives
@@ -155,12 +155,12 @@ module _ {S : Type 0} (o : Ops S) where
         let b = has_become states rs behind x comes.first comes.process last comes.has arrives_elsewhere in
         (b.first, subst (λ z. HasProcessState (record { states = slice_set states x last; records = behind }) x b.first z lives) (sym (read_set states x comes.process last now comes.has.state_is read_then)) b.mine)
 
-    pub wakes_elsewhere : (m : ℕ) → ArrivalWakes o now m x rs behind → WakesAbove o m x (record { states = states; records = rs }) (record { states = slice_set states x last; records = behind })
-    wakes_elsewhere m readies =
+    pub readies_elsewhere : (m : ℕ) → StopReadies o now m x rs behind → ReadiesAbove o m x (record { states = states; records = rs }) (record { states = slice_set states x last; records = behind })
+    readies_elsewhere m readies =
         let b = has_become states rs behind x comes.first comes.process last comes.has arrives_elsewhere in
-        arrival_wakes o m x b.first states rs behind last b.mine (subst (λ z. ArrivalWakes o z m x rs behind) (read_set states x comes.process last now comes.has.state_is read_then) readies)
+        arrival_readies o m x b.first states rs behind last b.mine (subst (λ z. StopReadies o z m x rs behind) (read_set states x comes.process last now comes.has.state_is read_then) readies)
 
-    pub steps_elsewhere : StepsHere o x n (record { states = states; records = rs }) (record { states = slice_set states x last; records = behind })
+    pub steps_elsewhere : StepsAt o x n (record { states = states; records = rs }) (record { states = slice_set states x last; records = behind })
     steps_elsewhere = record {
       first = comes.first;
       process = comes.process;
@@ -172,5 +172,5 @@ module _ {S : Type 0} (o : Ops S) where
       advances = moves_on;
     }
 
-    pub kept_elsewhere : IsKept o (record { states = states; records = rs }) → IsKept o (record { states = slice_set states x last; records = behind })
+    pub kept_elsewhere : HasTableInvariant o (record { states = states; records = rs }) → HasTableInvariant o (record { states = slice_set states x last; records = behind })
     kept_elsewhere h = let w = moves_on h.0 (tree_of o h.1) h.2 in (h.0, w.0.root, w.2)

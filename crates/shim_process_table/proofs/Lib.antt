@@ -12,7 +12,7 @@ pub mod ChangingEach
 pub mod Parents
 pub mod ReadyChildren
 pub mod DueFacts
-pub mod Listings
+pub mod QueueFacts
 pub mod Touching
 pub mod TouchingOwn
 pub mod TouchingForks

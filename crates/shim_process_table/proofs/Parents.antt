@@ -14,10 +14,10 @@ use Rattle.shim_records.specs.Pairs.{up_in}
 use Rattle.shim_records.specs.declared.record.Record.{Record}
 use Rattle.shim_records.proofs.Reaching.{among_more, one_above}
 use Rattle.shim_records.proofs.Stepping.{set_there, set_elsewhere}
-use Rattle.shim_laws_table_events.specs.keeping.Tables.{TableView, HasProcessState, Keeps, IsKept, stands}
-use Rattle.shim_laws_table_events.specs.waking.Awake.{is_set, is_listed}
-use Rattle.shim_laws_table_events.proofs.waking.PairsFound.{record_of}
-use Rattle.shim_process_table.specs.Reading.{IsInUse, IsForAll, ParentIs}
+use Rattle.shim_laws_table_events.specs.keeping.Tables.{TableView, HasProcessState, TableInvariant, HasTableInvariant, stands}
+use Rattle.shim_laws_table_events.specs.queues.EventQueue.{is_set, is_listed}
+use Rattle.shim_laws_table_events.proofs.queues.PairsFound.{record_of}
+use Rattle.shim_process_table.specs.Lookups.{IsInUse, IsForAll, ParentIs}
 use Rattle.shim_records.specs.Ways.{IsAbove, its_fork, further}
 use Rattle.shim_process_table.specs.Touching.{ListsAbove}
 use Rattle.shim_process_table.proofs.Above.{none_above, not_among_none, above_fork}
@@ -67,19 +67,19 @@ module _ {S : Type 0} (o : Ops S) (v : TableView S) where
   pub use_within : (i : ℕ) → IsInUse v i → i < length v.records
   use_within i (f, s, k, has) = let r = record_of v.records i f k has.stands_so in slice_get_within v.records i r.0 r.1
 
-  module _ (rp : Path) (root : Node S) (kept : Keeps o rp v root) where
+  module _ (rp : Path) (root : Node S) (kept : TableInvariant o rp v root) where
     -- its fork is in use, and one branch nearer to the root
     fork_of : (i j f : ℕ) (s : S) (k : ProcessStatus) → HasProcessState v i f s k → up_in v.records i ≡ Some j
         → (g : ℕ) × (n : ℕ) × (t : S) × HasProcessState v j g t (forks n) × (length (place o rp s) ≡ length (place o rp t) + 1)
     fork_of i j f s k has e =
-        let b = tied o rp v.states (stands v) root kept.shows (up_in v.records) kept.linked i f j s k has e in
+        let b = tied o rp v.states (stands v) root kept.represents (up_in v.records) kept.linked i f j s k has e in
         (b.0.first, b.0.many, b.0.parent, subst (λ z. HasProcessState v z b.0.first b.0.parent (forks b.0.many)) b.1 b.0.has, ap length b.0.is ∙ length-append (place o rp b.0.parent) (b.0.branch ∷ []))
 
-  pub fork_in_use : IsKept o v → (i j : ℕ) → IsInUse v i → up_in v.records i ≡ Some j → IsInUse v j
+  pub fork_in_use : HasTableInvariant o v → (i j : ℕ) → IsInUse v i → up_in v.records i ≡ Some j → IsInUse v j
   fork_in_use kept i j (f, s, k, has) e = let w = fork_of kept.0 kept.1 kept.2 i j f s k has e in (w.0, w.2, forks w.1, w.3)
 
   -- no fork is further up than a path is long
-  module _ (kept : IsKept o v) where
+  module _ (kept : HasTableInvariant o v) where
     at_level : {n i k : ℕ} (f : ℕ) (s : S) (h : ProcessStatus) → HasProcessState v i f s h → IsAbove (up_in v.records) n i k → IsAbove (up_in v.records) (length (place o kept.0 s)) i k
     at_level f s h has (its_fork n i j e) =
         let u = fork_of kept.0 kept.1 kept.2 i j f s h has e in
@@ -96,7 +96,7 @@ module _ {S : Type 0} (o : Ops S) (v : TableView S) where
   -- ---- on the way up
 
   -- The first so many forks above a number were listed, the last of which has this one.
-  pub record IsListing (number : ℕ) (old now : List Bool) (here walked : ℕ) : Type 0 where
+  pub record IsQueue (number : ℕ) (old now : List Bool) (here walked : ℕ) : Type 0 where
     pub kept : (i : ℕ) → is_listed old i ≡ true → is_listed now i ≡ true
     pub left : (m i : ℕ) → IsAbove (up_in v.records) (walked + m) number i → (is_listed now i ≡ true) ⊎ IsAbove (up_in v.records) m here i
     pub only : (i : ℕ) → is_listed now i ≡ true → (is_listed old i ≡ true) ⊎ IsAbove (up_in v.records) walked number i
@@ -104,8 +104,8 @@ module _ {S : Type 0} (o : Ops S) (v : TableView S) where
     pub reached : (j : ℕ) → up_in v.records here ≡ Some j → IsAbove (up_in v.records) (walked + 1) number j
     pub used : IsInUse v here
 
-  pub listing_begins : (number : ℕ) (old : List Bool) → IsInUse v number → IsListing number old old number 0
-  listing_begins number old used = record {
+  pub queue_begins : (number : ℕ) (old : List Bool) → IsInUse v number → IsQueue number old old number 0
+  queue_begins number old used = record {
     kept = λ i e. e;
     left = λ m i w. inr (subst (λ z. IsAbove (up_in v.records) z number i) (none_yet m) w);
     only = λ i e. inl e;
@@ -117,9 +117,9 @@ module _ {S : Type 0} (o : Ops S) (v : TableView S) where
       none_yet : (m : ℕ) → 0 + m ≡ m
       none_yet m = omega arith
 
-  module _ (number : ℕ) (old now : List Bool) (here walked : ℕ) (so_far : IsListing number old now here walked) where
-    pub listing_goes : IsKept o v → IsForAll v old → (j : ℕ) (next : List Bool) → up_in v.records here ≡ Some j → next ≡ slice_set now j true → IsListing number old next j (walked + 1)
-    listing_goes all room j next up adds = record {
+  module _ (number : ℕ) (old now : List Bool) (here walked : ℕ) (so_far : IsQueue number old now here walked) where
+    pub queue_goes : HasTableInvariant o v → IsForAll v old → (j : ℕ) (next : List Bool) → up_in v.records here ≡ Some j → next ≡ slice_set now j true → IsQueue number old next j (walked + 1)
+    queue_goes all room j next up adds = record {
       kept = λ i e. still_listed now next j adds i (so_far.kept i e);
       left = λ m i w. elim (so_far.left (suc m) i (subst (λ z. IsAbove (up_in v.records) z number i) (one_less walked m) w)) [
         | inl e ↦ inl (still_listed now next j adds i e)
@@ -145,8 +145,8 @@ module _ {S : Type 0} (o : Ops S) (v : TableView S) where
 
     module _ (n : ℕ) where
       -- so many were to be listed
-      pub listing_ends : walked ≡ n → ListsAbove v n number old now
-      listing_ends all = record {
+      pub queue_ends : walked ≡ n → ListsAbove v n number old now
+      queue_ends all = record {
         kept = so_far.kept;
         above = λ i w. elim (so_far.left 0 i (subst (λ z. IsAbove (up_in v.records) z number i) (sym all ∙ none_more walked) w)) [ inl e ↦ e | inr h ↦ not_among_none (up_in v.records) h ];
         only = λ i e. subst (λ z. (is_listed old i ≡ true) ⊎ IsAbove (up_in v.records) z number i) all (so_far.only i e);
@@ -157,8 +157,8 @@ module _ {S : Type 0} (o : Ops S) (v : TableView S) where
           none_more n = omega arith
 
       -- or the way ends at a process without a fork
-      pub listing_tops : walked ≤ n → up_in v.records here ≡ None → ListsAbove v n number old now
-      listing_tops few top = record {
+      pub queue_tops : walked ≤ n → up_in v.records here ≡ None → ListsAbove v n number old now
+      queue_tops few top = record {
         kept = so_far.kept;
         above = λ i w. elim (so_far.left n i (among_more (up_in v.records) (walked + n) (omega arith) w)) [ inl e ↦ e | inr h ↦ none_above (up_in v.records) top h ];
         only = λ i e. elim (so_far.only i e) [ inl w ↦ inl w | inr w ↦ inr (among_more (up_in v.records) n few w) ];
@@ -167,7 +167,7 @@ module _ {S : Type 0} (o : Ops S) (v : TableView S) where
 
 -- ---- what readers answer
 
-module _ {S : Type 0} (o : Ops S) (v : TableView S) (kept : IsKept o v) (i : ℕ) where
+module _ {S : Type 0} (o : Ops S) (v : TableView S) (kept : HasTableInvariant o v) (i : ℕ) where
   -- of a process in use the number of its parent is told
   pub parent_is_up : IsInUse v i → (r : Option ℕ) → ParentIs v.records i r → r ≡ up_in v.records i
   parent_is_up used None past = on (up_in v.records i) refl

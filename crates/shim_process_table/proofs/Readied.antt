@@ -10,18 +10,18 @@ use Rattle.shim_semantics.proofs.HowMany.{clash}
 use Rattle.shim_laws_table.specs.Seen.{ProcessStatus, lives, forks, ends, dies}
 use Rattle.shim_laws_table.proofs.OneChange.{one_state, one_sort}
 use Rattle.shim_laws_table.proofs.SameTrees.{same_or_not}
-use Rattle.shim_records.specs.Pairs.{up_in, counts_in, counts_ready, leasts_in}
+use Rattle.shim_records.specs.Pairs.{up_in, counts_in, counts_ready, min_labels_in}
 use Rattle.shim_records.specs.Ways.{IsAbove, its_fork, OnlyCounts, NoneReadied, ReadiesWithin}
 use Rattle.shim_records.specs.Ways as ways
 use Rattle.shim_records.specs.declared.record.Record.{Record}
 use Rattle.shim_records.proofs.Reaching.{among_more, one_above}
 use Rattle.shim_records.proofs.Stepping.{set_elsewhere}
 use Rattle.shim_laws_table_events.specs.keeping.Tables.{TableView, HasProcessState, stands}
-use Rattle.shim_laws_table_events.specs.waking.Looks.{IsReady}
-use Rattle.shim_laws_table_events.specs.waking.NoMore.{WasReady}
-use Rattle.shim_laws_table_events.proofs.waking.NoMore.{as_ready}
-use Rattle.shim_laws_table_events.proofs.waking.Same.{was_there}
-use Rattle.shim_process_table.specs.Touching.{TouchesAbove, WakesAbove, HasReadied, ReadiesRecords, ArrivalWakes, MovingWakes}
+use Rattle.shim_laws_table_events.specs.queues.RecordDecisions.{IsReady}
+use Rattle.shim_laws_table_events.specs.queues.NoMore.{WasReady}
+use Rattle.shim_laws_table_events.proofs.queues.NoMore.{as_ready}
+use Rattle.shim_laws_table_events.proofs.queues.Same.{was_there}
+use Rattle.shim_process_table.specs.Touching.{ChangesOnlyAbove, ReadiesAbove, HasReadied, ReadiesRecords, StopReadies, MoveReadies}
 use Rattle.shim_process_table.proofs.Above.{above_as}
 use Rattle.shim_process_table.proofs.Touching.{rest_at, rest_parents, rest_long}
 
@@ -58,7 +58,7 @@ module _ (mine : Channel → Type 0) (c : Channel) (n x : ℕ) (before behind : 
       | inr far ↦ ap counts_ready (sym (only.elsewhere d far i)) ∙ ready
     ];
     children = λ d i j up out readied. elim (same_or_other c d) [
-      | inl same ↦ subst (λ z. leasts_in z before i ≡ None) same (readies.labels i j up out (as_one d j same readied))
+      | inl same ↦ subst (λ z. min_labels_in z before i ≡ None) same (readies.labels i j up out (as_one d j same readied))
       | inr far ↦ not_other d j far readied
     ];
   }
@@ -96,7 +96,7 @@ module _ {S : Type 0} (o : Ops S) where
       (its : (c : Channel) (f : ℕ) (s : S) (k : ProcessStatus) → HasProcessState behind x f s k → IsReady o behind c x s k → mine c ⊎ WasReady o before c x s) where
     module _ (i : ℕ) (out : IsAbove (up_in before.records) n x i → ⊥) where
       -- a child is ready that was so, or its fork has no label
-      module _ (c : Channel) (j f : ℕ) (s : S) (some : leasts_in c behind.records i ≢ None) (up : up_in before.records j ≡ Some i) where
+      module _ (c : Channel) (j f : ℕ) (s : S) (some : min_labels_in c behind.records i ≢ None) (up : up_in before.records j ≡ Some i) where
         unlabelled : {B : Type 0} → HasReadied mine c x before.records behind.records j → B
         unlabelled readied = absurd (some (readies.labels c i ∙ readies.children c i j up out readied))
 
@@ -119,7 +119,7 @@ module _ {S : Type 0} (o : Ops S) where
           status = k;
           has = was_there before behind j (states j far) (rest_at before.records behind.records j readies.rest) f s k has;
           path = refl;
-          readiness = was_so k ready;
+          ready_on = was_so k ready;
         }
 
     now_out : (i : ℕ) → (IsAbove (up_in behind.records) n x i → ⊥) → IsAbove (up_in before.records) n x i → ⊥
@@ -128,7 +128,7 @@ module _ {S : Type 0} (o : Ops S) where
     known : (i j : ℕ) → up_in behind.records j ≡ Some i → up_in before.records j ≡ Some i
     known i j e = sym (rest_parents before.records behind.records readies.rest j) ∙ e
 
-    pub readies_above : WakesAbove o n x before behind
+    pub readies_above : ReadiesAbove o n x before behind
     readies_above = record {
       others = λ i f s k has far out. record {
         state = states i far;
@@ -144,8 +144,8 @@ module _ {S : Type 0} (o : Ops S) where
     }
 
   -- where one has changed whatever it has, so have the forks above it and the next one
-  pub touches_wake : (n x : ℕ) (before behind : TableView S) → TouchesAbove n x before behind → WakesAbove o (n + 1) x before behind
-  touches_wake n x before behind touches = record {
+  pub touches_requeue : (n x : ℕ) (before behind : TableView S) → ChangesOnlyAbove n x before behind → ReadiesAbove o (n + 1) x before behind
+  touches_requeue n x before behind touches = record {
     others = λ i f s k has far out. as_ready o before behind i (touches.others i f s k has far (λ w. out (among_more (up_in behind.records) (n + 1) (omega arith) w)))
         (λ j g t h there up. touches.others j g t h there (λ e. out (first_above i (subst (λ z. up_in behind.records z ≡ Some i) e up))) (λ w. out (next_above i j w up)));
     no_more = touches.no_more;
@@ -174,16 +174,16 @@ module _ {S : Type 0} (o : Ops S) where
     There = record { states = slice_set states x s; records = behind }
 
     -- it came where it stands
-    pub arrival_wakes : ArrivalWakes o s n x rs behind → WakesAbove o n x (record { states = states; records = rs }) (record { states = slice_set states x s; records = behind })
-    arrival_wakes readies = readies_above (λ c. is_next (o.stop s) c ≡ true) n x Here There readies (λ i far. set_elsewhere states x i s far) (λ c g t k there ready. inl (its_stop There x f g s t k c has there ready).1)
+    pub arrival_readies : StopReadies o s n x rs behind → ReadiesAbove o n x (record { states = states; records = rs }) (record { states = slice_set states x s; records = behind })
+    arrival_readies readies = readies_above (λ c. is_next (o.stop s) c ≡ true) n x Here There readies (λ i far. set_elsewhere states x i s far) (λ c g t k there ready. inl (its_stop There x f g s t k c has there ready).1)
 
     -- it came from a channel, where it was ready
-    pub moving_wakes : (g : ℕ) (l : S) (d : NamedChannel) (c : Channel) → HasProcessState (record { states = states; records = rs }) x g l lives → o.stop l ≡ AtNext d → d.channel ≡ c → o.path s ≡ o.path l → MovingWakes o s c n x rs behind
-        → WakesAbove o n x (record { states = states; records = rs }) (record { states = slice_set states x s; records = behind })
+    pub moving_wakes : (g : ℕ) (l : S) (d : NamedChannel) (c : Channel) → HasProcessState (record { states = states; records = rs }) x g l lives → o.stop l ≡ AtNext d → d.channel ≡ c → o.path s ≡ o.path l → MoveReadies o s c n x rs behind
+        → ReadiesAbove o n x (record { states = states; records = rs }) (record { states = slice_set states x s; records = behind })
     moving_wakes g l d c had stop chan path readies = readies_above (λ e. (is_next (o.stop s) e ≡ true) × (e ≢ c)) n x Here There readies (λ i far. set_elsewhere states x i s far) (λ e h t k there ready.
         let w = its_stop There x f h s t k e has there ready in
         elim (same_or_other e c) [
-          | inl same ↦ inr (record { first = g; process = l; status = lives; has = had; path = sym path ∙ ap o.path w.0; readiness = subst (λ z. is_next (o.stop l) z ≡ true) (sym same) was })
+          | inl same ↦ inr (record { first = g; process = l; status = lives; has = had; path = sym path ∙ ap o.path w.0; ready_on = subst (λ z. is_next (o.stop l) z ≡ true) (sym same) was })
           | inr far ↦ inl (w.1, λ same. clash (same_channel e c) (subst (λ z. same_channel e z ≡ true) same (same_channel_refl e)) far)
         ])
       where
@@ -196,20 +196,20 @@ module _ {S : Type 0} (o : Ops S) where
   stands_alone s e d stop is = sym (same_channel_is e.channel d (ap (λ z. is_next z d) (sym stop) ∙ is))
 
   -- it came to a channel
-  pub came_there : (s : S) (e : NamedChannel) (n x : ℕ) (before behind : List Record) → o.stop s ≡ AtNext e → OnlyCounts e.channel before behind → ReadiesWithin e.channel n x before behind → ArrivalWakes o s n x before behind
+  pub came_there : (s : S) (e : NamedChannel) (n x : ℕ) (before behind : List Record) → o.stop s ≡ AtNext e → OnlyCounts e.channel before behind → ReadiesWithin e.channel n x before behind → StopReadies o s n x before behind
   came_there s e n x before behind stop only readies = readies_one (λ d. is_next (o.stop s) d ≡ true) e.channel n x before behind (λ d is. stands_alone s e d stop is) only readies
 
   -- it stands where it stood
-  pub stayed_there : (s : S) (c : Channel) (e : NamedChannel) (x : ℕ) (rs : List Record) → o.stop s ≡ AtNext e → true ≡ same_channel c e.channel → MovingWakes o s c 0 x rs rs
+  pub stayed_there : (s : S) (c : Channel) (e : NamedChannel) (x : ℕ) (rs : List Record) → o.stop s ≡ AtNext e → true ≡ same_channel c e.channel → MoveReadies o s c 0 x rs rs
   stayed_there s c e x rs stop same = readies_none (λ d. (is_next (o.stop s) d ≡ true) × (d ≢ c)) 0 x rs rs (λ d w. w.1 (stands_alone s e d stop w.0 ∙ sym (same_channel_is c e.channel (sym same)))) refl
 
   -- it came to another channel
   pub moved_there : (s : S) (c : Channel) (e : NamedChannel) (n x : ℕ) (before between behind : List Record) → o.stop s ≡ AtNext e → OnlyCounts c before between → NoneReadied c before between → OnlyCounts e.channel between behind
-      → ReadiesWithin e.channel n x between behind → MovingWakes o s c n x before behind
+      → ReadiesWithin e.channel n x between behind → MoveReadies o s c n x before behind
   moved_there s c e n x before between behind stop left fell only readies =
       readies_after (λ d. (is_next (o.stop s) d ≡ true) × (d ≢ c)) c n x before between behind left fell (readies_one (λ d. (is_next (o.stop s) d ≡ true) × (d ≢ c)) e.channel n x between behind (λ d w. stands_alone s e d stop w.0) only readies)
 
   -- or to none
-  pub moved_nowhere : (s : S) (c : Channel) (x : ℕ) (before behind : List Record) → ((d : Channel) → is_next (o.stop s) d ≡ false) → OnlyCounts c before behind → NoneReadied c before behind → MovingWakes o s c 0 x before behind
+  pub moved_nowhere : (s : S) (c : Channel) (x : ℕ) (before behind : List Record) → ((d : Channel) → is_next (o.stop s) d ≡ false) → OnlyCounts c before behind → NoneReadied c before behind → MoveReadies o s c 0 x before behind
   moved_nowhere s c x before behind none left fell =
       readies_after (λ d. (is_next (o.stop s) d ≡ true) × (d ≢ c)) c 0 x before behind behind left fell (readies_none (λ d. (is_next (o.stop s) d ≡ true) × (d ≢ c)) 0 x behind behind (λ d w. clash (is_next (o.stop s) d) w.0 (none d)) refl)

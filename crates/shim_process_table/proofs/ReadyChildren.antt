@@ -7,14 +7,14 @@ use Rattle.shim_local.specs.Process.{Ops}
 use Rattle.shim_semantics.proofs.HowMany.{clash}
 use Rattle.shim_laws_table.specs.Seen.{ProcessStatus}
 use Rattle.shim_laws_table.specs.Agrees.{RecordView, free, used}
-use Rattle.shim_laws_table.specs.Counts.{Tally, all_there}
+use Rattle.shim_laws_table.specs.Counts.{Tally, tally_ready}
 use Rattle.shim_records.specs.Pairs.{counts_ready, tally, counts_in, pair_index, tally_for}
 use Rattle.shim_records.specs.declared.pair.Pair.{Pair}
 use Rattle.shim_records.specs.declared.record.Record.{Record}
 use Rattle.shim_records.proofs.Walked.{last_or_before}
 use Rattle.shim_records.proofs.Pairing.{put_there, no_place}
 use Rattle.shim_laws_table_events.specs.keeping.Tables.{TableView, HasProcessState, stands}
-use Rattle.shim_laws_table_events.specs.waking.Looks.{ready_by, IsReady, HasNoPairDue}
+use Rattle.shim_laws_table_events.specs.queues.RecordDecisions.{ready_by, IsReady, HasNoPairDue}
 use Rattle.shim_process_table.specs.Due.{ready_record, ready_at, DoomedAmong}
 
 module _ {S : Type 0} (o : Ops S) (c : Channel) where
@@ -50,15 +50,15 @@ module _ {S : Type 0} (o : Ops S) (c : Channel) where
     none_at_all i n past none b less = none b (omega (arith, past, less))
 
 -- by a pair without a meeting and without a doomed child nothing can happen
-pub idle_pair : {S : Type 0} (o : Ops S) (v : TableView S) (l : S) (g n : ℕ) (y : Pair) → (o.path l ≡ y.chan.channel.home → all_there (tally y) ≡ false) → DoomedAmong o v.states v.records l g n y None → HasNoPairDue o v l g n y
+pub idle_pair : {S : Type 0} (o : Ops S) (v : TableView S) (l : S) (g n : ℕ) (y : Pair) → (o.path l ≡ y.chan.channel.home → tally_ready (tally y) ≡ false) → DoomedAmong o v.states v.records l g n y None → HasNoPairDue o v l g n y
 idle_pair o v l g n y meets dooms = record {
   meets_not = meets;
-  poisons_not = λ low b f k x less has readiness. clash (ready_at o y.chan.channel v.states v.records (g + b)) (is_ready o y.chan.channel v (g + b) f k x has ∙ readiness) (dooms low b less);
+  poisons_not = λ low b f k x less has ready_on. clash (ready_at o y.chan.channel v.states v.records (g + b)) (is_ready o y.chan.channel v (g + b) f k x has ∙ ready_on) (dooms low b less);
 }
 
 -- ---- a fork's counts for a channel
 
-pub all_by_place : (c : Channel) (ps : List Pair) (i : ℕ) (p : Pair) → pair_index c ps ≡ Some i → p ≡ get_or ps i p → all_there (tally p) ≡ counts_ready (tally_for c ps)
+pub all_by_place : (c : Channel) (ps : List Pair) (i : ℕ) (p : Pair) → pair_index c ps ≡ Some i → p ≡ get_or ps i p → tally_ready (tally p) ≡ counts_ready (tally_for c ps)
 all_by_place c ps i p e g = sym (ap (λ z. counts_ready (option_map tally z)) (put_there c ps i p p e g refl refl).found)
 
 pub none_by_place : (c : Channel) (ps : List Pair) → pair_index c ps ≡ None → false ≡ counts_ready (tally_for c ps)

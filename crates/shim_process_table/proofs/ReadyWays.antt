@@ -2,15 +2,15 @@
 use Rattle.std.proofs.Common.{◌≡◌, ℕ, ◌+◌, ◌≤◌, true, false, Some, List, map, drop, length, sym, subst, ◌∙◌}
 use Rattle.std.specs.Prelude.{slice_get}
 use Rattle.shim_base.specs.Paths.{NamedChannel}
-use Rattle.shim_laws_table.specs.Counts.{live_reading}
-use Rattle.shim_records.specs.Pairs.{reading_of, rest_of}
+use Rattle.shim_laws_table.specs.Counts.{live_child_status}
+use Rattle.shim_records.specs.Pairs.{child_status_of, rest_of}
 use Rattle.shim_records.specs.Fresh.{channels}
 use Rattle.shim_records.specs.Ways.{IsUpdatedAbove, CountsMovedWithin}
-use Rattle.shim_records.specs.declared.pair.Reading.{Reading}
+use Rattle.shim_records.specs.declared.pair.ChildStatus.{ChildStatus}
 use Rattle.shim_records.specs.declared.record.Record.{Record}
 use Rattle.shim_records.proofs.Reaching.{one_alone}
 use Rattle.shim_laws_table_events.specs.forks.Forking.{EachUpdatedAbove, none_left, one_more}
-use Rattle.shim_process_table.specs.Touching.{TouchesRecords}
+use Rattle.shim_process_table.specs.Touching.{ChangesOnlyRecords}
 use Rattle.shim_process_table.proofs.Places.{drop_one, drop_all}
 use Rattle.shim_process_table.proofs.Touching.{touches_on, touches_more, counts_reach}
 
@@ -19,8 +19,8 @@ pub record OnTheWays (x : ℕ) (chans : List NamedChannel) (i : ℕ) (start now 
   pub goes_on : (end : List Record) → EachUpdatedAbove 4294967295 x (channels (drop i chans)) now end → EachUpdatedAbove 4294967295 x (channels chans) start end
   pub rest : map rest_of now ≡ map rest_of start
 
-pub one_way : (x : ℕ) (chans : List NamedChannel) (i : ℕ) (start now next : List Record) (d : NamedChannel) (was is : Reading) → OnTheWays x chans i start now → slice_get chans i ≡ Some d
-    → reading_of was ≡ live_reading false → reading_of is ≡ live_reading true
+pub one_way : (x : ℕ) (chans : List NamedChannel) (i : ℕ) (start now next : List Record) (d : NamedChannel) (was is : ChildStatus) → OnTheWays x chans i start now → slice_get chans i ≡ Some d
+    → child_status_of was ≡ live_child_status false → child_status_of is ≡ live_child_status true
     → IsUpdatedAbove d.channel 4294967295 x was is now next → OnTheWays x chans (i + 1) start next
 one_way x chans i start now next d was is h e u v way = record {
   goes_on = λ end more. h.goes_on end (subst (λ z. EachUpdatedAbove 4294967295 x (channels z) now end) (sym (drop_one chans i d e)) (one_more d.channel (channels (drop (i + 1) chans)) was is now next end u v way more));
@@ -28,7 +28,7 @@ one_way x chans i start now next d was is h e u v way = record {
 }
 
 -- of these ways one led furthest
-pub one_further : (n m k x : ℕ) (start now next : List Record) (d : NamedChannel) (was is : Reading) → n ≤ k → m ≤ k → TouchesRecords n x start now → IsUpdatedAbove d.channel 4294967295 x was is now next → CountsMovedWithin d.channel m x now next → TouchesRecords k x start next
+pub one_further : (n m k x : ℕ) (start now next : List Record) (d : NamedChannel) (was is : ChildStatus) → n ≤ k → m ≤ k → ChangesOnlyRecords n x start now → IsUpdatedAbove d.channel 4294967295 x was is now next → CountsMovedWithin d.channel m x now next → ChangesOnlyRecords k x start next
 one_further n m k x start now next d was is less more so_far way reaches =
     touches_on k x start now next (touches_more n k x start now less so_far)
     (touches_more m k x now next more (counts_reach m x now next way.1.rest way.1.labels (one_alone d.channel m x now next way.1 reaches)))

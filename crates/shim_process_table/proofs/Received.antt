@@ -8,14 +8,14 @@ use Rattle.shim_laws_table.specs.Seen.{lives}
 use Rattle.shim_records.specs.declared.record.Record.{Record}
 use Rattle.shim_records.proofs.ReadOff.{same_stands}
 use Rattle.shim_records.proofs.Stepping.{set_there, set_elsewhere}
-use Rattle.shim_laws_table_events.specs.keeping.Tables.{TableView, HasProcessState, IsKept, stands}
+use Rattle.shim_laws_table_events.specs.keeping.Tables.{TableView, HasProcessState, HasTableInvariant, stands}
 use Rattle.shim_laws_table_events.specs.meetings.Receiving.{MovesOn}
 use Rattle.shim_laws_table_events.proofs.meetings.Receives.{moves_on_rest}
-use Rattle.shim_process_table.specs.Listing.{ListingIs}
+use Rattle.shim_process_table.specs.Queue.{QueueIs}
 use Rattle.shim_process_table.specs.Meeting.{WaitsAt, HasReceived}
 use Rattle.shim_process_table.specs.Stepping.{HasBecome}
-use Rattle.shim_process_table.specs.Touching.{WakesAbove, MovingWakes}
-use Rattle.shim_process_table.specs.declared.arriving.Arrival.{Arrival}
+use Rattle.shim_process_table.specs.Touching.{ReadiesAbove, MoveReadies}
+use Rattle.shim_process_table.specs.declared.propagating.Requeue.{Requeue}
 use Rattle.shim_process_table.proofs.HereMeets.{same, now_is}
 use Rattle.shim_process_table.proofs.Does.{is_sound}
 use Rattle.shim_process_table.proofs.Readied.{moving_wakes}
@@ -45,18 +45,18 @@ module _ {S : Type 0} (o : Ops S) (c : Channel) (law : LocalLaws o) (v : ℤ) (s
     only = λ j g t k far h. record { state_is = sym (set_elsewhere states x j last far) ∙ h.state_is; stands_so = sym (ap (λ z. slice_get z j) stay) ∙ h.stands_so };
   }
 
-  module _ (kept : IsKept o (record { states = states; records = rs })) where
+  module _ (kept : HasTableInvariant o (record { states = states; records = rs })) where
     path : o.path last ≡ o.path before.1
     path = ap o.path last_is ∙ law.moved_path before.1 (o.receive before.1 v) (is_sound o states rs x before.0 before.1 kept before.3) (by_call (by_receive before.2 v before.4 refl))
 
-    wakes : (n : ℕ) → MovingWakes o now c n x rs behind → WakesAbove o n x (record { states = states; records = rs }) (record { states = slice_set states x last; records = behind })
-    wakes n readies =
+    newly_ready : (n : ℕ) → MoveReadies o now c n x rs behind → ReadiesAbove o n x (record { states = states; records = rs }) (record { states = slice_set states x last; records = behind })
+    newly_ready n readies =
         moving_wakes o n x before.0 states rs behind last (subst (λ z. HasProcessState there x before.0 z lives) (sym last_is) mine) before.0 before.1 before.2 c before.3 before.4 before.5 path
-        (subst (λ z. MovingWakes o z c n x rs behind) (now_is o c law v states rs behind x l last now before read is_last read_then moves ∙ sym last_is) readies)
+        (subst (λ z. MoveReadies o z c n x rs behind) (now_is o c law v states rs behind x l last now before read is_last read_then moves ∙ sym last_is) readies)
 
-    pub has_received : (arrival : Arrival) → MovingWakes o now c arrival.forks x rs behind → ((w : TableView S) (i f : ℕ) → HasProcessState w i f now lives → ListingIs o w i arrival.listing)
-        → HasReceived o c v x arrival (record { states = states; records = rs }) (record { states = slice_set states x last; records = behind })
-    has_received arrival readies listing = record {
+    pub has_received : (to_requeue : Requeue) → MoveReadies o now c to_requeue.forks x rs behind → ((w : TableView S) (i f : ℕ) → HasProcessState w i f now lives → QueueIs o w i to_requeue.queue)
+        → HasReceived o c v x to_requeue (record { states = states; records = rs }) (record { states = slice_set states x last; records = behind })
+    has_received to_requeue readies queue = record {
       first = before.0;
       process = before.1;
       chan = before.2;
@@ -64,6 +64,6 @@ module _ {S : Type 0} (o : Ops S) (c : Channel) (law : LocalLaws o) (v : ℤ) (s
       stood = before.4;
       is_channel = before.5;
       becomes = becomes;
-      wakes = wakes arrival.forks readies;
-      listing = listing there x before.0 (subst (λ z. HasProcessState there x before.0 z lives) (sym (now_is o c law v states rs behind x l last now before read is_last read_then moves)) mine);
+      newly_ready = newly_ready to_requeue.forks readies;
+      queue = queue there x before.0 (subst (λ z. HasProcessState there x before.0 z lives) (sym (now_is o c law v states rs behind x l last now before read is_last read_then moves)) mine);
     }

@@ -9,42 +9,42 @@ use Rattle.shim_laws_table.specs.Seen.{ProcessStatus, lives, forks, ends, dies}
 use Rattle.shim_laws_table.specs.Agrees.{free, used}
 use Rattle.shim_records.specs.Pairs.{up_in, stands_of}
 use Rattle.shim_records.specs.declared.record.Record.{Record}
-use Rattle.shim_records.proofs.Showing.{map_get}
+use Rattle.shim_records.proofs.Representing.{map_get}
 use Rattle.shim_records.proofs.Stepping.{set_elsewhere}
 use Rattle.shim_laws_table_events.specs.keeping.Tables.{TableView, HasProcessState}
-use Rattle.shim_laws_table_events.specs.waking.Waking.{IsAsBefore}
-use Rattle.shim_laws_table_events.proofs.waking.PairsFound.{record_of}
-use Rattle.shim_laws_table_events.proofs.waking.Same.{had}
-use Rattle.shim_laws_table_events.specs.closes.Closing.{without_status, AreFreed, HasCome, LeavesIf, AllRecounted, none_left, one_more, GivenRecounted}
+use Rattle.shim_laws_table_events.specs.queues.Requeueing.{IsAsBefore}
+use Rattle.shim_laws_table_events.proofs.queues.PairsFound.{record_of}
+use Rattle.shim_laws_table_events.proofs.queues.Same.{had}
+use Rattle.shim_laws_table_events.specs.closes.Closing.{without_status, AreFreed, HasCome, CountsOffIfOver, AllRecounted, none_left, one_more, GivenRecounted}
 use Rattle.shim_laws_table_events.proofs.closes.Saying.{map_length}
 use Rattle.shim_records.specs.Ways.{IsAbove}
-use Rattle.shim_process_table.specs.Touching.{TouchesAbove, SaysAsBefore, TouchesRecords}
+use Rattle.shim_process_table.specs.Touching.{ChangesOnlyAbove, SaysAsBefore, ChangesOnlyRecords}
 use Rattle.shim_process_table.proofs.Above.{above_as}
-use Rattle.shim_process_table.proofs.Touching.{touches_none, touches_on, touches_more, touches_set, same_record, says_on, reads_off, leaving}
+use Rattle.shim_process_table.proofs.Touching.{touches_none, touches_on, touches_more, touches_set, same_record, says_on, reads_off, counting_off}
 
 module _ {S : Type 0} (o : Ops S) (states : List S) where
-  pub all_read_off : (n x : ℕ) (cs : List Channel) (before behind : List Record) → AllRecounted o states n x cs before behind → TouchesRecords n x before behind
+  pub all_read_off : (n x : ℕ) (cs : List Channel) (before behind : List Record) → AllRecounted o states n x cs before behind → ChangesOnlyRecords n x before behind
   all_read_off n x cs before behind (none_left rs) = touches_none n x rs rs refl
   all_read_off n x cs before behind (one_more c ds first between last way more) = touches_on n x first between last (reads_off o c states n x first between way) (all_read_off n x ds between last more)
 
-  pub given_read_off : (s : S) (n x : ℕ) (before behind : List Record) → GivenRecounted o states s n x before behind → TouchesRecords n x before behind
+  pub given_read_off : (s : S) (n x : ℕ) (before behind : List Record) → GivenRecounted o states s n x before behind → ChangesOnlyRecords n x before behind
   given_read_off s n x before behind h = all_read_off n x h.chans before behind h.recounted
 
-pub leaves_if : (k : ProcessStatus) (x : ℕ) (before behind : List Record) → LeavesIf k x before behind → TouchesRecords 1 x before behind
+pub leaves_if : (k : ProcessStatus) (x : ℕ) (before behind : List Record) → CountsOffIfOver k x before behind → ChangesOnlyRecords 1 x before behind
 leaves_if lives x before behind h = touches_none 1 x before behind h
 leaves_if (forks n) x before behind h = touches_none 1 x before behind h
-leaves_if ends x before behind h = leaving x before behind h
-leaves_if (dies d) x before behind h = leaving x before behind h
+leaves_if ends x before behind h = counting_off x before behind h
+leaves_if (dies d) x before behind h = counting_off x before behind h
 
 -- its record says what came of it, then one child less of its parent goes on, and then counts and labels above were brought up to date
-pub record_closes : (n x : ℕ) (k : ProcessStatus) (was is : Record) (before left between behind : List Record) → slice_get before x ≡ Some was → HasCome was is k → LeavesIf k x (slice_set before x is) left → TouchesRecords n x left between → TouchesRecords n x between behind → 1 ≤ n
-    → TouchesRecords n x before behind
+pub record_closes : (n x : ℕ) (k : ProcessStatus) (was is : Record) (before left between behind : List Record) → slice_get before x ≡ Some was → HasCome was is k → CountsOffIfOver k x (slice_set before x is) left → ChangesOnlyRecords n x left between → ChangesOnlyRecords n x between behind → 1 ≤ n
+    → ChangesOnlyRecords n x before behind
 record_closes n x k was is before left between behind there come leaves counts labels some =
     let own = slice_set before x is in
     touches_on n x before own behind (touches_set n x before was is there come.parent)
     (touches_on n x own left behind (touches_more 1 n x own left some (leaves_if k x own left leaves)) (touches_on n x left between behind counts labels))
 
-module _ {S : Type 0} (states : List S) (rs freed behind : List Record) (m i g n : ℕ) (s : S) (free_ones : AreFreed g n rs freed) (touches : TouchesRecords m i freed behind) where
+module _ {S : Type 0} (states : List S) (rs freed behind : List Record) (m i g n : ℕ) (s : S) (free_ones : AreFreed g n rs freed) (touches : ChangesOnlyRecords m i freed behind) where
   abbrev now : List S
   now = slice_set states i s
 
@@ -72,5 +72,5 @@ module _ {S : Type 0} (states : List S) (rs freed behind : List Record) (m i g n
       let w = says_on rs freed behind j (same_record rs freed j (free_ones.freed.outside j (no_child j f t h has said))) said in
       record { state = set_elsewhere states i j s far; rest = w.rest; counts = w.counts; labels = w.labels }
 
-  pub closes_touch : TouchesAbove m i (record { states = states; records = rs }) After
+  pub closes_touch : ChangesOnlyAbove m i (record { states = states; records = rs }) After
   closes_touch = record { others = others; no_more = let a = touches.as_many in let b = freed_long in omega (arith, a, b) }

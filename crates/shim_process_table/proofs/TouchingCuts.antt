@@ -1,7 +1,8 @@
 -- What a call touches stays so where free records at the end are cut off behind it.
-use Rattle.std.proofs.Common.{length, ◌≡◌, ◌<◌, ◌≤◌, ℕ, zero, suc, Some, List, [], ◌∷◌, take, inl, inr, refl, sym, ap, ◌∙◌, arith}
+use Rattle.std.proofs.Common.{length, ◌≡◌, ◌≢◌, ◌<◌, ◌≤◌, ◌+◌, ℕ, zero, suc, Some, List, [], ◌∷◌, take, inl, inr, refl, sym, ap, ◌∙◌, arith}
 use Rattle.std.specs.Prelude.{slice_get}
 use Rattle.std.specs.Option.{option_map}
+use Rattle.std.proofs.lemmas.List.{length-take-le}
 use Rattle.shim_base.proofs.Facts.{some_same, none_some}
 use Rattle.shim_local.specs.Process.{Ops}
 use Rattle.shim_laws_table.specs.Seen.{ProcessStatus}
@@ -9,13 +10,13 @@ use Rattle.shim_laws_table.specs.Agrees.{free, used}
 use Rattle.shim_records.specs.Pairs.{up_in, up_at, stands_of}
 use Rattle.shim_records.specs.declared.record.Record.{Record}
 use Rattle.shim_records.proofs.Walked.{less_or_not}
-use Rattle.shim_records.proofs.Showing.{map_get}
-use Rattle.shim_laws_table_events.specs.keeping.Tables.{TableView, HasProcessState, IsKept}
-use Rattle.shim_laws_table_events.proofs.waking.PairsFound.{record_of}
-use Rattle.shim_laws_table_events.proofs.waking.Same.{whole_same}
-use Rattle.shim_process_table.specs.Reading.{IsInUse}
+use Rattle.shim_records.proofs.Representing.{map_get}
+use Rattle.shim_laws_table_events.specs.keeping.Tables.{TableView, HasProcessState, HasTableInvariant}
+use Rattle.shim_laws_table_events.proofs.queues.PairsFound.{record_of}
+use Rattle.shim_laws_table_events.proofs.queues.Same.{whole_same}
+use Rattle.shim_process_table.specs.Lookups.{IsInUse}
 use Rattle.shim_records.specs.Ways.{IsAbove, its_fork, further}
-use Rattle.shim_process_table.specs.Touching.{TouchesAbove}
+use Rattle.shim_process_table.specs.Touching.{ChangesOnlyAbove}
 use Rattle.shim_process_table.proofs.Parents.{fork_in_use}
 use Rattle.shim_process_table.proofs.Touching.{before_on}
 
@@ -35,6 +36,12 @@ inside xs zero i x e = none_some x e
 inside [] (suc m) i x e = none_some x e
 inside (y ∷ xs) (suc m) zero x e = omega arith
 inside (y ∷ xs) (suc m) (suc i) x e = let w = inside xs m i x e in omega (arith, w)
+
+-- the last record is in use, where what is cut off begins behind one in use
+pub cut_at_used : (rs : List Record) (m : ℕ) → m ≤ length rs → ((i : ℕ) (r : Record) → m ≡ i + 1 → slice_get rs i ≡ Some r → stands_of r ≢ free) → (i : ℕ) (r : Record) → length (take m rs) ≡ i + 1 → slice_get (take m rs) i ≡ Some r → stands_of r ≢ free
+cut_at_used rs m within last i r long e =
+    let whole = length-take-le m rs within in
+    last i r (sym whole ∙ long) (sym (taken rs m i (inside rs m i r e)) ∙ e)
 
 not_free : {B : Type 0} (f : ℕ) (k : ProcessStatus) → free ≡ used f k → B
 not_free f k e = absurd cc
@@ -60,11 +67,11 @@ module _ {S : Type 0} (o : Ops S) (v : TableView S) (m : ℕ) (past : (i : ℕ) 
       }
 
   -- the same forks are above a process in use
-  above_cut : IsKept o v → {n i j : ℕ} → IsInUse v i → IsAbove (up_in v.records) n i j → IsAbove (up_in cut.records) n i j
+  above_cut : HasTableInvariant o v → {n i j : ℕ} → IsInUse v i → IsAbove (up_in v.records) n i j → IsAbove (up_in cut.records) n i j
   above_cut kept mine (its_fork n i j e) = its_fork n i j (ap up_at (taken v.records m i (in_front i mine)) ∙ e)
   above_cut kept mine (further n i k j e w) = further n i k j (ap up_at (taken v.records m i (in_front i mine)) ∙ e) (above_cut kept (fork_in_use o v kept i k mine e) w)
 
-  pub cut_touched : (n x : ℕ) (before : TableView S) → IsKept o v → IsInUse v x → TouchesAbove n x before v → TouchesAbove n x before cut
+  pub cut_touched : (n x : ℕ) (before : TableView S) → HasTableInvariant o v → IsInUse v x → ChangesOnlyAbove n x before v → ChangesOnlyAbove n x before cut
   cut_touched n x before kept mine touches = record {
     others = λ i f s k has far out.
         let less = inside v.states m i s has.state_is in

@@ -6,11 +6,11 @@ use Rattle.shim_local.specs.Process.{Ops}
 use Rattle.shim_records.specs.Pairs.{up_in, up_at}
 use Rattle.shim_records.specs.Blocks.{with_one, with_block}
 use Rattle.shim_records.specs.declared.record.Record.{Record}
-use Rattle.shim_records.proofs.Showing.{block_out, block_in}
+use Rattle.shim_records.proofs.Representing.{block_out, block_in}
 use Rattle.shim_records.proofs.Stepping.{set_elsewhere}
 use Rattle.shim_laws_table_events.specs.keeping.Tables.{TableView}
 use Rattle.shim_laws_table_events.specs.forks.Forking.{AreOfChildren}
-use Rattle.shim_process_table.specs.Touching.{TouchesForking, TouchesRecords}
+use Rattle.shim_process_table.specs.Touching.{ChangesOnlyForking, ChangesOnlyRecords}
 use Rattle.shim_process_table.proofs.Above.{above_as}
 use Rattle.shim_process_table.proofs.Parents.{there_is}
 use Rattle.shim_process_table.proofs.Touching.{same_record, says_on}
@@ -27,7 +27,7 @@ block_long g (x ∷ xs) ys m h e = block_long (g + 1) xs (with_one g x ys) m (on
 
 -- its own record and those of the children were put, and then the counts above were moved
 pub forks_touch : {S : Type 0} (o : Ops S) (n x g : ℕ) (p : S) (ks : List S) (is : Record) (born : List Record) (before behind : TableView S) → length before.states ≡ length before.records → g ≤ length before.records → AreOfChildren o x ks born
-    → behind.states ≡ with_block g ks (slice_set before.states x p) → TouchesRecords n x (with_block g born (slice_set before.records x is)) behind.records → TouchesForking n x g (length ks) before behind
+    → behind.states ≡ with_block g ks (slice_set before.states x p) → ChangesOnlyRecords n x (with_block g born (slice_set before.records x is)) behind.records → ChangesOnlyForking n x g (length ks) before behind
 forks_touch {S} o n x g p ks is born before behind beside start children states updated = record {
   others = λ i f s k has far out old.
       let w = updated.others i far (λ a. out (above_as (up_in put) (up_in behind.records) updated.parents a)) in

@@ -16,9 +16,9 @@ use Rattle.shim_records.specs.declared.record.Record.{Record}
 use Rattle.shim_records.specs.declared.record.Status.{Status}
 use Rattle.shim_records.specs.declared.record.Status.TheVariants as code
 use Rattle.shim_records.proofs.Pairing.{put_there, no_place}
-use Rattle.shim_records.proofs.Showing.{map_get}
+use Rattle.shim_records.proofs.Representing.{map_get}
 use Rattle.shim_records.proofs.SharingFound.{known_pair, pair_known}
-use Rattle.shim_laws_table_events.specs.keeping.Tables.{TableView, HasProcessState, IsKept}
+use Rattle.shim_laws_table_events.specs.keeping.Tables.{TableView, HasProcessState, HasTableInvariant}
 use Rattle.shim_laws_table_events.specs.meetings.Descents.{numbers_of_length}
 use Rattle.shim_laws_table_events.specs.meetings.Plans.{children_between, Plans, at_end, passes, finds, goes_below, SourceChild}
 use Rattle.shim_process_table.specs.Stepping.{IsLive}
@@ -156,7 +156,7 @@ nothing_by_place c ps e = on (known_for c (known_of ps)) refl
     on (Some k) w = let p = known_pair c ps k w in none_some (tally p.0) (sym (no_place c ps e) ∙ ap (option_map tally) p.1)
 
 -- the pairs of a record stand in order
-pub its_order : {S : Type 0} (o : Ops S) (v : TableView S) (i : ℕ) (r : Record) → IsKept o v → slice_get v.records i ≡ Some r → IsOrdered (chans_of r.pairs.items)
+pub its_order : {S : Type 0} (o : Ops S) (v : TableView S) (i : ℕ) (r : Record) → HasTableInvariant o v → slice_get v.records i ≡ Some r → IsOrdered (chans_of r.pairs.items)
 its_order o v i r kept there = kept.2.ordered i r there
 
 -- what holds in any case

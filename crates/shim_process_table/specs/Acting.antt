@@ -1,4 +1,4 @@
--- What a call did to one live process by itself, as an event.
+-- What one live process did by itself, as an event.
 use Rattle.std.specs.Prelude.{◌≡◌, ℕ, Some}
 use Rattle.shim_base.specs.declared.operators.Trap.{Trap}
 use Rattle.shim_local.specs.Process.{Ops, StopView, AtTrap}
@@ -6,10 +6,10 @@ use Rattle.shim_semantics.specs.Nodes.{Node, Live, Dead, state}
 use Rattle.shim_semantics.specs.Acts.{Acted, Effects, nothing, catch_logged, act_live}
 use Rattle.shim_laws_table.specs.Seen.{ProcessStatus, lives, dies, process_status}
 use Rattle.shim_laws_table_events.specs.keeping.Tables.{TableView, HasProcessState}
-use Rattle.shim_laws_table_events.specs.keeping.Moves.{MovesBy}
+use Rattle.shim_laws_table_events.specs.keeping.Moves.{Performs}
 use Rattle.shim_laws_table_events.specs.keeping.Acting.{event_at_stop}
 use Rattle.shim_process_table.specs.Stepping.{LivesAt, HasBecome}
-use Rattle.shim_process_table.specs.Touching.{WakesAbove}
+use Rattle.shim_process_table.specs.Touching.{ReadiesAbove}
 use Rattle.shim_process_table.specs.declared.acting.Thrown.{Thrown}
 use Rattle.shim_process_table.specs.declared.acting.Thrown.TheVariants as thrown
 
@@ -18,7 +18,7 @@ abbrev pub IsTrappedAt : {S : Type 0} → Ops S → TableView S → ℕ → Type
 IsTrappedAt o v number = (kind : Trap) × (line : ℕ) × LivesAt o v number (AtTrap kind line)
 
 -- The live process with this number was at this stop and did the one thing that it can do by itself. It has this status now, and these are the effects. The tree moves by that event, and no other process has changed. No record in use is readier than before but its own and those of the first n forks above.
-pub record ActsHere {S : Type 0} (o : Ops S) (n number : ℕ) (stop : StopView) (k : ProcessStatus) (effects : Effects) (before behind : TableView S) : Type 0 where
+pub record ActsAlone {S : Type 0} (o : Ops S) (n number : ℕ) (stop : StopView) (k : ProcessStatus) (effects : Effects) (before behind : TableView S) : Type 0 where
   pub first : ℕ
   pub process : S
   pub has : HasProcessState before number first process lives
@@ -27,8 +27,8 @@ pub record ActsHere {S : Type 0} (o : Ops S) (n number : ℕ) (stop : StopView) 
   pub does : act_live o process stop ≡ Some (record { node = left; effects = effects })
   pub came : process_status left ≡ k
   pub becomes : HasBecome number (state left) k before behind
-  pub moves : MovesBy o (event_at_stop stop (o.path process)) before behind
-  pub wakes : WakesAbove o n number before behind
+  pub moves : Performs o (event_at_stop stop (o.path process)) before behind
+  pub newly_ready : ReadiesAbove o n number before behind
 
 -- the status of a process behind a throw with this outcome
 abbrev pub status_by_throw : Thrown → ProcessStatus
@@ -37,10 +37,10 @@ status_by_throw (thrown.Died d) = dies d
 status_by_throw thrown.Trapped = lives
 
 -- the effects of such a throw
-abbrev pub told_of : Thrown → Effects
-told_of (thrown.Caught name line) = catch_logged (name, line)
-told_of (thrown.Died d) = nothing
-told_of thrown.Trapped = nothing
+abbrev pub throw_effects : Thrown → Effects
+throw_effects (thrown.Caught name line) = catch_logged (name, line)
+throw_effects (thrown.Died d) = nothing
+throw_effects thrown.Trapped = nothing
 
 -- the node and the effects that such a throw leaves, of a process in this state
 abbrev pub thrown_by : {S : Type 0} → Thrown → S → Acted S

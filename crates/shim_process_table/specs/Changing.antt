@@ -5,7 +5,7 @@ use Rattle.shim_local.specs.Process.{Ops}
 use Rattle.shim_semantics.specs.Nodes.{Node}
 use Rattle.shim_laws_table.specs.Seen.{ProcessStatus, lives}
 use Rattle.shim_records.specs.Members.{IsAmong}
-use Rattle.shim_laws_table_events.specs.keeping.Tables.{TableView, HasProcessState, Keeps}
+use Rattle.shim_laws_table_events.specs.keeping.Tables.{TableView, HasProcessState, TableInvariant}
 
 -- The same numbers are in use, by processes of the same paths; and who lives and has changed has one of these numbers.
 pub record IsChanged {S : Type 0} (o : Ops S) (numbers : List ℕ) (before behind : TableView S) : Type 0 where
@@ -15,4 +15,4 @@ pub record IsChanged {S : Type 0} (o : Ops S) (numbers : List ℕ) (before behin
 
 -- it is so where they show a tree
 abbrev pub ChangesEach : {S : Type 0} → Ops S → List ℕ → TableView S → TableView S → Type 0
-ChangesEach {S} o numbers before behind = (rp : Path) (root : Node S) → Keeps o rp before root → IsChanged o numbers before behind
+ChangesEach {S} o numbers before behind = (rp : Path) (root : Node S) → TableInvariant o rp before root → IsChanged o numbers before behind

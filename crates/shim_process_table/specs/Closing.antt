@@ -1,19 +1,21 @@
 -- What a close of a fork did, and what its parts do to states and records.
-use Rattle.std.specs.Prelude.{◌≡◌, ◌≢◌, ◌<◌, ◌+◌, ℕ, Bool, Option, Some, List, slice_get, slice_set}
+use Rattle.std.specs.Prelude.{◌≡◌, ◌≢◌, ◌<◌, ◌+◌, ℕ, Bool, Option, Some, List, length, slice_get, slice_set}
 use Rattle.shim_local.specs.Process.{Ops}
 use Rattle.shim_semantics.specs.Nodes.{Live, Death, state}
 use Rattle.shim_semantics.specs.Acts.{Acted, Effects, nothing, closed}
 use Rattle.shim_semantics.specs.Trees.{Close}
 use Rattle.shim_laws_table.specs.Seen.{ProcessStatus, lives, forks, dies, process_status}
 use Rattle.shim_laws_table.specs.Changes.{HasClosed, segment, prevailing_among}
+use Rattle.shim_laws_table.specs.Agrees.{free}
 use Rattle.shim_records.specs.Acted.{process_status_of, AllUpdated}
+use Rattle.shim_records.specs.Pairs.{stands_of}
 use Rattle.shim_records.specs.declared.record.Record.{Record}
 use Rattle.shim_records.specs.declared.record.Status.{Status}
 use Rattle.shim_laws_table_events.specs.keeping.Tables.{TableView, HasProcessState, stands}
-use Rattle.shim_laws_table_events.specs.keeping.Moves.{MovesBy}
-use Rattle.shim_laws_table_events.specs.closes.Closing.{HasCome, LeavesIf, RecountedIf}
-use Rattle.shim_process_table.specs.Touching.{TouchesAbove}
-use Rattle.shim_process_table.specs.Acting.{status_by_throw, told_of, thrown_by}
+use Rattle.shim_laws_table_events.specs.keeping.Moves.{Performs}
+use Rattle.shim_laws_table_events.specs.closes.Closing.{HasCome, CountsOffIfOver, RecountedIf}
+use Rattle.shim_process_table.specs.Touching.{ChangesOnlyAbove}
+use Rattle.shim_process_table.specs.Acting.{status_by_throw, throw_effects, thrown_by}
 use Rattle.shim_process_table.specs.declared.acting.Thrown.TheVariants as thrown
 use Rattle.shim_process_table.specs.declared.closing.CloseOutcome.{CloseOutcome}
 use Rattle.shim_process_table.specs.declared.closing.CloseOutcome.TheVariants.{GoesOn, Threw}
@@ -26,12 +28,12 @@ pub record CanClose {S : Type 0} (v : TableView S) (number : ℕ) : Type 0 where
   pub said : Record
   pub forked : HasProcessState v number first process (forks many)
   pub there : slice_get v.records number ≡ Some said
-  pub none_goes : said.going ≡ 0
+  pub none_goes : said.running_children ≡ 0
 
 -- the effects of a close with this outcome
-abbrev pub told_by : CloseOutcome → Effects
-told_by GoesOn = nothing
-told_by (Threw t) = told_of t
+abbrev pub close_effects : CloseOutcome → Effects
+close_effects GoesOn = nothing
+close_effects (Threw t) = throw_effects t
 
 -- the status of the process behind a close with this outcome
 abbrev pub ClosedAs : CloseOutcome → ProcessStatus → Type 0
@@ -41,7 +43,7 @@ ClosedAs (Threw (thrown.Died d)) k = k ≡ dies d
 ClosedAs (Threw thrown.Trapped) k = k ≡ lives
 
 -- The process with this number had forked, and its fork closed: this came of it, the tree moves by that event, and of all others its children alone are no more. Of the records that are still in use none has changed but its own and those of the first n forks above.
-pub record ClosesHere {S : Type 0} (o : Ops S) (n number : ℕ) (outcome : CloseOutcome) (before behind : TableView S) : Type 0 where
+pub record ClosesAt {S : Type 0} (o : Ops S) (n number : ℕ) (outcome : CloseOutcome) (before behind : TableView S) : Type 0 where
   pub first : ℕ
   pub many : ℕ
   pub process : S
@@ -50,11 +52,15 @@ pub record ClosesHere {S : Type 0} (o : Ops S) (n number : ℕ) (outcome : Close
   pub does : left ≡ closed o process (segment first many before.states) (prevailing_among (segment first many (stands before)))
   pub path : o.path (state left.node) ≡ o.path process
   pub apart : (b : ℕ) → b < many → number ≢ first + b
-  pub told : left.effects ≡ told_by outcome
+  pub told : left.effects ≡ close_effects outcome
   pub came : ClosedAs outcome (process_status left.node)
   pub becomes : HasClosed before.states behind.states (stands before) (stands behind) number first many (state left.node) (process_status left.node)
-  pub moves : MovesBy o (Close (o.path process)) before behind
-  pub touches : TouchesAbove n number before behind
+  pub moves : Performs o (Close (o.path process)) before behind
+  pub touches : ChangesOnlyAbove n number before behind
+
+-- the record at the end, where there is one, is in use
+abbrev pub EndsInUse : {S : Type 0} → TableView S → Type 0
+EndsInUse v = (i : ℕ) (r : Record) → length v.records ≡ i + 1 → slice_get v.records i ≡ Some r → stands_of r ≢ free
 
 -- ---- the parts
 
@@ -86,6 +92,6 @@ pub record ClosesRecord {S : Type 0} (o : Ops S) (states : List S) (at : ℕ) (s
   pub state_is : slice_get states at ≡ Some process
   pub there : slice_get before at ≡ Some was
   pub come : HasCome was is (process_status_of status)
-  pub leaves : LeavesIf (process_status_of status) at (slice_set before at is) left
+  pub leaves : CountsOffIfOver (process_status_of status) at (slice_set before at is) left
   pub walked : AllUpdated o process (process_status_of status) 4294967295 at left between
   pub again : RecountedIf d o states process 4294967295 at between behind

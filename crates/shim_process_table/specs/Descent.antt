@@ -18,7 +18,7 @@ abbrev pub ahead_of : List Block → List ℕ
 ahead_of [] = []
 ahead_of (b ∷ bs) = ahead_of bs ++ numbers_of_block b
 
--- how many children it has of which this came; none where the record is free
+-- how many children a process has whose record has this status; none where the record is free
 abbrev pub children_by : Status → Option ℕ
 children_by code.Free = None
 children_by code.Live = Some 0

@@ -4,15 +4,15 @@ use Rattle.shim_base.specs.Paths.{Channel, NamedChannel}
 use Rattle.shim_local.specs.Process.{Ops, AtPut, AtFork, AtThrow, AtTrap, AtFinish, AtNext}
 use Rattle.shim_laws_table.specs.Seen.{ProcessStatus, lives}
 use Rattle.shim_laws_table.specs.Agrees.{RecordView, used}
-use Rattle.shim_laws_table.specs.Counts.{Tally, all_there}
+use Rattle.shim_laws_table.specs.Counts.{Tally, tally_ready}
 use Rattle.shim_laws_table.specs.Dooms.{is_below}
 use Rattle.shim_records.specs.Pairs.{tally, counts_in, stands_of}
 use Rattle.shim_records.specs.declared.pair.Pair.{Pair}
 use Rattle.shim_records.specs.declared.record.Record.{Record}
 use Rattle.shim_laws_table_events.specs.keeping.Tables.{TableView, HasProcessState}
-use Rattle.shim_laws_table_events.specs.waking.Looks.{ready_by, HasNothingDue, IsReady}
+use Rattle.shim_laws_table_events.specs.queues.RecordDecisions.{ready_by, HasNothingDue, IsReady}
 use Rattle.shim_process_table.specs.Closing.{CanClose}
-use Rattle.shim_process_table.specs.Reading.{HasPair}
+use Rattle.shim_process_table.specs.Lookups.{HasPair}
 use Rattle.shim_process_table.specs.Stepping.{LivesAt}
 use Rattle.shim_process_table.specs.declared.due.Due.{Due}
 use Rattle.shim_process_table.specs.declared.due.Due.TheVariants as code
@@ -27,14 +27,14 @@ pub record MeetsAlone {S : Type 0} (o : Ops S) (v : TableView S) (i : ℕ) : Typ
   pub declared : o.path process ≡ chan.channel.home
 
 -- it declared the channel of its pair in this place, and by the pair's counts it is ready on that
-pub record AllThere {S : Type 0} (o : Ops S) (v : TableView S) (i q : ℕ) : Type 0 where
+pub record IsReadyToMeet {S : Type 0} (o : Ops S) (v : TableView S) (i q : ℕ) : Type 0 where
   pub first : ℕ
   pub many : ℕ
   pub process : S
   pub pair_is : Pair
   pub has : HasPair v i first many process q pair_is
   pub declared : o.path process ≡ pair_is.chan.channel.home
-  pub all : all_there (tally pair_is) ≡ true
+  pub all : tally_ready (tally pair_is) ≡ true
 
 -- by its pair in this place a death below dooms its child with the number j, which is ready
 pub record IsDoomed {S : Type 0} (o : Ops S) (v : TableView S) (i q j : ℕ) : Type 0 where
@@ -43,7 +43,7 @@ pub record IsDoomed {S : Type 0} (o : Ops S) (v : TableView S) (i q j : ℕ) : T
   pub process : S
   pub pair_is : Pair
   pub has : HasPair v i first many process q pair_is
-  pub dooms : is_below pair_is.least (o.handlers process) ≡ true
+  pub dooms : is_below pair_is.min_dead_label (o.handlers process) ≡ true
   pub branch : ℕ
   pub within : branch < many
   pub number : j ≡ first + branch
@@ -63,26 +63,26 @@ DueIs o v i (code.Trap kind line) = LivesAt o v i (AtTrap kind line)
 DueIs o v i code.Finish = LivesAt o v i AtFinish
 DueIs o v i code.Close = CanClose v i
 DueIs o v i code.MeetAlone = MeetsAlone o v i
-DueIs o v i (code.Meet q) = AllThere o v i q
+DueIs o v i (code.Meet q) = IsReadyToMeet o v i q
 DueIs o v i (code.Poison q j) = IsDoomed o v i q j
 
 -- ---- the parts
 
--- whether a process with this state, of which this came, is ready on a channel for which its record has these counts
+-- whether a process with this state and view is ready on a channel for which its record has these counts
 abbrev pub ready_record : {S : Type 0} → Ops S → Channel → Option S → Option RecordView → Option Tally → Bool
 ready_record o c (Some s) (Some (used f k)) y = ready_by o c s k y
 ready_record o c _ _ y = false
 
--- whether the process with this number is
+-- whether the process with this number is ready on it
 abbrev pub ready_at : {S : Type 0} → Ops S → Channel → List S → List Record → ℕ → Bool
 ready_at o c states rs i = ready_record o c (slice_get states i) (slice_get (map stands_of rs) i) (counts_in c rs i)
 
--- the first of so many from a number on that is ready, or that none is
+-- one of so many from a number on that is ready, or that none is
 abbrev pub ReadyAmong : {S : Type 0} → Ops S → Channel → List S → List Record → ℕ → ℕ → Option ℕ → Type 0
 ReadyAmong o c states rs g n None = (b : ℕ) → b < n → ready_at o c states rs (g + b) ≡ false
 ReadyAmong o c states rs g n (Some j) = (b : ℕ) × (b < n) × (j ≡ g + b) × (ready_at o c states rs j ≡ true)
 
 -- the child that the pair's label dooms at the fork of a process with this state, whose n children have the numbers from g on; or that there is none
 abbrev pub DoomedAmong : {S : Type 0} → Ops S → List S → List Record → S → ℕ → ℕ → Pair → Option ℕ → Type 0
-DoomedAmong o states rs l g n y None = is_below y.least (o.handlers l) ≡ true → ReadyAmong o y.chan.channel states rs g n None
-DoomedAmong o states rs l g n y (Some j) = (is_below y.least (o.handlers l) ≡ true) × ReadyAmong o y.chan.channel states rs g n (Some j)
+DoomedAmong o states rs l g n y None = is_below y.min_dead_label (o.handlers l) ≡ true → ReadyAmong o y.chan.channel states rs g n None
+DoomedAmong o states rs l g n y (Some j) = (is_below y.min_dead_label (o.handlers l) ≡ true) × ReadyAmong o y.chan.channel states rs g n (Some j)

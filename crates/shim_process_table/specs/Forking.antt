@@ -11,8 +11,8 @@ use Rattle.shim_laws_table.specs.Changes.{HasForked}
 use Rattle.shim_records.specs.Pairs.{stands_of}
 use Rattle.shim_records.specs.declared.record.Record.{Record}
 use Rattle.shim_laws_table_events.specs.keeping.Tables.{TableView, HasProcessState, stands}
-use Rattle.shim_laws_table_events.specs.keeping.Moves.{MovesBy}
-use Rattle.shim_process_table.specs.Touching.{TouchesAbove, TouchesForking}
+use Rattle.shim_laws_table_events.specs.keeping.Moves.{Performs}
+use Rattle.shim_process_table.specs.Touching.{ChangesOnlyAbove, ChangesOnlyForking}
 use Rattle.shim_process_table.specs.declared.forking.ForkOutcome.{ForkOutcome}
 use Rattle.shim_process_table.specs.declared.forking.ForkOutcome.TheVariants as outcome
 
@@ -29,8 +29,8 @@ pub record HasForkedHere {S : Type 0} (o : Ops S) (n number first count : ℕ) (
   pub fits : first + count ≤ 4294967295
   pub unused : (b d : ℕ) (t : S) (k : ProcessStatus) → b < count → HasProcessState before (first + b) d t k → ⊥
   pub becomes : HasForked before.states behind.states (stands before) (stands behind) number first is born
-  pub moves : MovesBy o (Own (o.path was)) before behind
-  pub touches : TouchesForking n number first count before behind
+  pub moves : Performs o (Own (o.path was)) before behind
+  pub touches : ChangesOnlyForking n number first count before behind
 
 -- its fork trapped, and it lives on
 pub record HasTrappedHere {S : Type 0} (o : Ops S) (number : ℕ) (before behind : TableView S) : Type 0 where
@@ -41,8 +41,8 @@ pub record HasTrappedHere {S : Type 0} (o : Ops S) (number : ℕ) (before behind
   pub stood : o.stop was ≡ AtFork
   pub trapped : o.fork was ≡ Trapped is
   pub behind_is : behind ≡ record { states = slice_set before.states number is; records = before.records }
-  pub moves : MovesBy o (Own (o.path was)) before behind
-  pub touches : TouchesAbove 0 number before behind
+  pub moves : Performs o (Own (o.path was)) before behind
+  pub touches : ChangesOnlyAbove 0 number before behind
 
 -- it forked, or its fork trapped, as the outcome says
 abbrev pub ForksHere : {S : Type 0} → Ops S → ℕ → ℕ → TableView S → TableView S → ForkOutcome → Type 0

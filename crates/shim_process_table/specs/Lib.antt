@@ -1,9 +1,9 @@
 -- The definitions of this crate, one module for each subject.
 pub mod Closing
 pub mod Stepping
-pub mod Reading
+pub mod Lookups
 pub mod Due
-pub mod Listing
+pub mod Queue
 pub mod Touching
 pub mod Acting
 pub mod Changing

@@ -4,28 +4,28 @@ use Rattle.shim_base.specs.Paths.{Channel, NamedChannel}
 use Rattle.shim_local.specs.Process.{Ops, AtNext}
 use Rattle.shim_semantics.specs.Nodes.{is_next}
 use Rattle.shim_laws_table.specs.Seen.{lives}
-use Rattle.shim_laws_table.specs.Counts.{live_reading}
-use Rattle.shim_records.specs.Pairs.{reading_of}
+use Rattle.shim_laws_table.specs.Counts.{live_child_status}
+use Rattle.shim_records.specs.Pairs.{child_status_of}
 use Rattle.shim_records.specs.Ways.{IsUpdatedAbove}
-use Rattle.shim_records.specs.declared.pair.Reading.{Reading}
+use Rattle.shim_records.specs.declared.pair.ChildStatus.{ChildStatus}
 use Rattle.shim_records.specs.declared.record.Record.{Record}
 use Rattle.shim_laws_table_events.specs.keeping.Tables.{TableView, HasProcessState}
-use Rattle.shim_process_table.specs.Listing.{ListingIs}
+use Rattle.shim_process_table.specs.Queue.{QueueIs}
 use Rattle.shim_process_table.specs.Stepping.{HasBecome}
-use Rattle.shim_process_table.specs.Touching.{WakesAbove}
-use Rattle.shim_process_table.specs.declared.arriving.Arrival.{Arrival}
+use Rattle.shim_process_table.specs.Touching.{ReadiesAbove}
+use Rattle.shim_process_table.specs.declared.propagating.Requeue.{Requeue}
 
 -- whether the process with this number lives and is at a `next` of the channel
 abbrev pub WaitsAt : {S : Type 0} → Ops S → Channel → ℕ → TableView S → Bool → Type 0
 WaitsAt {S} o c i v true = (f : ℕ) × (l : S) × (d : NamedChannel) × HasProcessState v i f l lives × (o.stop l ≡ AtNext d) × (d.channel ≡ c)
 WaitsAt {S} o c i v false = (f : ℕ) (l : S) → HasProcessState v i f l lives → is_next (o.stop l) c ≡ false
 
--- a live process stands at the channel no more: the way up was walked from the record x, through at most n forks
+-- a live process stands at the channel no more: the counts above the record x were updated for it, through at most n forks
 abbrev pub LeavesChannel : Channel → ℕ → ℕ → List Record → List Record → Type 0
-LeavesChannel c n x before behind = (was : Reading) × (is : Reading) × (reading_of was ≡ live_reading true) × (reading_of is ≡ live_reading false) × IsUpdatedAbove c n x was is before behind
+LeavesChannel c n x before behind = (was : ChildStatus) × (is : ChildStatus) × (child_status_of was ≡ live_child_status true) × (child_status_of is ≡ live_child_status false) × IsUpdatedAbove c n x was is before behind
 
--- The process with this number lived, stood at the channel and received the value there; no other process has changed, and no record tells of more but its own and those of the first so many forks above it. In that list it belongs now.
-pub record HasReceived {S : Type 0} (o : Ops S) (c : Channel) (x : ℤ) (number : ℕ) (arrival : Arrival) (before behind : TableView S) : Type 0 where
+-- The process with this number lived, stood at the channel and received the value there; no other process has changed, and no record in use is readier than before but its own and those of the first so many forks above it. It belongs in that queue now.
+pub record HasReceived {S : Type 0} (o : Ops S) (c : Channel) (x : ℤ) (number : ℕ) (to_requeue : Requeue) (before behind : TableView S) : Type 0 where
   pub first : ℕ
   pub process : S
   pub chan : NamedChannel
@@ -33,10 +33,10 @@ pub record HasReceived {S : Type 0} (o : Ops S) (c : Channel) (x : ℤ) (number 
   pub stood : o.stop process ≡ AtNext chan
   pub is_channel : chan.channel ≡ c
   pub becomes : HasBecome number (o.receive process x) lives before behind
-  pub wakes : WakesAbove o arrival.forks number before behind
-  pub listing : ListingIs o behind number arrival.listing
+  pub newly_ready : ReadiesAbove o to_requeue.forks number before behind
+  pub queue : QueueIs o behind number to_requeue.queue
 
 -- it has done so and come there, or it doesn't wait there and nothing has changed
-abbrev pub ReceivesHere : {S : Type 0} → Ops S → Channel → ℤ → ℕ → Option Arrival → TableView S → TableView S → Type 0
+abbrev pub ReceivesHere : {S : Type 0} → Ops S → Channel → ℤ → ℕ → Option Requeue → TableView S → TableView S → Type 0
 ReceivesHere o c x number None before behind = (behind ≡ before) × WaitsAt o c number before false
-ReceivesHere o c x number (Some arrival) before behind = HasReceived o c x number arrival before behind
+ReceivesHere o c x number (Some to_requeue) before behind = HasReceived o c x number to_requeue before behind

@@ -9,7 +9,7 @@ use Rattle.shim_laws_table_events.specs.keeping.Tables.{TableView, HasProcessSta
 use Rattle.shim_laws_table_events.specs.meetings.Plans.{Plans}
 use Rattle.shim_process_table.specs.declared.descent.Knowledge.{Knowledge}
 
--- into how many it has forked of which this came, if it has
+-- into how many a process has forked whose record has this status, if it has
 abbrev pub forked_into : Status → Option ℕ
 forked_into code.Free = None
 forked_into code.Live = None

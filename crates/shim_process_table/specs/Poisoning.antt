@@ -5,7 +5,7 @@ use Rattle.shim_local.specs.Process.{Ops}
 use Rattle.shim_semantics.specs.Trees.{Poison}
 use Rattle.shim_laws_table.specs.Seen.{ProcessStatus, lives}
 use Rattle.shim_laws_table_events.specs.keeping.Tables.{TableView, HasProcessState}
-use Rattle.shim_laws_table_events.specs.keeping.Moves.{MovesBy}
+use Rattle.shim_laws_table_events.specs.keeping.Moves.{Performs}
 use Rattle.shim_laws_table_events.specs.meetings.Meetings.{IsEnabled}
 use Rattle.shim_laws_table_events.specs.meetings.Poisons.{IsChildOf}
 
@@ -23,5 +23,5 @@ pub record CanPoison {S : Type 0} (o : Ops S) (c : Channel) (label i : ℕ) (v :
   pub enabled : IsEnabled o (Poison (o.path child) c) v
 
 -- the tree moved by the poison of the process with this number
-abbrev pub PoisonsHere : {S : Type 0} → Ops S → Channel → ℕ → TableView S → TableView S → Type 0
-PoisonsHere {S} o c i before behind = (f : ℕ) (k : S) (x : ProcessStatus) → HasProcessState before i f k x → MovesBy o (Poison (o.path k) c) before behind
+abbrev pub PoisonsAt : {S : Type 0} → Ops S → Channel → ℕ → TableView S → TableView S → Type 0
+PoisonsAt {S} o c i before behind = (f : ℕ) (k : S) (x : ProcessStatus) → HasProcessState before i f k x → Performs o (Poison (o.path k) c) before behind

@@ -7,13 +7,13 @@ use Rattle.shim_laws_table.specs.Changes.{HasChanged}
 use Rattle.shim_records.specs.declared.record.Status.{Status}
 use Rattle.shim_records.specs.declared.record.Status.TheVariants as code
 use Rattle.shim_laws_table_events.specs.keeping.Tables.{TableView, stands, HasProcessState}
-use Rattle.shim_laws_table_events.specs.keeping.Moves.{AdvancesBy}
+use Rattle.shim_laws_table_events.specs.keeping.Moves.{PerformsQuiet}
 
 -- the process with this number is this now, and no other process has changed
 abbrev pub HasBecome : {S : Type 0} → ℕ → S → ProcessStatus → TableView S → TableView S → Type 0
 HasBecome number s k before behind = HasChanged before.states behind.states (stands before) (stands behind) number s k
 
--- the process with this number lives, and stands so
+-- the process with this number lives, and is at this stop
 abbrev pub LivesAt : {S : Type 0} → Ops S → TableView S → ℕ → StopView → Type 0
 LivesAt {S} o v number stop = (f : ℕ) × (l : S) × HasProcessState v number f l lives × (o.stop l ≡ stop)
 
@@ -28,7 +28,7 @@ IsBeforeQuiet {S} o i v true = LivesAt o v i AtQuiet
 IsBeforeQuiet {S} o i v false = (f : ℕ) (l : S) → HasProcessState v i f l lives → o.stop l ≢ AtQuiet
 
 -- The process with this number lived and stood before a quiet step, it did so many, no other process has changed, and the tree moves by these.
-pub record StepsHere {S : Type 0} (o : Ops S) (number taken : ℕ) (before behind : TableView S) : Type 0 where
+pub record StepsAt {S : Type 0} (o : Ops S) (number taken : ℕ) (before behind : TableView S) : Type 0 where
   pub first : ℕ
   pub process : S
   pub last : S
@@ -36,7 +36,7 @@ pub record StepsHere {S : Type 0} (o : Ops S) (number taken : ℕ) (before behin
   pub stood : o.stop process ≡ AtQuiet
   pub chain : QuietSteps o taken process last
   pub becomes : HasBecome number last lives before behind
-  pub advances : AdvancesBy o (o.path process) taken before behind
+  pub advances : PerformsQuiet o (o.path process) taken before behind
 
 -- The process with this number lives, stands before a quiet step, and comes to this state by so many.
 pub record QuietlyReaches {S : Type 0} (o : Ops S) (v : TableView S) (number taken : ℕ) (last : S) : Type 0 where
@@ -46,7 +46,7 @@ pub record QuietlyReaches {S : Type 0} (o : Ops S) (v : TableView S) (number tak
   pub stands : o.stop process ≡ AtQuiet
   pub chain : QuietSteps o taken process last
 
--- a process of which this came lives
+-- a process with this status lives
 abbrev pub is_live : Status → Bool
 is_live code.Free = false
 is_live code.Live = true

@@ -5,32 +5,32 @@ use Rattle.shim_base.specs.Paths.{Channel}
 use Rattle.shim_local.specs.Process.{Ops}
 use Rattle.shim_semantics.specs.Nodes.{is_next}
 use Rattle.shim_laws_table.specs.Seen.{ProcessStatus}
-use Rattle.shim_records.specs.Pairs.{up_in, rest_of, counts_in, counts_ready, leasts_in}
+use Rattle.shim_records.specs.Pairs.{up_in, rest_of, counts_in, counts_ready, min_labels_in}
 use Rattle.shim_records.specs.Ways.{IsAbove, most_forks}
 use Rattle.shim_records.specs.declared.record.Record.{Record}
 use Rattle.shim_laws_table_events.specs.keeping.Tables.{TableView, HasProcessState}
-use Rattle.shim_laws_table_events.specs.waking.Waking.{IsAsBefore}
-use Rattle.shim_laws_table_events.specs.waking.NoMore.{IsNoReadier}
-use Rattle.shim_laws_table_events.specs.waking.Awake.{is_listed}
+use Rattle.shim_laws_table_events.specs.queues.Requeueing.{IsAsBefore}
+use Rattle.shim_laws_table_events.specs.queues.NoMore.{IsNoReadier}
+use Rattle.shim_laws_table_events.specs.queues.EventQueue.{is_listed}
 
 -- Of the records in use none has changed but that with this number and those of the first n forks above it. There are no more records than before.
-pub record TouchesAbove {S : Type 0} (n number : ℕ) (before behind : TableView S) : Type 0 where
+pub record ChangesOnlyAbove {S : Type 0} (n number : ℕ) (before behind : TableView S) : Type 0 where
   pub others : (i f : ℕ) (s : S) (k : ProcessStatus) → HasProcessState behind i f s k → i ≢ number → (IsAbove (up_in behind.records) n number i → ⊥) → IsAsBefore before behind i
   pub no_more : length behind.records ≤ length before.records
 
 -- No record in use is readier than before but that with this number, and those of the first n forks above it; and there are no more of them.
-pub record WakesAbove {S : Type 0} (o : Ops S) (n number : ℕ) (before behind : TableView S) : Type 0 where
+pub record ReadiesAbove {S : Type 0} (o : Ops S) (n number : ℕ) (before behind : TableView S) : Type 0 where
   pub others : (i f : ℕ) (s : S) (k : ProcessStatus) → HasProcessState behind i f s k → i ≢ number → (IsAbove (up_in behind.records) n number i → ⊥) → IsNoReadier o before behind i
   pub no_more : length behind.records ≤ length before.records
 
 -- Of the records in use none has changed but that with this number, those of the first n forks above it, and those of so many new children of its process. These have the numbers from the first one on. There are no more records than before, unless these lie behind them.
-pub record TouchesForking {S : Type 0} (n number first count : ℕ) (before behind : TableView S) : Type 0 where
+pub record ChangesOnlyForking {S : Type 0} (n number first count : ℕ) (before behind : TableView S) : Type 0 where
   pub others : (i f : ℕ) (s : S) (k : ProcessStatus) → HasProcessState behind i f s k → i ≢ number → (IsAbove (up_in behind.records) n number i → ⊥) → ((b : ℕ) → b < count → i ≢ first + b) → IsAsBefore before behind i
   pub born : (b : ℕ) → b < count → up_in behind.records (first + b) ≡ Some number
   pub no_more : (m : ℕ) → length before.records ≤ m → first + count ≤ m → length behind.records ≤ m
 
 -- No record has changed but those with these numbers and those of the forks above them. Each has the parent that it had, and there are as many as before.
-pub record TouchesEach {S : Type 0} (numbers : List ℕ) (before behind : TableView S) : Type 0 where
+pub record ChangesOnlyEach {S : Type 0} (numbers : List ℕ) (before behind : TableView S) : Type 0 where
   pub parents : (i : ℕ) → up_in behind.records i ≡ up_in before.records i
   pub as_many : length behind.records ≡ length before.records
   pub others : (i : ℕ) → ((m at : ℕ) → slice_get numbers at ≡ Some m → (i ≢ m) × (IsAbove (up_in before.records) most_forks m i → ⊥)) → IsAsBefore before behind i
@@ -48,10 +48,10 @@ pub record ListsAbove {S : Type 0} (v : TableView S) (n number : ℕ) (old new :
 pub record SaysAsBefore (before behind : List Record) (i : ℕ) : Type 0 where
   pub rest : option_map rest_of (slice_get behind i) ≡ option_map rest_of (slice_get before i)
   pub counts : (c : Channel) → counts_in c behind i ≡ counts_in c before i
-  pub labels : (c : Channel) → leasts_in c behind i ≡ leasts_in c before i
+  pub labels : (c : Channel) → min_labels_in c behind i ≡ min_labels_in c before i
 
 -- No record says anything else than before but that with the number x and those of the first n forks above it. Each has the parent that it had, and there are as many as before.
-pub record TouchesRecords (n x : ℕ) (before behind : List Record) : Type 0 where
+pub record ChangesOnlyRecords (n x : ℕ) (before behind : List Record) : Type 0 where
   pub parents : (i : ℕ) → up_in behind i ≡ up_in before i
   pub as_many : length behind ≡ length before
   pub others : (i : ℕ) → i ≢ x → (IsAbove (up_in before) n x i → ⊥) → SaysAsBefore before behind i
@@ -63,21 +63,21 @@ HasReadied mine c x before behind j = ((j ≡ x) × mine c) ⊎ ((counts_ready (
 -- Each record says of its process and by its labels what it said. The process of the record x became ready for such channels, and others with it; beyond the first n forks above it none has, and none of these has a label for a channel for which a child has.
 pub record ReadiesRecords (mine : Channel → Type 0) (n x : ℕ) (before behind : List Record) : Type 0 where
   pub rest : map rest_of behind ≡ map rest_of before
-  pub labels : (c : Channel) (i : ℕ) → leasts_in c behind i ≡ leasts_in c before i
+  pub labels : (c : Channel) (i : ℕ) → min_labels_in c behind i ≡ min_labels_in c before i
   pub counts : (c : Channel) (i : ℕ) → (IsAbove (up_in before) n x i → ⊥) → counts_ready (counts_in c behind i) ≡ true → counts_ready (counts_in c before i) ≡ true
-  pub children : (c : Channel) (i j : ℕ) → up_in before j ≡ Some i → (IsAbove (up_in before) n x i → ⊥) → HasReadied mine c x before behind j → leasts_in c before i ≡ None
+  pub children : (c : Channel) (i j : ℕ) → up_in before j ≡ Some i → (IsAbove (up_in before) n x i → ⊥) → HasReadied mine c x before behind j → min_labels_in c before i ≡ None
 
--- so it is where the process of the record x came where this state stands
-abbrev pub ArrivalWakes : {S : Type 0} → Ops S → S → ℕ → ℕ → List Record → List Record → Type 0
-ArrivalWakes o s n x before behind = ReadiesRecords (λ c. is_next (o.stop s) c ≡ true) n x before behind
+-- so it is where the process of the record x came to the stop of this state
+abbrev pub StopReadies : {S : Type 0} → Ops S → S → ℕ → ℕ → List Record → List Record → Type 0
+StopReadies o s n x before behind = ReadiesRecords (λ c. is_next (o.stop s) c ≡ true) n x before behind
 
--- and so it is where it came from this channel
-abbrev pub MovingWakes : {S : Type 0} → Ops S → S → Channel → ℕ → ℕ → List Record → List Record → Type 0
-MovingWakes o s c n x before behind = ReadiesRecords (λ d. (is_next (o.stop s) d ≡ true) × (d ≢ c)) n x before behind
+-- and so it is where it came there from this channel, for which it hasn't become ready
+abbrev pub MoveReadies : {S : Type 0} → Ops S → S → Channel → ℕ → ℕ → List Record → List Record → Type 0
+MoveReadies o s c n x before behind = ReadiesRecords (λ d. (is_next (o.stop s) d ≡ true) × (d ≢ c)) n x before behind
 
 -- ---- one process after the other
 
 -- No record says anything else than before but that with the number x and those of the forks above it. No state has changed but that with the number x.
-pub record TouchesOne {S : Type 0} (x : ℕ) (before behind : TableView S) : Type 0 where
-  pub records : TouchesRecords most_forks x before.records behind.records
+pub record ChangesOnlyOne {S : Type 0} (x : ℕ) (before behind : TableView S) : Type 0 where
+  pub records : ChangesOnlyRecords most_forks x before.records behind.records
   pub states : (i : ℕ) → i ≢ x → slice_get behind.states i ≡ slice_get before.states i

@@ -7,14 +7,14 @@ ghost use Rattle.shim_semantics.specs.Acts.{nothing, putting, throwing, trapping
 ghost use Rattle.shim_laws_table.specs.Seen.{lives, ends, dies};
 ghost use Rattle.shim_records.specs.Ways.{most_forks};
 ghost use Rattle.shim_process_table.specs.Stepping.{LivesAt};
-ghost use Rattle.shim_process_table.specs.Acting.{IsTrappedAt, ActsHere, status_by_throw, thrown_by, told_of};
-ghost use Rattle.shim_process_table.specs.Listing.{ListingIs};
+ghost use Rattle.shim_process_table.specs.Acting.{IsTrappedAt, ActsAlone, status_by_throw, thrown_by, throw_effects};
+ghost use Rattle.shim_process_table.specs.Queue.{QueueIs};
 
-use crate::acting_gone::leave_tree;
-use crate::arriving::{Arrival, arrive};
 use crate::closing::throw_in;
-use crate::listing::Listing;
 use crate::process_table::ProcessTable;
+use crate::propagating::{Requeue, propagate_stop};
+use crate::queue::Queue;
+use crate::terminating::terminate;
 use shim_local::{Death, Local};
 use shim_records::Status;
 
@@ -50,47 +50,47 @@ fn throw_own<L: Local>(process: &mut L, label: u32) -> Thrown
 impl<L: Local> ProcessTable<L> {
     /// The process with this number, which lives and stands at a `put`, does it. The answer is the byte, or
     /// `None` where the expression traps; it then stands trapped. It says where the process has come, too.
-    pub fn put_here(&mut self, number: u32) -> (Option<u8>, Arrival)
+    pub fn put(&mut self, number: u32) -> (Option<u8>, Requeue)
         requires { LivesAt L.ops self.old number AtPut }
-        ensures acts { ActsHere L.ops result.1.forks number AtPut lives (putting result.0) self.old self.new }
-        ensures listing { ListingIs L.ops self.new number result.1.listing }
+        ensures acts { ActsAlone L.ops result.1.forks number AtPut lives (putting result.0) self.old self.new }
+        ensures queue { QueueIs L.ops self.new number result.1.queue }
     {
         let at = number as usize;
         let byte = self.states[at].put();
-        let arrival = arrive(&self.states[at], &mut self.records, at);
-        (byte, arrival)
+        let to_requeue = propagate_stop(&self.states[at], &mut self.records, at);
+        (byte, to_requeue)
     }
 
     /// The process with this number, which lives and stands at a throw of the exception of this label, throws
     /// it: a handler of its own catches it, or the process dies, or stands trapped. The answer says where it
     /// has come, too.
-    pub fn throw_here(&mut self, number: u32, label: u32) -> (Thrown, Arrival)
+    pub fn throw(&mut self, number: u32, label: u32) -> (Thrown, Requeue)
         requires { LivesAt L.ops self.old number (AtThrow label) }
-        ensures acts { ActsHere L.ops result.1.forks number (AtThrow label) (status_by_throw result.0) (told_of result.0) self.old self.new }
-        ensures listing { ListingIs L.ops self.new number result.1.listing }
+        ensures acts { ActsAlone L.ops result.1.forks number (AtThrow label) (status_by_throw result.0) (throw_effects result.0) self.old self.new }
+        ensures queue { QueueIs L.ops self.new number result.1.queue }
     {
         let at = number as usize;
         let thrown = throw_own(&mut self.states[at], label);
         if let Thrown::Died(death) = thrown {
-            let forks = leave_tree(&self.states[at], Status::Dead(death), &mut self.records, at);
-            let gone = Arrival {
-                listing: Listing::Nowhere,
+            let forks = terminate(&self.states[at], Status::Dead(death), &mut self.records, at);
+            let gone = Requeue {
+                queue: Queue::Neither,
                 // the next fork further up may read these otherwise
                 forks: forks as u64 + 1,
             };
             return (thrown, gone);
         }
-        let arrival = arrive(&self.states[at], &mut self.records, at);
-        (thrown, arrival)
+        let to_requeue = propagate_stop(&self.states[at], &mut self.records, at);
+        (thrown, to_requeue)
     }
 
     /// The process with this number, which lives and stands trapped, dies of the trap.
-    pub fn trap_here(&mut self, number: u32)
+    pub fn trap(&mut self, number: u32)
         requires { IsTrappedAt L.ops self.old number }
-        ensures { (kind : TrapView) (line : ℕ) → LivesAt L.ops self.old number (AtTrap kind line) → ActsHere L.ops (most_forks + 1) number (AtTrap kind line) (dies (death_with 0 (pos 0))) (trapping kind line) self.old self.new }
+        ensures { (kind : TrapView) (line : ℕ) → LivesAt L.ops self.old number (AtTrap kind line) → ActsAlone L.ops (most_forks + 1) number (AtTrap kind line) (dies (death_with 0 (pos 0))) (trapping kind line) self.old self.new }
     {
         let at = number as usize;
-        leave_tree(
+        terminate(
             &self.states[at],
             Status::Dead(Death {
                 label: 0,
@@ -103,11 +103,11 @@ impl<L: Local> ProcessTable<L> {
 
     /// The process with this number, which lives and has nothing left to do, ends. Answers a bound on how many
     /// forks above it have changed records.
-    pub fn finish_here(&mut self, number: u32) -> u32
+    pub fn end_process(&mut self, number: u32) -> u32
         requires { LivesAt L.ops self.old number AtFinish }
-        ensures { ActsHere L.ops (result + 1) number AtFinish ends nothing self.old self.new }
+        ensures { ActsAlone L.ops (result + 1) number AtFinish ends nothing self.old self.new }
     {
         let at = number as usize;
-        leave_tree(&self.states[at], Status::Ended, &mut self.records, at)
+        terminate(&self.states[at], Status::Ended, &mut self.records, at)
     }
 }

@@ -9,15 +9,17 @@ ghost use Rattle.shim_records.specs.Pairs.{stands_of, stands_by, AreOrdered};
 ghost use Rattle.shim_records.specs.declared.record.Record.{Record};
 ghost use Rattle.shim_records.specs.declared.record.Status.TheVariants.{Free};
 ghost use Rattle.shim_records.specs.Ways.{most_forks};
-ghost use Rattle.shim_laws_table_events.specs.closes.Closing.{AreFreed, HasCome, LeavesIf, GivenRecounted, RecountedIf};
-ghost use Rattle.shim_process_table.specs.Closing.{CanClose, ClosesHere, status_by_close, HasJoined, TakesBack, ClosesRecord};
+ghost use Rattle.shim_laws_table_events.specs.closes.Closing.{AreFreed, HasCome, CountsOffIfOver, GivenRecounted, RecountedIf};
+ghost use Rattle.shim_process_table.specs.Closing.{CanClose, ClosesAt, EndsInUse, status_by_close, HasJoined, TakesBack, ClosesRecord};
 ghost use Rattle.shim_process_table.specs.Acting.{thrown_by};
-ghost use Rattle.shim_process_table.specs.Touching.{TouchesRecords};
+ghost use Rattle.shim_process_table.specs.Touching.{ChangesOnlyRecords};
 
 use crate::acting::Thrown;
 use crate::process_table::ProcessTable;
 use shim_local::{Death, Local};
-use shim_records::{Record, Status, fork_size, is_free, leave, recount, update_all_counts};
+use shim_records::{
+    Record, Status, count_off, fork_size, is_free, recompute_min_labels, update_all_counts,
+};
 
 /// What came of a process whose fork has closed.
 #[derive(Clone, Copy, Debug, PartialEq, Eq)]
@@ -113,7 +115,7 @@ pub(crate) fn throw_in<L: Local>(process: &mut L, death: Death) -> Thrown
 }
 
 // The process takes back its children's values. Where any died, the exception of the prevailing death is thrown in it.
-fn take_back<L: Local>(
+fn join_and_throw<L: Local>(
     states: &mut Vec<L>,
     parent: usize,
     first: usize,
@@ -154,17 +156,17 @@ fn come_to(parent: &mut Record, status: Status)
 }
 
 // A process that has ended or died goes on no more.
-fn leave_if(records: &mut Vec<Record>, at: usize, status: Status)
-    ensures { LeavesIf (process_status_of status) at records.old.items records.new.items }
+fn count_off_if_over(records: &mut Vec<Record>, at: usize, status: Status)
+    ensures { CountsOffIfOver (process_status_of status) at records.old.items records.new.items }
 {
     match status {
-        Status::Free | Status::Ended | Status::Dead(_) => leave(records, at),
+        Status::Free | Status::Ended | Status::Dead(_) => count_off(records, at),
         Status::Live | Status::Forked(_) => {}
     }
 }
 
 // Reads the labels above a process off again, for each channel that it was given and shares.
-fn recount_all<L: Local>(states: &[L], records: &mut Vec<Record>, at: usize, forks: u32)
+fn recompute_all<L: Local>(states: &[L], records: &mut Vec<Record>, at: usize, forks: u32)
     requires ordered { AreOrdered records.old.items }
     requires few { (s : L) → slice_get states.now at ≡ Some s → length (L.ops.given s) ≤ 18446744073709551615 }
     requires inside { at < length states.now }
@@ -176,7 +178,7 @@ fn recount_all<L: Local>(states: &[L], records: &mut Vec<Record>, at: usize, for
             None => return,
             Some(chan) => {
                 if process.shares(chan) {
-                    recount(states, records, at, chan, forks);
+                    recompute_min_labels(states, records, at, chan, forks);
                 }
             }
         }
@@ -185,7 +187,7 @@ fn recount_all<L: Local>(states: &[L], records: &mut Vec<Record>, at: usize, for
 
 // Reads the labels above a process off again where a child died so; where none did there is no label
 // to take away. It answers how many forks that concerns, at most.
-fn recount_if<L: Local>(
+fn recompute_if<L: Local>(
     states: &[L],
     records: &mut Vec<Record>,
     at: usize,
@@ -195,12 +197,12 @@ fn recount_if<L: Local>(
     requires few { (s : L) → slice_get states.now at ≡ Some s → length (L.ops.given s) ≤ 18446744073709551615 }
     requires inside { at < length states.now }
     ensures recounts { (s : L) → slice_get states.now at ≡ Some s → RecountedIf death L.ops states.now s most_forks at records.old.items records.new.items }
-    ensures touches { TouchesRecords result at records.old.items records.new.items }
+    ensures touches { ChangesOnlyRecords result at records.old.items records.new.items }
 {
     match death {
         None => 0,
         Some(_) => {
-            recount_all(states, records, at, u32::MAX);
+            recompute_all(states, records, at, u32::MAX);
             u32::MAX
         }
     }
@@ -221,13 +223,13 @@ fn close_record<L: Local>(
     requires of_record { at < length records.old.items }
     requires status { status ≢ Free }
     ensures closes { ClosesRecord L.ops states.now at status death records.old.items records.new.items }
-    ensures touches { TouchesRecords result at records.old.items records.new.items }
+    ensures touches { ChangesOnlyRecords result at records.old.items records.new.items }
 {
     come_to(&mut records[at], status);
-    leave_if(records, at, status);
+    count_off_if_over(records, at, status);
     let counted = update_all_counts(&states[at], status, records, at, u32::MAX);
-    let labelled = recount_if(states, records, at, death);
-    // where the process has left, its fork has one less that goes on, though no child may have died
+    let labelled = recompute_if(states, records, at, death);
+    // if the process has ended or died, its fork has one child less that goes on, though no child may have died
     labelled.max(counted).max(1)
 }
 
@@ -246,7 +248,9 @@ fn status_after(outcome: CloseOutcome) -> Status
 
 // How many records there are without the free ones at the end.
 fn used_end(records: &[Record]) -> usize
-    ensures { (i : ℕ) (r : Record) → result ≤ i → slice_get records.now i ≡ Some r → stands_of r ≡ free }
+    ensures free { (i : ℕ) (r : Record) → result ≤ i → slice_get records.now i ≡ Some r → stands_of r ≡ free }
+    ensures used { (i : ℕ) (r : Record) → result ≡ i + 1 → slice_get records.now i ≡ Some r → stands_of r ≢ free }
+    ensures inside { result ≤ length records.now }
 {
     let mut end = records.len();
     while end > 0 {
@@ -263,15 +267,16 @@ impl<L: Local> ProcessTable<L> {
     /// children's values, and goes on behind the fork, or the exception of the prevailing death of its
     /// children is thrown in it. The children's records are free, and those at the end are cut off. The answer says
     /// how many forks above the process say something else now, too, at most. It takes no memory.
-    pub fn close_here(&mut self, number: u32) -> (CloseOutcome, u32)
+    pub fn close(&mut self, number: u32) -> (CloseOutcome, u32)
         requires { CanClose self.old number }
-        ensures { ClosesHere L.ops result.1 number result.0 self.old self.new }
+        ensures closes { ClosesAt L.ops result.1 number result.0 self.old self.new }
+        ensures end_in_use { EndsInUse self.new }
     {
         let at = number as usize;
         let first = self.records[at].first;
         let count = fork_size(self.records[at].status);
         let death = prevailing_death(self.records.as_slice(), first as usize, count as usize);
-        let outcome = take_back(&mut self.states, at, first as usize, count as usize, death);
+        let outcome = join_and_throw(&mut self.states, at, first as usize, count as usize, death);
         free_children(&mut self.records, first as usize, count as usize);
         self.free.give_back(first, count);
         let status = status_after(outcome);

@@ -8,7 +8,7 @@ ghost use Rattle.shim_laws_table_events.specs.meetings.Descents.{numbers_of_leng
 ghost use Rattle.shim_process_table.specs.Descent.{numbers_of_block, ahead_of, children_by, IsSharer, DescendsOn};
 ghost use Rattle.shim_process_table.specs.Planning.{forked_into, PlansOn, KnowledgeAt, IsSourceOf};
 ghost use Rattle.shim_records.specs.Pairs.{chans_of, known_of, known_for, IsOrdered};
-ghost use Rattle.shim_process_table.specs.Reading.{AreInUse};
+ghost use Rattle.shim_process_table.specs.Lookups.{AreInUse};
 
 use crate::process_table::ProcessTable;
 use shim_base::{Chan, NoMemory};
@@ -60,7 +60,7 @@ impl Sharers {
     }
 }
 
-// How many children it has of which this came; none where the record is free.
+// How many children a process has whose record has this status; none where the record is free.
 fn children_of(status: Status) -> Option<u32>
     ensures { result ≡ children_by status }
 {
@@ -79,7 +79,7 @@ struct Knowledge {
     sharing: Sharing,
 }
 
-// Into how many it has forked of which this came, if it has.
+// Into how many a process has forked whose record has this status, if it has.
 fn forked_into(status: Status) -> Option<u32>
     ensures { result ≡ forked_into status }
 {
@@ -133,8 +133,8 @@ fn put_ahead(ahead: &mut Vec<Block>, first: usize, count: usize) -> Result<(), N
 }
 
 impl<L: Local> ProcessTable<L> {
-    /// Finds the processes at and below this one that share the channel, whatever came of them. The process
-    /// itself has to share it.
+    /// Finds the processes at and below this one that share the channel, whatever came of them. If the
+    /// process itself doesn't share it, no clause says which are found.
     pub fn sharers(&self, number: u32, c: &Chan, sharers: &mut Sharers) -> Result<(), NoMemory>
         ensures lists { OnOk result (ListsSharers L.ops self.now c.now.channel number sharers.new) }
         ensures used { OnOk result (AreInUse self.now sharers.new) }
@@ -153,8 +153,8 @@ impl<L: Local> ProcessTable<L> {
         Err(NoMemory)
     }
 
-    /// What a meeting of the channel wants, whose home has this number: processes among which are all that stand at
-    /// it, each once, and the value of its source, which is the answer. Forks know below which children to look,
+    /// What an enabled meeting of the channel wants, whose home has this number: processes among which are all that
+    /// stand at it, each once, and the value of its source, which is the answer. Forks know below which children to look,
     /// so nobody is asked who shares the channel.
     pub fn plan_meeting(
         &self,

@@ -1,7 +1,7 @@
 // What can happen at a process, by its record and those of its children.
 ghost use Rattle.std.specs.Prelude.{◌≡◌, ◌≢◌, ℕ, true, false, Some, slice_get};
 ghost use Rattle.shim_laws_table.specs.Seen.{lives};
-ghost use Rattle.shim_laws_table.specs.Counts.{all_there};
+ghost use Rattle.shim_laws_table.specs.Counts.{tally_ready};
 ghost use Rattle.shim_records.specs.Pairs.{tally, AreOrdered};
 ghost use Rattle.shim_records.specs.declared.record.Status.TheVariants.{Forked};
 ghost use Rattle.shim_laws_table_events.specs.keeping.Tables.{TableView, HasProcessState};
@@ -11,7 +11,7 @@ use crate::looking::doomed;
 use crate::process_table::ProcessTable;
 use shim_base::{Chan, Trap};
 use shim_local::{Local, Stop};
-use shim_records::{Pair, Record, Status, has_all};
+use shim_records::{Pair, Record, Status, tally_ready};
 
 /// What can happen at a process, other than a quiet step.
 #[derive(Clone, Copy, Debug, PartialEq, Eq)]
@@ -69,10 +69,10 @@ fn due_alone<L: Local>(process: &L) -> Due
 
 // Whether all are there who share the channel of a pair of this process's fork, which declared it.
 fn can_meet<L: Local>(process: &L, pair: &Pair) -> bool
-    ensures met { result ≡ true → (L.ops.path process.now ≡ pair.now.chan.channel.home) × (all_there (tally pair.now) ≡ true) }
-    ensures not_met { result ≡ false → L.ops.path process.now ≡ pair.now.chan.channel.home → all_there (tally pair.now) ≡ false }
+    ensures met { result ≡ true → (L.ops.path process.now ≡ pair.now.chan.channel.home) × (tally_ready (tally pair.now) ≡ true) }
+    ensures not_met { result ≡ false → L.ops.path process.now ≡ pair.now.chan.channel.home → tally_ready (tally pair.now) ≡ false }
 {
-    if has_all(pair) {
+    if tally_ready(pair) {
         declares(process, &pair.chan)
     } else {
         false
@@ -90,7 +90,7 @@ fn due_below<L: Local>(
     requires { AreOrdered records.now }
     ensures { (i : ℕ) → slice_get states.now i ≡ Some process.now → slice_get records.now i ≡ Some fork.now → fork.now.status ≡ Forked count → DueIs L.ops (record { states = states.now; records = records.now }) i result }
 {
-    if fork.going == 0 {
+    if fork.running_children == 0 {
         return Due::Close;
     }
     for place in 0..fork.pairs.len() {

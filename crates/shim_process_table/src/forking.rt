@@ -3,21 +3,21 @@ ghost use Rattle.std.specs.Prelude.{◌≡◌, ◌≢◌, ◌≤◌, ◌<◌, �
 ghost use Rattle.shim_local.specs.Process.{AtFork};
 ghost use Rattle.shim_laws_table.specs.Seen.{lives, forks};
 ghost use Rattle.shim_laws_table.specs.Agrees.{free, used};
-ghost use Rattle.shim_laws_table.specs.Counts.{all_there};
-ghost use Rattle.shim_records.specs.Pairs.{tally, reading_of, stands_of, AreOrdered};
+ghost use Rattle.shim_laws_table.specs.Counts.{tally_ready};
+ghost use Rattle.shim_records.specs.Pairs.{tally, child_status_of, stands_of, AreOrdered};
 ghost use Rattle.shim_records.specs.Fresh.{channels};
 ghost use Rattle.shim_records.specs.Blocks.{with_block};
 ghost use Rattle.shim_records.specs.Ways.{most_forks};
 ghost use Rattle.shim_laws_table_events.specs.forks.Forking.{IsOfChild, FitsRecords, AreOfChildren, ready_chans, EachUpdatedAbove, ForksAt};
 ghost use Rattle.shim_process_table.specs.Forking.{ForksHere, ForkedTo, ForkComesTo, forked_count, IsFreeBlock};
 ghost use Rattle.shim_process_table.specs.Stepping.{LivesAt};
-ghost use Rattle.shim_process_table.specs.Touching.{TouchesForking, TouchesRecords};
+ghost use Rattle.shim_process_table.specs.Touching.{ChangesOnlyForking, ChangesOnlyRecords};
 
 use crate::process_table::ProcessTable;
 use shim_base::{Chan, NoMemory};
 use shim_local::{Forked, Local};
 use shim_records::{
-    Pair, Record, Status, fork_pairs, has_all, is_free, live_reading, put_block,
+    Pair, Record, Status, fork_pairs, is_free, live_child_status, put_block, tally_ready,
     update_counts_above,
 };
 use std::alloc::Global;
@@ -93,7 +93,7 @@ fn child_record<L: Local>(alloc: Global, parent: u32, child: &L) -> Result<Recor
         first: 0,
         parent: Some(parent),
         path,
-        going: 0,
+        running_children: 0,
         pairs: Vec::new(alloc),
     })
 }
@@ -115,9 +115,9 @@ fn child_records<L: Local>(
 
 // Puts the pair's channel behind the others, if a fork with its counts is ready.
 fn add_ready(pair: &Pair, chans: &mut Vec<Chan>) -> Result<(), NoMemory>
-    ensures { OnOk result (channels chans.new.items ≡ channels chans.old.items ++ cond (all_there (tally pair.now)) (pair.now.chan.channel ∷ []) []) }
+    ensures { OnOk result (channels chans.new.items ≡ channels chans.old.items ++ cond (tally_ready (tally pair.now)) (pair.now.chan.channel ∷ []) []) }
 {
-    if has_all(pair) {
+    if tally_ready(pair) {
         chans.push(pair.chan.copy()?)?;
     }
     Ok(())
@@ -134,12 +134,12 @@ fn ready(alloc: Global, pairs: &[Pair]) -> Result<Vec<Chan>, NoMemory>
     Ok(chans)
 }
 
-// Goes the way up from the record for each of these channels, of a process that wasn't ready on it and is. The
+// Updates the counts above the record for each of these channels, of a process that wasn't ready on it and is. The
 // answer is a number of forks beyond which no counts have changed, perhaps more than need be.
 fn update_ready(records: &mut Vec<Record>, at: usize, chans: &[Chan]) -> u32
     requires { AreOrdered records.old.items }
     ensures ways { EachUpdatedAbove most_forks at (channels chans.now) records.old.items records.new.items }
-    ensures touches { TouchesRecords result at records.old.items records.new.items }
+    ensures touches { ChangesOnlyRecords result at records.old.items records.new.items }
 {
     let mut furthest: u32 = 0;
     for i in 0..chans.len() {
@@ -147,8 +147,8 @@ fn update_ready(records: &mut Vec<Record>, at: usize, chans: &[Chan]) -> u32
             records,
             at,
             &chans[i],
-            live_reading(false),
-            live_reading(true),
+            live_child_status(false),
+            live_child_status(true),
             u32::MAX,
         );
         furthest = furthest.max(reached);
@@ -200,12 +200,12 @@ fn note_fork(parent: &mut Record, first: u32, count: u32, pairs: Vec<Pair>)
     ensures forked { stands_of parent.new ≡ used first (forks count) }
     ensures parent { parent.new.parent ≡ parent.old.parent }
     ensures path { parent.new.path ≡ parent.old.path }
-    ensures going { parent.new.going ≡ count }
+    ensures running_children { parent.new.running_children ≡ count }
     ensures pairs { parent.new.pairs.items ≡ pairs.items }
 {
     parent.status = Status::Forked(count);
     parent.first = first;
-    parent.going = count;
+    parent.running_children = count;
     parent.pairs = pairs;
 }
 
@@ -223,7 +223,7 @@ fn put_fork<L: Local>(
     requires ordered { AreOrdered records.old.items }
     ensures ok { IfOk result (λ put. ForksAt L.ops fork.number put.first fork.parent fork.children.items (record { states = states.old.items; records = records.old.items }) (record { states = states.new.items; records = records.new.items })) }
     ensures fits { IfOk result (λ put. put.first + length fork.children.items ≤ 4294967295) }
-    ensures touches { IfOk result (λ put. TouchesForking put.forks fork.number put.first (length fork.children.items) (record { states = states.old.items; records = records.old.items }) (record { states = states.new.items; records = records.new.items })) }
+    ensures touches { IfOk result (λ put. ChangesOnlyForking put.forks fork.number put.first (length fork.children.items) (record { states = states.old.items; records = records.old.items }) (record { states = states.new.items; records = records.new.items })) }
     ensures err { OnErr result ((states.new.items ≡ states.old.items) × (records.new.items ≡ records.old.items)) }
 {
     let Parted {

@@ -4,29 +4,29 @@
 #![tactic(auto)]
 
 mod acting;
-mod acting_gone;
-mod arriving;
 mod closing;
 mod descent;
 mod due;
 mod forking;
 mod free_blocks;
 mod lending;
-mod listing;
 mod looking;
+mod lookups;
 mod meeting;
 mod naming;
 mod poisoning;
 mod process_table;
-mod reading;
+mod propagating;
+mod queue;
+mod queues;
 mod stepping;
-mod waking;
+mod terminating;
 
 pub use acting::Thrown;
-pub use arriving::Arrival;
 pub use closing::CloseOutcome;
 pub use descent::Sharers;
 pub use due::Due;
 pub use forking::{Fork, ForkOutcome};
-pub use listing::Listing;
 pub use process_table::ProcessTable;
+pub use propagating::Requeue;
+pub use queue::Queue;

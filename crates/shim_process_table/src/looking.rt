@@ -6,7 +6,7 @@ ghost use Rattle.shim_process_table.specs.Due.{ready_at, ReadyAmong, DoomedAmong
 
 use shim_base::Chan;
 use shim_local::Local;
-use shim_records::{Pair, Record, Status, has_all, is_at_channel, place_in};
+use shim_records::{Pair, Record, Status, is_at_channel, place_in, tally_ready};
 
 // Whether all are there by the counts that a fork has for the channel.
 fn counts_all(fork: &Record, c: &Chan) -> bool
@@ -15,7 +15,7 @@ fn counts_all(fork: &Record, c: &Chan) -> bool
 {
     match place_in(fork.pairs.as_slice(), c) {
         None => false,
-        Some(place) => has_all(&fork.pairs[place]),
+        Some(place) => tally_ready(&fork.pairs[place]),
     }
 }
 
@@ -80,7 +80,7 @@ pub(crate) fn doomed<L: Local>(
     requires { AreOrdered records.now }
     ensures { DoomedAmong L.ops states.now records.now process.now first count pair.now result }
 {
-    if is_low(pair.least, process) {
+    if is_low(pair.min_dead_label, process) {
         first_ready(states, records, first, count, &pair.chan)
     } else {
         None

@@ -7,15 +7,17 @@ ghost use Rattle.shim_laws_table_events.specs.keeping.Tables.{TableView, HasProc
 ghost use Rattle.shim_laws_table_events.specs.meetings.Receiving.{MovesOn};
 ghost use Rattle.shim_laws_table_events.specs.meetings.Meetings.{ReceivesOne};
 ghost use Rattle.shim_process_table.specs.Meeting.{WaitsAt, LeavesChannel, ReceivesHere};
-ghost use Rattle.shim_process_table.specs.Listing.{ListingIs};
-ghost use Rattle.shim_process_table.specs.Touching.{MovingWakes};
+ghost use Rattle.shim_process_table.specs.Queue.{QueueIs};
+ghost use Rattle.shim_process_table.specs.Touching.{MoveReadies};
 
-use crate::arriving::Arrival;
-use crate::listing::{Listing, listing_at};
 use crate::process_table::ProcessTable;
+use crate::propagating::Requeue;
+use crate::queue::{Queue, queue_at};
 use shim_base::Chan;
 use shim_local::{Local, Stop};
-use shim_records::{Record, arrive_above, is_at_channel, live_reading, update_counts_above};
+use shim_records::{
+    Record, is_at_channel, live_child_status, propagate_stop_above, update_counts_above,
+};
 
 // Brings the counts above a process up to date that stood at the channel and stands there no more. No fork
 // becomes ready by that.
@@ -28,41 +30,41 @@ fn leave_channel(c: &Chan, records: &mut Vec<Record>, at: usize)
         records,
         at,
         c,
-        live_reading(true),
-        live_reading(false),
+        live_child_status(true),
+        live_child_status(false),
         u32::MAX,
     );
 }
 
 // Brings the counts above a process up to date that stood at the channel and has received there. It answers
 // where the process has come.
-fn move_on<L: Local>(process: &L, c: &Chan, records: &mut Vec<Record>, at: usize) -> Arrival
+fn move_on<L: Local>(process: &L, c: &Chan, records: &mut Vec<Record>, at: usize) -> Requeue
     requires { AreOrdered records.old.items }
     ensures moves { MovesOn L.ops process.now c.now.channel most_forks at records.old.items records.new.items }
-    ensures wakes { MovingWakes L.ops process.now c.now.channel result.forks at records.old.items records.new.items }
-    ensures listing { (v : TableView L) (i f : ℕ) → HasProcessState v i f process.now lives → ListingIs L.ops v i result.listing }
+    ensures newly_ready { MoveReadies L.ops process.now c.now.channel result.forks at records.old.items records.new.items }
+    ensures queue { (v : TableView L) (i f : ℕ) → HasProcessState v i f process.now lives → QueueIs L.ops v i result.queue }
 {
     match process.stop() {
         Stop::Next(chan) => {
-            let listing = listing_at(process, chan);
+            let queue = queue_at(process, chan);
             if *c == *chan {
-                return Arrival { listing, forks: 0 };
+                return Requeue { queue, forks: 0 };
             }
             leave_channel(c, records, at);
-            let forks = arrive_above(records, at, chan);
-            Arrival { listing, forks }
+            let forks = propagate_stop_above(records, at, chan);
+            Requeue { queue, forks }
         }
         Stop::Quiet => {
             leave_channel(c, records, at);
-            Arrival {
-                listing: Listing::Quiet,
+            Requeue {
+                queue: Queue::Ready,
                 forks: 0,
             }
         }
         Stop::Put | Stop::Fork | Stop::Finish | Stop::Throw(_) | Stop::Trapped(_, _) => {
             leave_channel(c, records, at);
-            Arrival {
-                listing: Listing::Awake,
+            Requeue {
+                queue: Queue::Event,
                 forks: 0,
             }
         }
@@ -73,7 +75,7 @@ impl<L: Local> ProcessTable<L> {
     /// The process with this number receives the value of a meeting of the channel, if it lives and stands at
     /// it, and the answer says where it has come; `None` where it doesn't, and then nothing changes. It takes
     /// no memory.
-    pub fn receive(&mut self, number: u32, c: &Chan, v: i64) -> Option<Arrival>
+    pub fn receive(&mut self, number: u32, c: &Chan, v: i64) -> Option<Requeue>
         ensures receives { ReceivesOne L.ops c.now.channel v number self.old self.new }
         ensures here { ReceivesHere L.ops c.now.channel v number result self.old self.new }
     {
@@ -82,8 +84,8 @@ impl<L: Local> ProcessTable<L> {
             return None;
         }
         self.states[at].receive(v);
-        let arrival = move_on(&self.states[at], c, &mut self.records, at);
-        Some(arrival)
+        let to_requeue = move_on(&self.states[at], c, &mut self.records, at);
+        Some(to_requeue)
     }
 
     // Whether the process with this number lives and stands at the channel.

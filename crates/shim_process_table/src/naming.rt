@@ -30,7 +30,7 @@ fn name_of<L: Local>(process: &L, c: &Chan) -> Option<u32>
 impl<L: Local> ProcessTable<L> {
     /// The name that a meeting of the channel brings whose home has this number, if it is the first one: that
     /// of the first process which stands at the channel, on a walk from the root with leftmost children first.
-    pub fn name_here(&self, number: u32, c: &Chan, sharers: &Sharers) -> u32
+    pub fn meeting_name(&self, number: u32, c: &Chan, sharers: &Sharers) -> u32
         requires home { Declares L.ops self.now number c.now.channel }
         requires enabled { IsEnabled L.ops (Meet c.now.channel) self.now }
         requires sharers { ListsSharers L.ops self.now c.now.channel number sharers.now }

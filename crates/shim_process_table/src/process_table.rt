@@ -2,7 +2,7 @@
 ghost use Rattle.std.specs.Prelude.{◌≡◌, [], ◌∷◌, IfOk};
 ghost use Rattle.shim_semantics.specs.Nodes.{Live};
 ghost use Rattle.shim_semantics.specs.Sound.{SharesItsOwn};
-ghost use Rattle.shim_laws_table_events.specs.keeping.Tables.{Keeps, IsOfRoot};
+ghost use Rattle.shim_laws_table_events.specs.keeping.Tables.{TableInvariant, IsOfRoot};
 
 use crate::free_blocks::FreeBlocks;
 use shim_base::NoMemory;
@@ -21,13 +21,13 @@ pub struct ProcessTable<L: Local> {
 }
 
 impl<L: Local> Model for ProcessTable<L> {
-    ghost use Rattle.shim_laws_table_events.specs.keeping.Tables.{TableView, IsKept};
+    ghost use Rattle.shim_laws_table_events.specs.keeping.Tables.{TableView, HasTableInvariant};
 
     ghost Value = { TableView L };
 
     ghost view = { λ f. record { states = f.states.items; records = f.records.items } };
 
-    ghost invariant = { λ f. IsKept L.ops (record { states = f.states.items; records = f.records.items }) };
+    ghost invariant = { λ f. HasTableInvariant L.ops (record { states = f.states.items; records = f.records.items }) };
 }
 
 impl<L: Local> ProcessTable<L> {
@@ -36,7 +36,7 @@ impl<L: Local> ProcessTable<L> {
     pub fn start(alloc: Global, root: L) -> Result<ProcessTable<L>, NoMemory>
         requires path { L.ops.path root ≡ [] }
         requires own { SharesItsOwn L.ops root }
-        ensures shows { IfOk result (λ table. Keeps L.ops [] table (Live root)) }
+        ensures represents { IfOk result (λ table. TableInvariant L.ops [] table (Live root)) }
         ensures states { IfOk result (λ table. table.states ≡ root ∷ []) }
     {
         let record = root_record(alloc, &root)?;
@@ -63,7 +63,7 @@ fn root_record<L: Local>(alloc: Global, root: &L) -> Result<Record, NoMemory>
         first: 0,
         parent: None,
         path,
-        going: 0,
+        running_children: 0,
         pairs: Vec::new(alloc),
     })
 }

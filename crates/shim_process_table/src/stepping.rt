@@ -1,12 +1,12 @@
 // Quiet steps in place.
 ghost use Rattle.std.specs.Prelude.{◌≡◌, ◌≢◌, ◌≤◌, ◌<◌, ℕ, true, false};
 ghost use Rattle.shim_local.specs.Process.{AtQuiet};
-ghost use Rattle.shim_process_table.specs.Stepping.{LivesAt, StepsHere, QuietlyReaches, is_live, IsLive, IsBeforeQuiet};
-ghost use Rattle.shim_process_table.specs.Touching.{WakesAbove};
-ghost use Rattle.shim_process_table.specs.Listing.{ListingIs};
+ghost use Rattle.shim_process_table.specs.Stepping.{LivesAt, StepsAt, QuietlyReaches, is_live, IsLive, IsBeforeQuiet};
+ghost use Rattle.shim_process_table.specs.Touching.{ReadiesAbove};
+ghost use Rattle.shim_process_table.specs.Queue.{QueueIs};
 
-use crate::arriving::{Arrival, arrive};
 use crate::process_table::ProcessTable;
+use crate::propagating::{Requeue, propagate_stop};
 use shim_local::{Local, Quiet, Stop};
 use shim_records::Status;
 
@@ -26,7 +26,7 @@ fn is_quiet<L: Local>(process: &L) -> bool
     }
 }
 
-// Whether it lives of which this came.
+// Whether a process with this status lives.
 fn lives_on(status: Status) -> bool
     ensures { result ≡ is_live status }
 {
@@ -40,31 +40,31 @@ impl<L: Local> ProcessTable<L> {
     /// The process with this number, which lives and stands before a quiet step, does up to `most` of them in
     /// place, and fewer only where it comes to another stop, or memory is wanted. The answer says where it has
     /// come, too.
-    pub fn step_here(&mut self, number: u32, most: u64) -> (Quiet, Arrival)
+    pub fn step(&mut self, number: u32, most: u64) -> (Quiet, Requeue)
         requires { LivesAt L.ops self.old number AtQuiet }
-        ensures steps { StepsHere L.ops number result.0.taken self.old self.new }
+        ensures steps { StepsAt L.ops number result.0.taken self.old self.new }
         ensures most { result.0.taken ≤ most }
-        ensures wakes { WakesAbove L.ops result.1.forks number self.old self.new }
-        ensures listing { ListingIs L.ops self.new number result.1.listing }
+        ensures newly_ready { ReadiesAbove L.ops result.1.forks number self.old self.new }
+        ensures queue { QueueIs L.ops self.new number result.1.queue }
         ensures fewer { result.0.taken < most → result.0.short ≡ false → IsBeforeQuiet L.ops number self.new false }
     {
         let at = number as usize;
         let quiet = self.states[at].quiet(most);
-        let arrival = arrive(&self.states[at], &mut self.records, at);
-        (quiet, arrival)
+        let to_requeue = propagate_stop(&self.states[at], &mut self.records, at);
+        (quiet, to_requeue)
     }
 
     /// The process with this number, which lives and stands before a quiet step, did so many of them
     /// elsewhere as lead to this state. The answer says where it has come. It takes no memory.
-    pub fn advance_here(&mut self, number: u32, last: L) -> Arrival
+    pub fn advance(&mut self, number: u32, last: L) -> Requeue
         requires comes { (taken : ℕ) × QuietlyReaches L.ops self.old number taken last }
-        ensures steps { (taken : ℕ) → QuietlyReaches L.ops self.old number taken last → StepsHere L.ops number taken self.old self.new }
-        ensures wakes { WakesAbove L.ops result.forks number self.old self.new }
-        ensures listing { ListingIs L.ops self.new number result.listing }
+        ensures steps { (taken : ℕ) → QuietlyReaches L.ops self.old number taken last → StepsAt L.ops number taken self.old self.new }
+        ensures newly_ready { ReadiesAbove L.ops result.forks number self.old self.new }
+        ensures queue { QueueIs L.ops self.new number result.queue }
     {
         let at = number as usize;
         self.states[at] = last;
-        arrive(&self.states[at], &mut self.records, at)
+        propagate_stop(&self.states[at], &mut self.records, at)
     }
 
     /// Whether the process with this number lives and has a quiet step to do. It takes no memory.

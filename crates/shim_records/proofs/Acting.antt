@@ -11,24 +11,24 @@ use Rattle.shim_semantics.specs.Sound.{IsSound}
 use Rattle.shim_semantics.proofs.Replaced.{sound_at}
 use Rattle.shim_semantics.proofs.SoundEvents.{here_keeps}
 use Rattle.shim_laws_table.specs.Seen.{ProcessStatus, process_status, seen, is_leaf, place}
-use Rattle.shim_laws_table.specs.Agrees.{RecordView, Has, Shows}
+use Rattle.shim_laws_table.specs.Agrees.{RecordView, Has, Represents}
 use Rattle.shim_laws_table.specs.Places.{IsReplaced}
-use Rattle.shim_laws_table.specs.Counts.{Tally, Reading as Read, reading}
+use Rattle.shim_laws_table.specs.Counts.{Tally, ChildStatus as Read, child_status}
 use Rattle.shim_laws_table.specs.Tallied.{Tallied, OnTheWay, HaveCounts, is_above}
 use Rattle.shim_laws_table.specs.Updating.{AreLinked, AreAtMost, UpdatedAbove, too_far, at_top, no_counts, stays, goes_on}
-use Rattle.shim_laws_table.specs.Sufficing.{read_leaf}
+use Rattle.shim_laws_table.specs.Sufficing.{leaf_status}
 use Rattle.shim_laws_table.proofs.Way.{above_its_own}
 use Rattle.shim_laws_table.proofs.Brought.{counts_follow}
 use Rattle.shim_laws_table.proofs.Foreign.{foreign_stays}
 use Rattle.shim_laws_table.proofs.Hanging.{tied, counts_share, none_above}
 use Rattle.shim_laws_table.proofs.Suffices.{below_or_not, given_suffice, actors_are_read}
 use Rattle.shim_records.specs.Pairs.{counts_in, up_in, rest_of, stands_of}
-use Rattle.shim_records.specs.Acted.{acting, ActedBrings}
-use Rattle.shim_records.proofs.ManyWays.{rest_same, others, its_way, among_or_not}
+use Rattle.shim_records.specs.Acted.{acting, StepUpdatesCounts}
+use Rattle.shim_records.proofs.ManyPropagations.{rest_same, others, its_way, among_or_not}
 use Rattle.shim_records.proofs.ReadOff.{same_stands}
 
 module _ {S : Type 0} (o : Ops S) (law : LocalLaws o) (rp : Path) (states : List S) (stands : List RecordView) (up : ℕ → Option ℕ) (c : Channel) (old new m : Node S) (a : Acted S) (n x f : ℕ) (s : S) (k : ProcessStatus)
-    (sound : IsSound o old) (shown : Shows o rp states stands new) (linked : AreLinked states stands up) (few : AreAtMost 4294967295 states stands)
+    (sound : IsSound o old) (shown : Represents o rp states stands new) (linked : AreLinked states stands up) (few : AreAtMost 4294967295 states stands)
     (has : Has states stands x f s k) (rep : IsReplaced (place o rp s) m a.node old new) (acts : act_here o m ≡ Some a) (leaf : is_leaf a.node ≡ true) where
   -- its state and status are what the record says
   is_seen : ◌≡◌ {A = S × ProcessStatus} (state a.node, process_status a.node) (s, k)
@@ -44,14 +44,14 @@ module _ {S : Type 0} (o : Ops S) (law : LocalLaws o) (rp : Path) (states : List
   same_path = sym ((here_keeps o law m a (sound_at o (place o rp s) old m sound.below rep.was) acts).follows.path) ∙ ap o.path its_state
 
   -- what is read of it, of a channel of others
-  pub was_read : ((r : Path) → c.home ≢ o.path s ++ r) → reading o c m ≡ acting o s c
+  pub was_read : ((r : Path) → c.home ≢ o.path s ++ r) → child_status o c m ≡ acting o s c
   was_read out =
       let far : c.home ≢ o.path (state m) = λ e. out [] (e ∙ (same_path ∙ sym (append-nil (o.path s)))) in
       let shares = sym ((foreign_stays o law).shares old m (place o rp s) a c sound rep.was acts far) ∙ ap (λ z. o.shares z c) its_state in
-      (actors_are_read o).before c m a acts ∙ ap {B = Read} (λ b. record { joining = b; readiness = false; failing = false }) shares
+      (actors_are_read o).before c m a acts ∙ ap {B = Read} (λ b. record { alive = b; ready_on = false; dead_on = false }) shares
 
-  pub is_read : reading o c a.node ≡ read_leaf o c s k
-  is_read = (actors_are_read o).behind c a.node leaf ∙ (λ i. read_leaf o c (its_state i) (its_sort i))
+  pub is_read : child_status o c a.node ≡ leaf_status o c s k
+  is_read = (actors_are_read o).behind c a.node leaf ∙ (λ i. leaf_status o c (its_state i) (its_sort i))
 
   -- no fork above counts a channel of its own
   uncounted : (counts : ℕ → Option Tally) → HaveCounts o rp states stands c counts new → (r : Path) → c.home ≡ o.path s ++ r → (j : ℕ) (y : Tally) → up x ≡ Some j → counts j ≡ Some y → ⊥
@@ -73,18 +73,18 @@ module _ {S : Type 0} (o : Ops S) (law : LocalLaws o) (rp : Path) (states : List
   Both counts = Tallied o rp states stands c counts new × HaveCounts o rp states stands c counts new
 
   pub updated_one : (before behind : ℕ → Option Tally) → length (place o rp s) ≤ n → o.shares s c ≡ true → HaveCounts o rp states stands c before new → OnTheWay o rp states stands c before old new (place o rp s)
-      → UpdatedAbove up 4294967295 n before x (acting o s c) (read_leaf o c s k) behind → Both behind
+      → UpdatedAbove up 4294967295 n before x (acting o s c) (leaf_status o c s k) behind → Both behind
   updated_one before behind far shares have way updated = elim (below_or_not (o.path s) c.home) [
     | inl e ↦ subst Both (sym (nothing_done updated have e.0 e.1)) ((counts_follow o law).own rp states stands c old new x f s k e.0 before shown has e.1 have way, have)
     | inr out ↦
-        (counts_follow o law).updated rp states stands up c old new m a.node 4294967295 n x f s k (acting o s c) (read_leaf o c s k) before behind shown linked few has rep (was_read out) is_read far shares have way updated
+        (counts_follow o law).updated rp states stands up c old new m a.node 4294967295 n x f s k (acting o s c) (leaf_status o c s k) before behind shown linked few has rep (was_read out) is_read far shares have way updated
   ]
 
-pub acted_brings : {S : Type 0} (o : Ops S) → LocalLaws o → ActedBrings o
-acted_brings {S} o law rp states rs behind old new m a n x f s k sound shown linked few has rep acts leaf far have way done = (rest, each)
+pub step_updates_counts : {S : Type 0} (o : Ops S) → LocalLaws o → StepUpdatesCounts o
+step_updates_counts {S} o law rp states rs behind old new m a n x f s k sound shown linked few has rep acts leaf far have way done = (rest, each)
   where
     rest : map rest_of behind ≡ map rest_of rs
-    rest = rest_same (acting o s) (λ c. read_leaf o c s k) n x done.updated
+    rest = rest_same (acting o s) (λ c. leaf_status o c s k) n x done.updated
 
     Right : List RecordView → Channel → (ℕ → Option Tally) → Type 0
     Right stands c counts = Tallied o rp states stands c counts new × HaveCounts o rp states stands c counts new
@@ -93,8 +93,8 @@ acted_brings {S} o law rp states rs behind old new m a n x f s k sound shown lin
     brought c = elim (among_or_not c done.chans) [
       | inl g ↦
           updated_one o law rp states (map stands_of rs) (up_in rs) c old new m a n x f s k sound shown linked few has rep acts leaf (counts_in c rs) (counts_in c behind) far (done.shared c g) (have c) (way c)
-          (its_way (acting o s) (λ d. read_leaf o d s k) n x c done.updated g).updated
-      | inr out ↦ subst (Right (map stands_of rs) c) (sym (others (acting o s) (λ d. read_leaf o d s k) n x c done.updated out)) (
+          (its_way (acting o s) (λ d. leaf_status o d s k) n x c done.updated g).updated
+      | inr out ↦ subst (Right (map stands_of rs) c) (sym (others (acting o s) (λ d. leaf_status o d s k) n x c done.updated out)) (
         (given_suffice o law).counts rp states (map stands_of rs) c old new m a x f s k (counts_in c rs) sound shown has rep acts (λ given shares. out (done.all c given shares)) (have c) (way c),
         have c,
       )

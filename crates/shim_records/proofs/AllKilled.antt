@@ -6,11 +6,11 @@ use Rattle.shim_base.proofs.Facts.{some_same, none_some}
 use Rattle.shim_local.specs.Process.{Ops}
 use Rattle.shim_records.specs.Members.{IsAmong}
 use Rattle.shim_records.specs.Pairs.{rest_of}
-use Rattle.shim_records.specs.AllWays.{AllUpdatedAbove, none_left}
+use Rattle.shim_records.specs.UpdatesAbove.{AllUpdatedAbove, none_left}
 use Rattle.shim_records.specs.Acted.{Earlier}
 use Rattle.shim_records.specs.Killed.{living, as_dead, KillsOne, unshared, again, walked, IsKilled}
 use Rattle.shim_records.specs.declared.record.Record.{Record}
-use Rattle.shim_records.proofs.ManyWays.{rest_same}
+use Rattle.shim_records.proofs.ManyPropagations.{rest_same}
 use Rattle.shim_records.proofs.Walked.{past_none, inside, less_or_not, last_or_before, among_left, among_last, among_either, one_behind, none_earlier}
 
 module _ {S : Type 0} (o : Ops S) (s : S) (n x : ℕ) (start : List Record) where

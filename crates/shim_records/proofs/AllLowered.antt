@@ -7,13 +7,13 @@ use Rattle.shim_base.proofs.SamePaths.{same_channel_is}
 use Rattle.shim_local.specs.Process.{Ops}
 use Rattle.shim_laws_table.specs.LoweredLabels.{LoweredAbove}
 use Rattle.shim_records.specs.Members.{IsAmong}
-use Rattle.shim_records.specs.Pairs.{counts_in, leasts_in, up_in, rest_of}
+use Rattle.shim_records.specs.Pairs.{counts_in, min_labels_in, up_in, rest_of}
 use Rattle.shim_records.specs.Labels.{IsLoweredAbove}
 use Rattle.shim_records.specs.Acted.{Earlier}
 use Rattle.shim_records.specs.Died.{AllLoweredAbove, none_left, one_more, LowersForOne, unshared, again, is_lowered, IsTaken}
 use Rattle.shim_records.specs.declared.record.Record.{Record}
-use Rattle.shim_records.proofs.WholeWay.{rest_ups}
-use Rattle.shim_records.proofs.ManyWays.{among_rest}
+use Rattle.shim_records.proofs.FullPropagation.{rest_ups}
+use Rattle.shim_records.proofs.ManyPropagations.{among_rest}
 use Rattle.shim_records.proofs.Walked.{past_none, inside, less_or_not, last_or_before, among_left, among_last, among_either, none_earlier}
 
 none_there : (c : Channel) → IsAmong c [] → ⊥
@@ -30,7 +30,7 @@ module _ (y n x : ℕ) where
   counts_same c i (one_more d cs before between behind once way more) = counts_same c i more ∙ way.1.counts c i
 
   -- no labels of other channels have changed
-  pub others : {cs : List Channel} {rs behind : List Record} (c : Channel) → AllLoweredAbove y n x cs rs behind → (IsAmong c cs → ⊥) → leasts_in c behind ≡ leasts_in c rs
+  pub others : {cs : List Channel} {rs behind : List Record} (c : Channel) → AllLoweredAbove y n x cs rs behind → (IsAmong c cs → ⊥) → min_labels_in c behind ≡ min_labels_in c rs
   others c (none_left rs) out = refl
   others c (one_more d cs before between behind once way more) out =
       let far : same_channel d c ≡ false = on (same_channel d c) refl in
@@ -42,7 +42,7 @@ module _ (y n x : ℕ) where
 
   -- into those of one of the channels it was taken in once
   pub record Lowered_by (c : Channel) (rs behind : List Record) : Type 0 where
-    pub way : LoweredAbove (up_in rs) (counts_in c rs) (Some y) n (leasts_in c rs) x (leasts_in c behind)
+    pub way : LoweredAbove (up_in rs) (counts_in c rs) (Some y) n (min_labels_in c rs) x (min_labels_in c behind)
 
   pub its_way : {cs : List Channel} {rs behind : List Record} (c : Channel) → AllLoweredAbove y n x cs rs behind → IsAmong c cs → Lowered_by c rs behind
   its_way c (none_left rs) g = absurd (none_there c g)
@@ -50,11 +50,11 @@ module _ (y n x : ℕ) where
     where
       on : (b : Bool) → same_channel d c ≡ b → (IsAmong c cs → Lowered_by c between behind) → Lowered_by c before behind
       on true e ih =
-          subst (λ z. Lowered_by z before behind) (same_channel_is d c e) (record { way = subst (λ z. LoweredAbove (up_in before) (counts_in d before) (Some y) n (leasts_in d before) x z) (sym (others d more once)) way.0 })
+          subst (λ z. Lowered_by z before behind) (same_channel_is d c e) (record { way = subst (λ z. LoweredAbove (up_in before) (counts_in d before) (Some y) n (min_labels_in d before) x z) (sym (others d more once)) way.0 })
       on false e ih = record {
-        way = subst (λ z. LoweredAbove z (counts_in c before) (Some y) n (leasts_in c before) x (leasts_in c behind)) (rest_ups before between way.1.rest)
-            (subst (λ z. LoweredAbove (up_in between) z (Some y) n (leasts_in c before) x (leasts_in c behind)) (λ t i. way.1.counts c i t)
-            (subst (λ z. LoweredAbove (up_in between) (counts_in c between) (Some y) n z x (leasts_in c behind)) (λ t i. way.1.elsewhere c e i t) (ih (among_rest c d cs e g)).way));
+        way = subst (λ z. LoweredAbove z (counts_in c before) (Some y) n (min_labels_in c before) x (min_labels_in c behind)) (rest_ups before between way.1.rest)
+            (subst (λ z. LoweredAbove (up_in between) z (Some y) n (min_labels_in c before) x (min_labels_in c behind)) (λ t i. way.1.counts c i t)
+            (subst (λ z. LoweredAbove (up_in between) (counts_in c between) (Some y) n z x (min_labels_in c behind)) (λ t i. way.1.elsewhere c e i t) (ih (among_rest c d cs e g)).way));
       }
 
 -- one more channel behind others

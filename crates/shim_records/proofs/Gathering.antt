@@ -17,7 +17,7 @@ use Rattle.shim_local.specs.Process.{Ops}
 use Rattle.shim_local.specs.Laws.{AnyOf, IsGiven}
 use Rattle.shim_laws_table.specs.Counts.{Tally, fresh_tally}
 use Rattle.shim_records.specs.Members.{IsAmong}
-use Rattle.shim_records.specs.Pairs.{tally, chans_of, IsOrdered, pair_of, tally_for, least_label_of}
+use Rattle.shim_records.specs.Pairs.{tally, chans_of, IsOrdered, pair_of, tally_for, min_label_of}
 use Rattle.shim_records.specs.Fresh.{shared_of, shared_given, channels, RisesFrom, Rises, is_behind, comes_after, IsOneMore, skipped, added, IsPaired, FreshPairs, FreshSharing}
 use Rattle.shim_records.specs.declared.pair.Pair.{Pair}
 use Rattle.shim_records.proofs.SharingFound.{known_pair}
@@ -113,7 +113,7 @@ chan_order a b = channel_order a.channel b.channel
 
 rises_from : (d : NamedChannel) (ds : List NamedChannel) → IsSorted chan_order (d ∷ ds) → RisesFrom d.channel (channels ds)
 rises_from d [] h = tt
-rises_from d (e ∷ ds) h = (h 0 d (omega arith) (omega arith), rises_from e ds (λ k x least most. later k x (h (suc k) x (omega arith) (omega (arith, most)))))
+rises_from d (e ∷ ds) h = (h 0 d (omega arith) (omega arith), rises_from e ds (λ k x min_dead_label most. later k x (h (suc k) x (omega arith) (omega (arith, most)))))
   where
     later : (k : ℕ) (x : NamedChannel) → is_lt (chan_order (get_or (d ∷ e ∷ ds) (suc k + 1) x) (get_or (d ∷ e ∷ ds) (suc k) x)) ≡ false → is_lt (chan_order (get_or (e ∷ ds) (k + 1) x) (get_or (e ∷ ds) k x)) ≡ false
     later k x w = let same : suc k + 1 ≡ suc (k + 1) = omega arith in ap (λ z. is_lt (chan_order (get_or (d ∷ e ∷ ds) z x) (get_or (e ∷ ds) k x))) (sym same) ∙ w
@@ -186,7 +186,7 @@ module _ {S : Type 0} (o : Ops S) (ks : List S) (whole : List Channel) where
   -- pairs of some of the channels, and the others that are left
   pub record SoFar (pairs : List Pair) (rest : List Channel) : Type 0 where
     pub ordered : IsOrdered (chans_of pairs)
-    pub right : (i : ℕ) (p : Pair) → slice_get pairs i ≡ Some p → (tally p ≡ fresh_tally o p.chan.channel ks) × (p.least ≡ None) × FreshSharing o p.chan.channel ks p.sharing
+    pub right : (i : ℕ) (p : Pair) → slice_get pairs i ≡ Some p → (tally p ≡ fresh_tally o p.chan.channel ks) × (p.min_dead_label ≡ None) × FreshSharing o p.chan.channel ks p.sharing
     pub forth : (c : Channel) → IsAmong c (chans_of pairs) ⊎ IsAmong c rest → IsAmong c whole
     pub back : (c : Channel) → IsAmong c whole → IsAmong c (chans_of pairs) ⊎ IsAmong c rest
     pub rises : LastRises (last_pair pairs) rest
@@ -258,7 +258,7 @@ module _ {S : Type 0} (o : Ops S) (ks : List S) (whole : List Channel) where
                   channel_order_total.trans a p.chan.channel d (s.ordered.order i (length pairs - 1) a p.chan.channel (between i (length pairs - 1) z (omega (arith, long, less))) e at_last) last_less
             ]
 
-    pub one_added : (behind : List Pair) (p : Pair) → comes_after pairs d ≡ true → behind ≡ pairs ++ p ∷ [] → p.chan.channel ≡ d → tally p ≡ fresh_tally o d ks → p.least ≡ None → FreshSharing o d ks p.sharing → SoFar behind rest
+    pub one_added : (behind : List Pair) (p : Pair) → comes_after pairs d ≡ true → behind ≡ pairs ++ p ∷ [] → p.chan.channel ≡ d → tally p ≡ fresh_tally o d ks → p.min_dead_label ≡ None → FreshSharing o d ks p.sharing → SoFar behind rest
     one_added behind p after is chan says label sharing = subst (λ z. SoFar z rest) (sym is) (record {
       ordered = record {
         order = λ i j a b less x y.
@@ -268,7 +268,7 @@ module _ {S : Type 0} (o : Ops S) (ks : List S) (whole : List Channel) where
       };
       right = λ i q e. elim (get_either pairs p q i e) [
         | inl w ↦ s.right i q w
-        | inr w ↦ subst (λ z. (tally z ≡ fresh_tally o z.chan.channel ks) × (z.least ≡ None) × FreshSharing o z.chan.channel ks z.sharing) (sym w.1) (says ∙ ap (λ z. fresh_tally o z ks) (sym chan), label, subst (λ z. FreshSharing o z ks p.sharing) (sym chan) sharing)
+        | inr w ↦ subst (λ z. (tally z ≡ fresh_tally o z.chan.channel ks) × (z.min_dead_label ≡ None) × FreshSharing o z.chan.channel ks z.sharing) (sym w.1) (says ∙ ap (λ z. fresh_tally o z ks) (sym chan), label, subst (λ z. FreshSharing o z ks p.sharing) (sym chan) sharing)
       ];
       forth = λ c h. s.forth c (elim h [
         | inl w ↦ elim (among_either c (chans_of pairs) (p.chan.channel ∷ []) (subst (IsAmong c) (chans_both pairs p) w)) [ inl v ↦ inl v | inr v ↦ inr (first v) ]
@@ -406,9 +406,9 @@ fresh_pairs {S} o p ks given sorted pairs is same h = record {
       subst (λ z. FreshSharing o c ks z) w.2 (subst (λ z. FreshSharing o z ks w.0.sharing) v.2 (h.right v.0 w.0 v.1).2);
 }
   where
-    unlabelled_at : (c : Channel) (x : Option Pair) → pair_of c pairs ≡ x → least_label_of (pair_of c pairs) ≡ None
-    unlabelled_at c None e = ap least_label_of e
-    unlabelled_at c (Some q) e = let v = pair_found c pairs q e in ap least_label_of e ∙ (h.right v.0 q v.1).1
+    unlabelled_at : (c : Channel) (x : Option Pair) → pair_of c pairs ≡ x → min_label_of (pair_of c pairs) ≡ None
+    unlabelled_at c None e = ap min_label_of e
+    unlabelled_at c (Some q) e = let v = pair_found c pairs q e in ap min_label_of e ∙ (h.right v.0 q v.1).1
 
 -- what holds of a result that came
 pub if_ok_weaker : {T E : Type 0} (r : Result T E) (P Q : T → Type 0) → ((x : T) → P x → Q x) → IfOk r P → IfOk r Q

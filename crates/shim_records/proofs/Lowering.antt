@@ -10,12 +10,12 @@ use Rattle.shim_base.proofs.SamePaths.{same_channel_is}
 use Rattle.shim_laws_table.specs.Dooms.{lesser}
 use Rattle.shim_laws_table.specs.LoweredLabels.{IsLowered, LoweredAbove, all_the_way, at_the_root, uncounted, as_low, lowers}
 use Rattle.shim_laws_table.proofs.SameTrees.{same_or_not}
-use Rattle.shim_records.specs.Pairs.{tally, pair_index, pair_of, tally_for, least_label_of, counts_at, counts_in, least_at, leasts_in, up_in, rest_of, chans_of, known_by, known_of}
+use Rattle.shim_records.specs.Pairs.{tally, pair_index, pair_of, tally_for, min_label_of, counts_at, counts_in, min_label_at, min_labels_in, up_in, rest_of, chans_of, known_by, known_of}
 use Rattle.shim_records.specs.Labels.{OnlyLabels, LowersOne, IsLoweredAbove}
 use Rattle.shim_records.specs.declared.pair.Pair.{Pair}
 use Rattle.shim_records.specs.declared.record.Record.{Record}
 use Rattle.shim_records.proofs.Stepping.{set_there, set_elsewhere, map_set, with_pair, rest_with, known_with}
-use Rattle.shim_records.proofs.WholeWay.{rest_ups}
+use Rattle.shim_records.proofs.FullPropagation.{rest_ups}
 
 map_some : (o : Option ℕ) (i : ℕ) → option_map suc o ≡ Some i → (k : ℕ) × (o ≡ Some k) × (i ≡ suc k)
 map_some None i e = none_some i e
@@ -78,18 +78,18 @@ nothing_changed c rs = record { rest = refl; counts = λ d i. refl; elsewhere = 
 -- one record keeps another label for the channel, and nothing else has changed
 pub record Relabelled (c : Channel) (rs : List Record) (j : ℕ) (was is : Option ℕ) (now : List Record) : Type 0 where
   pub counted : counts_in c rs j ≢ None
-  pub label_was : leasts_in c rs j ≡ was
-  pub label_is : leasts_in c now j ≡ is
-  pub others : (k : ℕ) → k ≢ j → leasts_in c now k ≡ leasts_in c rs k
+  pub label_was : min_labels_in c rs j ≡ was
+  pub label_is : min_labels_in c now j ≡ is
+  pub others : (k : ℕ) → k ≢ j → min_labels_in c now k ≡ min_labels_in c rs k
   pub only : OnlyLabels c rs now
 
 -- pointwise the labels are as before, where this one is
-pub same_labels : (c : Channel) (rs : List Record) (j : ℕ) (was is : Option ℕ) (now : List Record) → Relabelled c rs j was is now → is ≡ was → leasts_in c now ≡ leasts_in c rs
+pub same_labels : (c : Channel) (rs : List Record) (j : ℕ) (was is : Option ℕ) (now : List Record) → Relabelled c rs j was is now → is ≡ was → min_labels_in c now ≡ min_labels_in c rs
 same_labels c rs j was is now h same = λ t k. each k t
   where
-    each : (k : ℕ) → leasts_in c now k ≡ leasts_in c rs k
+    each : (k : ℕ) → min_labels_in c now k ≡ min_labels_in c rs k
     each k = elim (same_or_not k j) [
-      | inl w ↦ ap (leasts_in c now) w ∙ (h.label_is ∙ (same ∙ (sym h.label_was ∙ sym (ap (leasts_in c rs) w))))
+      | inl w ↦ ap (min_labels_in c now) w ∙ (h.label_is ∙ (same ∙ (sym h.label_was ∙ sym (ap (min_labels_in c rs) w))))
       | inr w ↦ h.others k w
     ]
 
@@ -118,12 +118,12 @@ module _ (c : Channel) (rs : List Record) (j i : ℕ) (r : Record) (p q : Pair) 
       map_set known_by r.pairs.items i p q (slice_get_read r.pairs.items (length r.pairs.items) i p refl (place_within c r.pairs.items i place) is_p)
       (known_with p q chan sharing)
 
-  pub relabelled : Relabelled c rs j p.least q.least now
+  pub relabelled : Relabelled c rs j p.min_dead_label q.min_dead_label now
   relabelled = record {
     counted = λ e. none_some (tally p) (sym e ∙ (ap (counts_at c) stood ∙ ap (option_map tally) put.found));
-    label_was = ap (least_at c) stood ∙ ap least_label_of put.found;
-    label_is = ap (least_at c) stands ∙ ap least_label_of put.finds;
-    others = λ k far. ap (least_at c) (set_elsewhere rs j k new far);
+    label_was = ap (min_label_at c) stood ∙ ap min_label_of put.found;
+    label_is = ap (min_label_at c) stands ∙ ap min_label_of put.finds;
+    others = λ k far. ap (min_label_at c) (set_elsewhere rs j k new far);
     only = record {
       rest = map_set rest_of rs j r new stood (rest_with r (chans_of (slice_set r.pairs.items i q)) (known_of (slice_set r.pairs.items i q)) same_chans same_known);
       counts = λ d k. elim (same_or_not k j) [
@@ -131,30 +131,30 @@ module _ (c : Channel) (rs : List Record) (j i : ℕ) (r : Record) (p q : Pair) 
         | inr w ↦ ap (counts_at d) (set_elsewhere rs j k new w)
       ];
       elsewhere = λ d far k. elim (same_or_not k j) [
-        | inl w ↦ ap (λ z. least_at d (slice_get now z)) w ∙ (ap (least_at d) stands ∙ (ap least_label_of (put.elsewhere d far) ∙ (sym (ap (least_at d) stood) ∙ sym (ap (λ z. least_at d (slice_get rs z)) w))))
-        | inr w ↦ ap (least_at d) (set_elsewhere rs j k new w)
+        | inl w ↦ ap (λ z. min_label_at d (slice_get now z)) w ∙ (ap (min_label_at d) stands ∙ (ap min_label_of (put.elsewhere d far) ∙ (sym (ap (min_label_at d) stood) ∙ sym (ap (λ z. min_label_at d (slice_get rs z)) w))))
+        | inr w ↦ ap (min_label_at d) (set_elsewhere rs j k new w)
       ];
     };
   }
 
 module _ (c : Channel) (y : ℕ) (rs : List Record) (x : ℕ) where
   pub top : up_in rs x ≡ None → LowersOne c y rs x None rs
-  top e = ((λ n. at_the_root n (leasts_in c rs) x e), nothing_changed c rs)
+  top e = ((λ n. at_the_root n (min_labels_in c rs) x e), nothing_changed c rs)
 
   pub without : (j : ℕ) → up_in rs x ≡ Some j → counts_in c rs j ≡ None → LowersOne c y rs x None rs
-  without j e f = ((λ n. uncounted n (leasts_in c rs) x j e f), nothing_changed c rs)
+  without j e f = ((λ n. uncounted n (min_labels_in c rs) x j e f), nothing_changed c rs)
 
   pub stops : (j : ℕ) (now : List Record) (was is : Option ℕ) → up_in rs x ≡ Some j → Relabelled c rs j was is now → is ≡ lesser was (Some y) → is ≡ was → LowersOne c y rs x None now
   stops j now was is up h taken same = (
-    (λ n. subst (λ z. LoweredAbove (up_in rs) (counts_in c rs) (Some y) n (leasts_in c rs) x z) (sym (same_labels c rs j was is now h same))
-        (as_low n (leasts_in c rs) x j up h.counted (ap (λ z. lesser z (Some y)) h.label_was ∙ (sym taken ∙ (same ∙ sym h.label_was))))),
+    (λ n. subst (λ z. LoweredAbove (up_in rs) (counts_in c rs) (Some y) n (min_labels_in c rs) x z) (sym (same_labels c rs j was is now h same))
+        (as_low n (min_labels_in c rs) x j up h.counted (ap (λ z. lesser z (Some y)) h.label_was ∙ (sym taken ∙ (same ∙ sym h.label_was))))),
     h.only,
   )
 
   pub goes : (j : ℕ) (now : List Record) (was is : Option ℕ) → up_in rs x ≡ Some j → Relabelled c rs j was is now → is ≡ lesser was (Some y) → LowersOne c y rs x (Some j) now
   goes j now was is up h taken =
-      let lowered : IsLowered (leasts_in c rs) j (Some y) (leasts_in c now) = record { new = h.label_is ∙ (taken ∙ ap (λ z. lesser z (Some y)) (sym h.label_was)); others = h.others } in
-      ((λ n end rest. lowers n (leasts_in c rs) (leasts_in c now) end x j up h.counted lowered rest), h.only)
+      let lowered : IsLowered (min_labels_in c rs) j (Some y) (min_labels_in c now) = record { new = h.label_is ∙ (taken ∙ ap (λ z. lesser z (Some y)) (sym h.label_was)); others = h.others } in
+      ((λ n end rest. lowers n (min_labels_in c rs) (min_labels_in c now) end x j up h.counted lowered rest), h.only)
 
 pub only_both : (c : Channel) (a b d : List Record) → OnlyLabels c a b → OnlyLabels c b d → OnlyLabels c a d
 only_both c a b d g h = record {
@@ -165,7 +165,7 @@ only_both c a b d g h = record {
 
 module _ (c : Channel) (y n x : ℕ) (start now : List Record) (here walked : ℕ) where
   abbrev pub OnIt : ℕ → List Record → ℕ → Type 0
-  OnIt left now here = ((end : ℕ → Option ℕ) → LoweredAbove (up_in start) (counts_in c start) (Some y) left (leasts_in c now) here end → LoweredAbove (up_in start) (counts_in c start) (Some y) n (leasts_in c start) x end) × OnlyLabels c start now
+  OnIt left now here = ((end : ℕ → Option ℕ) → LoweredAbove (up_in start) (counts_in c start) (Some y) left (min_labels_in c now) here end → LoweredAbove (up_in start) (counts_in c start) (Some y) n (min_labels_in c start) x end) × OnlyLabels c start now
 
   next_left : (n walked : ℕ) → walked < n → suc (n - (walked + 1)) ≡ n - walked
   next_left n walked h = omega (arith, h)
@@ -178,21 +178,21 @@ module _ (c : Channel) (y n x : ℕ) (start now : List Record) (here walked : �
 
   pub ended : (behind : List Record) → OnIt (n - walked) now here → LowersOne c y now here None behind → IsLoweredAbove c y n x start behind
   ended behind on step = (
-    on.0 (leasts_in c behind)
-        (subst (λ u. LoweredAbove u (counts_in c start) (Some y) (n - walked) (leasts_in c now) here (leasts_in c behind)) (same_ups on.1) (subst (λ k. LoweredAbove (up_in now) k (Some y) (n - walked) (leasts_in c now) here (leasts_in c behind)) (same_counts on.1) (step.0 (n - walked)))),
+    on.0 (min_labels_in c behind)
+        (subst (λ u. LoweredAbove u (counts_in c start) (Some y) (n - walked) (min_labels_in c now) here (min_labels_in c behind)) (same_ups on.1) (subst (λ k. LoweredAbove (up_in now) k (Some y) (n - walked) (min_labels_in c now) here (min_labels_in c behind)) (same_counts on.1) (step.0 (n - walked)))),
     only_both c start now behind on.1 step.1,
   )
 
   pub further : (behind : List Record) (j : ℕ) → walked < n → OnIt (n - walked) now here → LowersOne c y now here (Some j) behind → OnIt (n - (walked + 1)) behind j
   further behind j less on step = (
-    (λ end rest. on.0 end (subst (λ k. LoweredAbove (up_in start) (counts_in c start) (Some y) k (leasts_in c now) here end) (next_left n walked less)
-        (subst (λ u. LoweredAbove u (counts_in c start) (Some y) (suc (n - (walked + 1))) (leasts_in c now) here end) (same_ups on.1) (subst (λ k. LoweredAbove (up_in now) k (Some y) (suc (n - (walked + 1))) (leasts_in c now) here end) (same_counts on.1)
+    (λ end rest. on.0 end (subst (λ k. LoweredAbove (up_in start) (counts_in c start) (Some y) k (min_labels_in c now) here end) (next_left n walked less)
+        (subst (λ u. LoweredAbove u (counts_in c start) (Some y) (suc (n - (walked + 1))) (min_labels_in c now) here end) (same_ups on.1) (subst (λ k. LoweredAbove (up_in now) k (Some y) (suc (n - (walked + 1))) (min_labels_in c now) here end) (same_counts on.1)
         (step.0 (n - (walked + 1)) end
-        (subst (λ u. LoweredAbove u (counts_in c now) (Some y) (n - (walked + 1)) (leasts_in c behind) j end) (sym (same_ups on.1)) (subst (λ k. LoweredAbove (up_in start) k (Some y) (n - (walked + 1)) (leasts_in c behind) j end) (sym (same_counts on.1)) rest))))))),
+        (subst (λ u. LoweredAbove u (counts_in c now) (Some y) (n - (walked + 1)) (min_labels_in c behind) j end) (sym (same_ups on.1)) (subst (λ k. LoweredAbove (up_in start) k (Some y) (n - (walked + 1)) (min_labels_in c behind) j end) (sym (same_counts on.1)) rest))))))),
     only_both c start now behind on.1 step.1,
   )
 
   pub stopped : n ≤ walked → OnIt (n - walked) now here → IsLoweredAbove c y n x start now
   stopped past on =
       let none : n - walked ≡ 0 = omega (arith, past) in
-      (on.0 (leasts_in c now) (subst (λ k. LoweredAbove (up_in start) (counts_in c start) (Some y) k (leasts_in c now) here (leasts_in c now)) (sym none) (all_the_way (leasts_in c now) here)), on.1)
+      (on.0 (min_labels_in c now) (subst (λ k. LoweredAbove (up_in start) (counts_in c start) (Some y) k (min_labels_in c now) here (min_labels_in c now)) (sym none) (all_the_way (min_labels_in c now) here)), on.1)

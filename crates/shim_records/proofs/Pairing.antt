@@ -4,7 +4,7 @@ use Rattle.std.specs.Option.{option_map}
 use Rattle.shim_base.specs.Paths.{Channel, same_channel}
 use Rattle.shim_base.proofs.Facts.{some_same, none_some}
 use Rattle.shim_base.proofs.SamePaths.{same_channel_is}
-use Rattle.shim_records.specs.Pairs.{tally, pair_index, pair_of, tally_for, least_label_of}
+use Rattle.shim_records.specs.Pairs.{tally, pair_index, pair_of, tally_for, min_label_of}
 use Rattle.shim_records.specs.declared.pair.Pair.{Pair}
 
 map_some : (o : Option ℕ) (i : ℕ) → option_map suc o ≡ Some i → (k : ℕ) × (o ≡ Some k) × (i ≡ suc k)
@@ -25,23 +25,23 @@ pub record Put (c : Channel) (ps : List Pair) (i : ℕ) (p q : Pair) : Type 0 wh
   pub found : pair_of c ps ≡ Some p
   pub finds : pair_of c (slice_set ps i q) ≡ Some q
   pub elsewhere : (d : Channel) → same_channel c d ≡ false → pair_of d (slice_set ps i q) ≡ pair_of d ps
-  pub labels : (d : Channel) → least_label_of (pair_of d (slice_set ps i q)) ≡ least_label_of (pair_of d ps)
+  pub labels : (d : Channel) → min_label_of (pair_of d (slice_set ps i q)) ≡ min_label_of (pair_of d ps)
 
-pub put_there : (c : Channel) (ps : List Pair) (i : ℕ) (p q : Pair) → pair_index c ps ≡ Some i → p ≡ get_or ps i p → q.chan ≡ p.chan → q.least ≡ p.least → Put c ps i p q
+pub put_there : (c : Channel) (ps : List Pair) (i : ℕ) (p q : Pair) → pair_index c ps ≡ Some i → p ≡ get_or ps i p → q.chan ≡ p.chan → q.min_dead_label ≡ p.min_dead_label → Put c ps i p q
 put_there c [] i p q e g h l = none_some i e
 put_there c (x ∷ ps) i p q e g h l = on (same_channel x.chan.channel c) refl i e g (λ k u v. put_there c ps k p q u v h l)
   where
-    first : (d : Channel) → q.chan.channel ≡ x.chan.channel → q.least ≡ x.least → least_label_of (cond (same_channel q.chan.channel d) (Some q) (pair_of d ps)) ≡ least_label_of (cond (same_channel x.chan.channel d) (Some x) (pair_of d ps))
-    first d same label = ap (λ z. least_label_of (cond (same_channel z d) (Some q) (pair_of d ps))) same ∙ either (same_channel x.chan.channel d)
+    first : (d : Channel) → q.chan.channel ≡ x.chan.channel → q.min_dead_label ≡ x.min_dead_label → min_label_of (cond (same_channel q.chan.channel d) (Some q) (pair_of d ps)) ≡ min_label_of (cond (same_channel x.chan.channel d) (Some x) (pair_of d ps))
+    first d same label = ap (λ z. min_label_of (cond (same_channel z d) (Some q) (pair_of d ps))) same ∙ either (same_channel x.chan.channel d)
       where
-        either : (b : Bool) → least_label_of (cond b (Some q) (pair_of d ps)) ≡ least_label_of (cond b (Some x) (pair_of d ps))
+        either : (b : Bool) → min_label_of (cond b (Some q) (pair_of d ps)) ≡ min_label_of (cond b (Some x) (pair_of d ps))
         either true = label
         either false = refl
 
-    later : (d : Channel) (o r : Option Pair) → least_label_of o ≡ least_label_of r → least_label_of (cond (same_channel x.chan.channel d) (Some x) o) ≡ least_label_of (cond (same_channel x.chan.channel d) (Some x) r)
+    later : (d : Channel) (o r : Option Pair) → min_label_of o ≡ min_label_of r → min_label_of (cond (same_channel x.chan.channel d) (Some x) o) ≡ min_label_of (cond (same_channel x.chan.channel d) (Some x) r)
     later d o r e = either (same_channel x.chan.channel d)
       where
-        either : (b : Bool) → least_label_of (cond b (Some x) o) ≡ least_label_of (cond b (Some x) r)
+        either : (b : Bool) → min_label_of (cond b (Some x) o) ≡ min_label_of (cond b (Some x) r)
         either true = refl
         either false = e
 
@@ -49,7 +49,7 @@ put_there c (x ∷ ps) i p q e g h l = on (same_channel x.chan.channel c) refl i
         → ((k : ℕ) → pair_index c ps ≡ Some k → p ≡ get_or ps k p → Put c ps k p q) → Put c (x ∷ ps) i p q
     on true w zero e g f =
         let same : q.chan.channel ≡ x.chan.channel = ap (λ z. z.channel) h ∙ ap (λ z. z.chan.channel) g in
-        let label : q.least ≡ x.least = l ∙ ap (λ z. z.least) g in
+        let label : q.min_dead_label ≡ x.min_dead_label = l ∙ ap (λ z. z.min_dead_label) g in
         record {
           found = ap (λ z. cond z (Some x) (pair_of c ps)) w ∙ ap Some (sym g);
           finds = ap (λ z. cond (same_channel z c) (Some q) (pair_of c ps)) same ∙ ap (λ z. cond z (Some q) (pair_of c ps)) w;

@@ -6,7 +6,7 @@ use Rattle.shim_records.specs.Pairs.{up_in}
 use Rattle.shim_records.specs.Ways.{IsAbove, its_fork, further, CountsMovedWithin, AllCountsMovedWithin, OnlyCounts, MovesParent}
 use Rattle.shim_records.specs.declared.record.Record.{Record}
 use Rattle.shim_records.specs.declared.upward.CountChange.{CountChange}
-use Rattle.shim_records.proofs.WholeWay.{same_ups}
+use Rattle.shim_records.proofs.FullPropagation.{same_ups}
 
 module _ (up : ℕ → Option ℕ) where
   -- the first few of them are among the first ones of more

@@ -8,9 +8,9 @@ use Rattle.shim_local.specs.Process.{Ops}
 use Rattle.shim_laws_table.specs.Seen.{forks}
 use Rattle.shim_laws_table.specs.Agrees.{RecordView, free, used}
 use Rattle.shim_laws_table.specs.Dooms.{lesser}
-use Rattle.shim_laws_table.specs.Recounting.{label_at, least_label_among, IsReadOff, Recounted, all_the_way, at_the_root, uncounted, as_before, recounts}
-use Rattle.shim_laws_table.proofs.Leasts.{lesser_nothing, lesser_further}
-use Rattle.shim_records.specs.Pairs.{fork_size, pair_index, pair_of, least_label_of, counts_in, leasts_in, up_in, UncountedRecord, rest_of, stands_by, stands_of}
+use Rattle.shim_laws_table.specs.Recounting.{label_at, min_label_among, IsReadOff, Recounted, all_the_way, at_the_root, uncounted, as_before, recounts}
+use Rattle.shim_laws_table.proofs.MinLabels.{lesser_nothing, lesser_further}
+use Rattle.shim_records.specs.Pairs.{fork_size, pair_index, pair_of, min_label_of, counts_in, min_labels_in, up_in, UncountedRecord, rest_of, stands_by, stands_of}
 use Rattle.shim_records.specs.Labels.{OnlyLabels}
 use Rattle.shim_records.specs.Recounting.{Recounts, RecountsOne, IsRecounted}
 use Rattle.shim_records.specs.declared.pair.Pair.{Pair}
@@ -18,46 +18,46 @@ use Rattle.shim_records.specs.declared.record.Record.{Record}
 use Rattle.shim_records.specs.declared.record.Status.{Status}
 use Rattle.shim_records.specs.declared.record.Status.TheVariants as code
 use Rattle.shim_records.proofs.Lowering.{put_there, Relabelled, same_labels, nothing_changed, only_both}
-use Rattle.shim_records.proofs.Showing.{map_get}
-use Rattle.shim_records.proofs.WholeWay.{rest_ups}
+use Rattle.shim_records.proofs.Representing.{map_get}
+use Rattle.shim_records.proofs.FullPropagation.{rest_ups}
 
 -- the label of a pair that is found, and none where there is none
-pub its_label : (c : Channel) (ps : List Pair) (i : ℕ) (p : Pair) → pair_index c ps ≡ Some i → p ≡ get_or ps i p → p.least ≡ least_label_of (pair_of c ps)
-its_label c ps i p e g = sym (ap least_label_of (put_there c ps i p p e g refl refl).found)
+pub its_label : (c : Channel) (ps : List Pair) (i : ℕ) (p : Pair) → pair_index c ps ≡ Some i → p ≡ get_or ps i p → p.min_dead_label ≡ min_label_of (pair_of c ps)
+its_label c ps i p e g = sym (ap min_label_of (put_there c ps i p p e g refl refl).found)
 
-pub no_label : (c : Channel) (ps : List Pair) → pair_index c ps ≡ None → None ≡ least_label_of (pair_of c ps)
+pub no_label : (c : Channel) (ps : List Pair) → pair_index c ps ≡ None → None ≡ min_label_of (pair_of c ps)
 no_label c [] e = refl
 no_label c (p ∷ ps) e = on (same_channel p.chan.channel c) (pair_index c ps) (no_label c ps) e
   where
-    on : (b : Bool) (o : Option ℕ) → (o ≡ None → None ≡ least_label_of (pair_of c ps)) → cond b (Some 0) (option_map suc o) ≡ None → None ≡ least_label_of (cond b (Some p) (pair_of c ps))
+    on : (b : Bool) (o : Option ℕ) → (o ≡ None → None ≡ min_label_of (pair_of c ps)) → cond b (Some 0) (option_map suc o) ≡ None → None ≡ min_label_of (cond b (Some p) (pair_of c ps))
     on true o f e = absurd cc
     on false None f e = f refl
     on false (Some k) f e = absurd cc
 
 module _ {S : Type 0} (o : Ops S) (c : Channel) (states : List S) (stands : List RecordView) (labels : ℕ → Option ℕ) where
   -- one more of the children read
-  pub one_more : (g n i : ℕ) (y z : Option ℕ) → i < n → z ≡ lesser y (label_at o c states stands labels (g + i)) → lesser y (least_label_among o c states stands labels (g + i) (n - i)) ≡ least_label_among o c states stands labels g n
-      → lesser z (least_label_among o c states stands labels (g + (i + 1)) (n - (i + 1))) ≡ least_label_among o c states stands labels g n
+  pub one_more : (g n i : ℕ) (y z : Option ℕ) → i < n → z ≡ lesser y (label_at o c states stands labels (g + i)) → lesser y (min_label_among o c states stands labels (g + i) (n - i)) ≡ min_label_among o c states stands labels g n
+      → lesser z (min_label_among o c states stands labels (g + (i + 1)) (n - (i + 1))) ≡ min_label_among o c states stands labels g n
   one_more g n i y z less e h =
       let left : n - i ≡ suc (n - (i + 1)) = omega (arith, less) in
       let next : g + (i + 1) ≡ g + i + 1 = omega arith in
-      ap (λ w. lesser w (least_label_among o c states stands labels (g + (i + 1)) (n - (i + 1)))) e
-      ∙ (ap (λ w. lesser (lesser y (label_at o c states stands labels (g + i))) (least_label_among o c states stands labels w (n - (i + 1)))) next
-      ∙ (sym (lesser_further y (label_at o c states stands labels (g + i)) (least_label_among o c states stands labels (g + i + 1) (n - (i + 1))))
-      ∙ (ap (λ w. lesser y (least_label_among o c states stands labels (g + i) w)) (sym left) ∙ h)))
+      ap (λ w. lesser w (min_label_among o c states stands labels (g + (i + 1)) (n - (i + 1)))) e
+      ∙ (ap (λ w. lesser (lesser y (label_at o c states stands labels (g + i))) (min_label_among o c states stands labels w (n - (i + 1)))) next
+      ∙ (sym (lesser_further y (label_at o c states stands labels (g + i)) (min_label_among o c states stands labels (g + i + 1) (n - (i + 1))))
+      ∙ (ap (λ w. lesser y (min_label_among o c states stands labels (g + i) w)) (sym left) ∙ h)))
 
   -- at first none of them
-  pub none_yet : (g n : ℕ) → lesser None (least_label_among o c states stands labels (g + 0) (n - 0)) ≡ least_label_among o c states stands labels g n
+  pub none_yet : (g n : ℕ) → lesser None (min_label_among o c states stands labels (g + 0) (n - 0)) ≡ min_label_among o c states stands labels g n
   none_yet g n =
       let start : g + 0 ≡ g = omega arith in
       let all : n - 0 ≡ n = omega arith in
-      ap (λ w. least_label_among o c states stands labels w (n - 0)) start ∙ ap (least_label_among o c states stands labels g) all
+      ap (λ w. min_label_among o c states stands labels w (n - 0)) start ∙ ap (min_label_among o c states stands labels g) all
 
   -- in the end all
-  pub all_read : (g n i : ℕ) (y : Option ℕ) → n ≤ i → lesser y (least_label_among o c states stands labels (g + i) (n - i)) ≡ least_label_among o c states stands labels g n → y ≡ least_label_among o c states stands labels g n
+  pub all_read : (g n i : ℕ) (y : Option ℕ) → n ≤ i → lesser y (min_label_among o c states stands labels (g + i) (n - i)) ≡ min_label_among o c states stands labels g n → y ≡ min_label_among o c states stands labels g n
   all_read g n i y past h =
       let none : n - i ≡ 0 = omega (arith, past) in
-      sym (lesser_nothing y) ∙ (ap (λ w. lesser y (least_label_among o c states stands labels (g + i) w)) (sym none) ∙ h)
+      sym (lesser_nothing y) ∙ (ap (λ w. lesser y (min_label_among o c states stands labels (g + i) w)) (sym none) ∙ h)
 
 abbrev first_of : RecordView → ℕ
 first_of free = 0
@@ -89,31 +89,31 @@ same_stands before behind h = sym (all_from behind) ∙ (ap (map stands_from) h 
 module _ {S : Type 0} (o : Ops S) (c : Channel) (states : List S) where
   -- what was read off the children of a record
   pub read : (rs seen : List Record) (j n : ℕ) (r q : Record) (y : Option ℕ) → slice_get rs j ≡ Some r → slice_get rs j ≡ Some q → seen ≡ rs → n ≡ fork_size q.status
-      → y ≡ least_label_among o c states (map stands_of seen) (leasts_in c seen) r.first n → IsReadOff o c states (map stands_of rs) (leasts_in c rs) j y
+      → y ≡ min_label_among o c states (map stands_of seen) (min_labels_in c seen) r.first n → IsReadOff o c states (map stands_of rs) (min_labels_in c rs) j y
   read rs seen j n r q y stood stood_so same many is g m s has =
       let so : stands_of r ≡ used g (forks m) = some_same (stands_of r) (used g (forks m)) (sym (ap (option_map stands_of) stood) ∙ (sym (map_get stands_of rs j) ∙ has.stands_so)) in
       let told = forked r.first g m r.status so in
       let how_many : n ≡ m = many ∙ (ap (λ z. fork_size z.status) (some_same q r (sym stood_so ∙ stood)) ∙ told.1) in
-      is ∙ (ap (λ z. least_label_among o c states (map stands_of z) (leasts_in c z) r.first n) same
-      ∙ (ap (λ z. least_label_among o c states (map stands_of rs) (leasts_in c rs) z n) told.0 ∙ ap (least_label_among o c states (map stands_of rs) (leasts_in c rs) g) how_many))
+      is ∙ (ap (λ z. min_label_among o c states (map stands_of z) (min_labels_in c z) r.first n) same
+      ∙ (ap (λ z. min_label_among o c states (map stands_of rs) (min_labels_in c rs) z n) told.0 ∙ ap (min_label_among o c states (map stands_of rs) (min_labels_in c rs) g) how_many))
 
   module _ (rs : List Record) (x : ℕ) where
     pub top : up_in rs x ≡ None → RecountsOne o c states rs x None rs
-    top e = ((λ n. at_the_root n (leasts_in c rs) x e), nothing_changed c rs)
+    top e = ((λ n. at_the_root n (min_labels_in c rs) x e), nothing_changed c rs)
 
     pub without : (j : ℕ) → up_in rs x ≡ Some j → counts_in c rs j ≡ None → RecountsOne o c states rs x None rs
-    without j e f = ((λ n. uncounted n (leasts_in c rs) x j e f), nothing_changed c rs)
+    without j e f = ((λ n. uncounted n (min_labels_in c rs) x j e f), nothing_changed c rs)
 
-    pub stops : (j : ℕ) (now : List Record) (was is : Option ℕ) → up_in rs x ≡ Some j → Relabelled c rs j was is now → IsReadOff o c states (map stands_of rs) (leasts_in c rs) j is → is ≡ was → RecountsOne o c states rs x None now
+    pub stops : (j : ℕ) (now : List Record) (was is : Option ℕ) → up_in rs x ≡ Some j → Relabelled c rs j was is now → IsReadOff o c states (map stands_of rs) (min_labels_in c rs) j is → is ≡ was → RecountsOne o c states rs x None now
     stops j now was is up h off same = (
-      (λ n. subst (λ z. Recounts o c states rs n (leasts_in c rs) x z) (sym (same_labels c rs j was is now h same))
-          (as_before n (leasts_in c rs) x j up h.counted (subst (IsReadOff o c states (map stands_of rs) (leasts_in c rs) j) (same ∙ sym h.label_was) off))),
+      (λ n. subst (λ z. Recounts o c states rs n (min_labels_in c rs) x z) (sym (same_labels c rs j was is now h same))
+          (as_before n (min_labels_in c rs) x j up h.counted (subst (IsReadOff o c states (map stands_of rs) (min_labels_in c rs) j) (same ∙ sym h.label_was) off))),
       h.only,
     )
 
-    pub goes : (j : ℕ) (now : List Record) (was is : Option ℕ) → up_in rs x ≡ Some j → Relabelled c rs j was is now → IsReadOff o c states (map stands_of rs) (leasts_in c rs) j is → RecountsOne o c states rs x (Some j) now
+    pub goes : (j : ℕ) (now : List Record) (was is : Option ℕ) → up_in rs x ≡ Some j → Relabelled c rs j was is now → IsReadOff o c states (map stands_of rs) (min_labels_in c rs) j is → RecountsOne o c states rs x (Some j) now
     goes j now was is up h off = (
-      (λ n end rest. recounts n (leasts_in c rs) (leasts_in c now) end x j up h.counted (subst (IsReadOff o c states (map stands_of rs) (leasts_in c rs) j) (sym h.label_is) off) h.others rest),
+      (λ n end rest. recounts n (min_labels_in c rs) (min_labels_in c now) end x j up h.counted (subst (IsReadOff o c states (map stands_of rs) (min_labels_in c rs) j) (sym h.label_is) off) h.others rest),
       h.only,
     )
 
@@ -132,28 +132,28 @@ module _ {S : Type 0} (o : Ops S) (c : Channel) (states : List S) where
 
   module _ (n x : ℕ) (start now : List Record) (here walked : ℕ) where
     abbrev pub OnIt : ℕ → List Record → ℕ → Type 0
-    OnIt left now here = ((end : ℕ → Option ℕ) → Recounts o c states start left (leasts_in c now) here end → Recounts o c states start n (leasts_in c start) x end) × OnlyLabels c start now
+    OnIt left now here = ((end : ℕ → Option ℕ) → Recounts o c states start left (min_labels_in c now) here end → Recounts o c states start n (min_labels_in c start) x end) × OnlyLabels c start now
 
     next_left : (n walked : ℕ) → walked < n → suc (n - (walked + 1)) ≡ n - walked
     next_left n walked h = omega (arith, h)
 
     pub ended : (behind : List Record) → OnIt (n - walked) now here → RecountsOne o c states now here None behind → IsRecounted o c states n x start behind
-    ended behind on step = (on.0 (leasts_in c behind) (over start now (n - walked) (leasts_in c now) here (leasts_in c behind) on.1 (step.0 (n - walked))), only_both c start now behind on.1 step.1)
+    ended behind on step = (on.0 (min_labels_in c behind) (over start now (n - walked) (min_labels_in c now) here (min_labels_in c behind) on.1 (step.0 (n - walked))), only_both c start now behind on.1 step.1)
 
     pub further : (behind : List Record) (j : ℕ) → walked < n → OnIt (n - walked) now here → RecountsOne o c states now here (Some j) behind → OnIt (n - (walked + 1)) behind j
     further behind j less on step = (
-      (λ end rest. on.0 end (subst (λ k. Recounts o c states start k (leasts_in c now) here end) (next_left n walked less)
-          (over start now (suc (n - (walked + 1))) (leasts_in c now) here end on.1 (step.0 (n - (walked + 1)) end (back start now (n - (walked + 1)) (leasts_in c behind) j end on.1 rest))))),
+      (λ end rest. on.0 end (subst (λ k. Recounts o c states start k (min_labels_in c now) here end) (next_left n walked less)
+          (over start now (suc (n - (walked + 1))) (min_labels_in c now) here end on.1 (step.0 (n - (walked + 1)) end (back start now (n - (walked + 1)) (min_labels_in c behind) j end on.1 rest))))),
       only_both c start now behind on.1 step.1,
     )
 
     pub stopped : n ≤ walked → OnIt (n - walked) now here → IsRecounted o c states n x start now
     stopped past on =
         let none : n - walked ≡ 0 = omega (arith, past) in
-        (on.0 (leasts_in c now) (subst (λ k. Recounts o c states start k (leasts_in c now) here (leasts_in c now)) (sym none) (all_the_way (leasts_in c now) here)), on.1)
+        (on.0 (min_labels_in c now) (subst (λ k. Recounts o c states start k (min_labels_in c now) here (min_labels_in c now)) (sym none) (all_the_way (min_labels_in c now) here)), on.1)
 
   -- at first nothing is walked
   pub begun : (n x : ℕ) (start : List Record) → OnIt n x start start x 0 (n - 0) start x
   begun n x start =
       let all : n - 0 ≡ n = omega arith in
-      ((λ end way. subst (λ k. Recounts o c states start k (leasts_in c start) x end) all way), nothing_changed c start)
+      ((λ end way. subst (λ k. Recounts o c states start k (min_labels_in c start) x end) all way), nothing_changed c start)

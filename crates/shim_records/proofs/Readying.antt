@@ -3,15 +3,15 @@ use Rattle.std.proofs.Common.{◌≡◌, ◌≤◌, ◌⊎◌, ℕ, suc, ◌+◌
 use Rattle.shim_base.specs.Paths.{Channel}
 use Rattle.shim_base.proofs.Facts.{some_same, none_some}
 use Rattle.shim_semantics.proofs.HowMany.{clash}
-use Rattle.shim_laws_table.specs.Counts.{live_reading}
+use Rattle.shim_laws_table.specs.Counts.{live_child_status}
 use Rattle.shim_laws_table.proofs.SameTrees.{same_or_not}
-use Rattle.shim_records.specs.Pairs.{reading_of, counts_in, counts_ready, leasts_in, up_in}
+use Rattle.shim_records.specs.Pairs.{child_status_of, counts_in, counts_ready, min_labels_in, up_in}
 use Rattle.shim_records.specs.Ways.{IsAbove, OnlyCounts, MovesParent, Falls, ReadsParent, NoneReadied, HasReadied, ReadiesWithin}
-use Rattle.shim_records.specs.declared.pair.Reading.{Reading}
+use Rattle.shim_records.specs.declared.pair.ChildStatus.{ChildStatus}
 use Rattle.shim_records.specs.declared.record.Record.{Record}
 use Rattle.shim_records.specs.declared.upward.CountChange.{CountChange}
 use Rattle.shim_records.proofs.Reaching.{among_more, Led}
-use Rattle.shim_records.proofs.WholeWay.{same_ups}
+use Rattle.shim_records.proofs.FullPropagation.{same_ups}
 
 -- a number is that of the parent, or isn't
 is_or_not : (x : Option ℕ) (i : ℕ) → (x ≡ Some i) ⊎ (x ≡ Some i → ⊥)
@@ -21,14 +21,14 @@ is_or_not (Some j) i = elim (same_or_not j i) [ inl e ↦ inl (ap Some e) | inr 
 -- ---- where a child isn't ready any more
 
 -- so far no record has become ready
-abbrev pub StillFalls : Channel → Reading → Reading → List Record → List Record → CountChange → Type 0
-StillFalls c was is start now here = reading_of was ≡ live_reading true → reading_of is ≡ live_reading false → Falls here × NoneReadied c start now
+abbrev pub StillFalls : Channel → ChildStatus → ChildStatus → List Record → List Record → CountChange → Type 0
+StillFalls c was is start now here = child_status_of was ≡ live_child_status true → child_status_of is ≡ live_child_status false → Falls here × NoneReadied c start now
 
-pub falls_at_first : (c : Channel) (was is : Reading) (x : ℕ) (start : List Record) → StillFalls c was is start start (record { at = x; was = was; is = is })
+pub falls_at_first : (c : Channel) (was is : ChildStatus) (x : ℕ) (start : List Record) → StillFalls c was is start start (record { at = x; was = was; is = is })
 falls_at_first c was is x start e f = ((e, f), λ i ready. ready)
 
-module _ (c : Channel) (was is : Reading) (start now : List Record) (here : CountChange) (so : StillFalls c was is start now here) (next : Option CountChange) (due : Bool) (behind : List Record) (moves : MovesParent c now here next behind) (reads : ReadsParent c now here next due behind) where
-  none_readied : reading_of was ≡ live_reading true → reading_of is ≡ live_reading false → NoneReadied c start behind
+module _ (c : Channel) (was is : ChildStatus) (start now : List Record) (here : CountChange) (so : StillFalls c was is start now here) (next : Option CountChange) (due : Bool) (behind : List Record) (moves : MovesParent c now here next behind) (reads : ReadsParent c now here next due behind) where
+  none_readied : child_status_of was ≡ live_child_status true → child_status_of is ≡ live_child_status false → NoneReadied c start behind
   none_readied e f i ready =
       let w = so e f in
       elim (is_or_not (up_in now here.at) i) [
@@ -36,7 +36,7 @@ module _ (c : Channel) (was is : Reading) (start now : List Record) (here : Coun
         | inr far ↦ w.1 i (ap counts_ready (sym (moves.others i far)) ∙ ready)
       ]
 
-  pub no_more_fall : next ≡ None → reading_of was ≡ live_reading true → reading_of is ≡ live_reading false → NoneReadied c start behind
+  pub no_more_fall : next ≡ None → child_status_of was ≡ live_child_status true → child_status_of is ≡ live_child_status false → NoneReadied c start behind
   no_more_fall end = none_readied
 
   pub still_falls : (above : CountChange) → next ≡ Some above → StillFalls c was is start behind above
@@ -49,7 +49,7 @@ module _ (c : Channel) (x : ℕ) (start : List Record) where
   pub record SoReady (walked again : ℕ) (now : List Record) (at : ℕ) : Type 0 where
     pub few : again ≤ walked
     pub counts : (i : ℕ) → (IsAbove (up_in start) again x i → ⊥) → counts_ready (counts_in c now i) ≡ true → counts_ready (counts_in c start i) ≡ true
-    pub labels : (i j : ℕ) → up_in start j ≡ Some i → (IsAbove (up_in start) again x i → ⊥) → HasReadied c x start now j → (j ≡ at) ⊎ (leasts_in c start i ≡ None)
+    pub labels : (i j : ℕ) → up_in start j ≡ Some i → (IsAbove (up_in start) again x i → ⊥) → HasReadied c x start now j → (j ≡ at) ⊎ (min_labels_in c start i ≡ None)
 
   pub ready_at_first : SoReady 0 0 start x
   ready_at_first = record {
@@ -110,7 +110,7 @@ module _ (c : Channel) (x : ℕ) (start : List Record) where
         ]
 
         -- a record that was ready so far, or isn't the parent
-        from_before : (j : ℕ) → up_in start j ≡ Some i → HasReadied c x start now j → leasts_in c start i ≡ None
+        from_before : (j : ℕ) → up_in start j ≡ Some i → HasReadied c x start now j → min_labels_in c start i ≡ None
         from_before j e readied = elim (so.labels i j e was_out readied) [
           | inr none ↦ none
           | inl same ↦
@@ -118,7 +118,7 @@ module _ (c : Channel) (x : ℕ) (start : List Record) where
               sym (only.labels c i) ∙ (reads.closed (is_closed u) i (known_now i u)).1
         ]
 
-        labels_then : (j : ℕ) → up_in start j ≡ Some i → HasReadied c x start behind j → ((above : CountChange) × (next ≡ Some above) × (j ≡ above.at)) ⊎ (leasts_in c start i ≡ None)
+        labels_then : (j : ℕ) → up_in start j ≡ Some i → HasReadied c x start behind j → ((above : CountChange) × (next ≡ Some above) × (j ≡ above.at)) ⊎ (min_labels_in c start i ≡ None)
         labels_then j e readied = elim readied [
           | inl same ↦ inr (from_before j e (inl same))
           | inr both ↦ elim (is_or_not (up_in now here.at) j) [
@@ -128,7 +128,7 @@ module _ (c : Channel) (x : ℕ) (start : List Record) where
         ]
           where
             on : (z : Option CountChange) → next ≡ z → up_in now here.at ≡ Some j → (counts_ready (counts_in c behind j) ≡ true) × (counts_ready (counts_in c start j) ≡ false)
-                → ((above : CountChange) × (next ≡ Some above) × (j ≡ above.at)) ⊎ (leasts_in c start i ≡ None)
+                → ((above : CountChange) × (next ≡ Some above) × (j ≡ above.at)) ⊎ (min_labels_in c start i ≡ None)
             on (Some above) z u both = inl (above, z, some_same j above.at (sym u ∙ moves.goes_on above z))
             on None z u both = inr (from_before j e (inr (sym (reads.same z j u) ∙ both.0, both.1)))
 

@@ -12,7 +12,7 @@ use Rattle.shim_records.specs.Fresh.{FreshSharing, SharingSoFar, LooksAt, unshar
 use Rattle.shim_records.specs.declared.pair.Pair.{Pair}
 use Rattle.shim_records.specs.declared.pair.Sharing.{Sharing}
 use Rattle.shim_records.specs.declared.record.Record.{Record}
-use Rattle.shim_records.proofs.Showing.{map_get}
+use Rattle.shim_records.proofs.Representing.{map_get}
 
 never : {A : Type 0} (b : Bool) → b ≡ true → b ≡ false → A
 never true e f = absurd cc

@@ -7,13 +7,13 @@ use mathlib.Core.Bool.{beq}
 use Rattle.std.proofs.lemmas.Option.{slice_get_read}
 use Rattle.shim_base.specs.Paths.{Channel}
 use Rattle.shim_base.proofs.Facts.{some_same, none_some}
-use Rattle.shim_laws_table.specs.Counts.{live_reading, read_of, all_there, IsExchanged}
+use Rattle.shim_laws_table.specs.Counts.{live_child_status, fork_status, tally_ready, IsExchanged}
 use Rattle.shim_laws_table.specs.Updating.{CanMove, AreMoved, UpdatedAbove, at_top, no_counts, stays, goes_on}
 use Rattle.shim_laws_table.proofs.SameTrees.{same_or_not}
-use Rattle.shim_records.specs.Pairs.{tally, reading_of, pair_index, pair_of, counts_at, counts_in, counts_ready, least_label_of, least_at, leasts_in, up_at, up_in, rest_of, chans_of, KnownPair, known_by, known_of}
+use Rattle.shim_records.specs.Pairs.{tally, child_status_of, pair_index, pair_of, counts_at, counts_in, counts_ready, min_label_of, min_label_at, min_labels_in, up_at, up_in, rest_of, chans_of, KnownPair, known_by, known_of}
 use Rattle.shim_records.specs.Ways.{OnlyCounts, MovesParent, Falls, ReadsParent, StepsUp}
 use Rattle.shim_records.specs.declared.pair.Pair.{Pair}
-use Rattle.shim_records.specs.declared.pair.Reading.{Reading}
+use Rattle.shim_records.specs.declared.pair.ChildStatus.{ChildStatus}
 use Rattle.shim_records.specs.declared.record.Record.{Record}
 use Rattle.shim_records.specs.declared.upward.CountChange.{CountChange}
 use Rattle.shim_records.proofs.Pairing.{Put, put_there, place_within}
@@ -60,11 +60,11 @@ other_bool false true e f = absurd cc
 other_bool false false e f = absurd cc
 
 -- a record has no label where it has no counts
-none_labelled : (x : Option Pair) → option_map tally x ≡ None → least_label_of x ≡ None
+none_labelled : (x : Option Pair) → option_map tally x ≡ None → min_label_of x ≡ None
 none_labelled None e = refl
 none_labelled (Some p) e = absurd cc
 
-pub unlabelled : (c : Channel) (x : Option Record) → counts_at c x ≡ None → least_at c x ≡ None
+pub unlabelled : (c : Channel) (x : Option Record) → counts_at c x ≡ None → min_label_at c x ≡ None
 unlabelled c None e = refl
 unlabelled c (Some r) e = none_labelled (pair_of c r.pairs.items) e
 
@@ -74,12 +74,12 @@ nothing_changed c rs = record { rest = refl; elsewhere = λ d far i. refl; label
 
 -- what is read of two pairs' counts in one record
 abbrev pub with_pair : Record → ℕ → Pair → Record
-with_pair r i q = record { status = r.status; first = r.first; parent = r.parent; path = r.path; going = r.going; pairs = with_item r.pairs i q }
+with_pair r i q = record { status = r.status; first = r.first; parent = r.parent; path = r.path; running_children = r.running_children; pairs = with_item r.pairs i q }
 
 -- a record whose pairs have the same channels, and know the same of them
 pub rest_with : (r : Record) (cs : List Channel) (ks : List KnownPair) → cs ≡ chans_of r.pairs.items → ks ≡ known_of r.pairs.items
-    → record { status = r.status; first = r.first; parent = r.parent; path = r.path; going = r.going; chans = cs; known = ks } ≡ rest_of r
-rest_with r cs ks e f = λ i. record { status = r.status; first = r.first; parent = r.parent; path = r.path; going = r.going; chans = e i; known = f i }
+    → record { status = r.status; first = r.first; parent = r.parent; path = r.path; running_children = r.running_children; chans = cs; known = ks } ≡ rest_of r
+rest_with r cs ks e f = λ i. record { status = r.status; first = r.first; parent = r.parent; path = r.path; running_children = r.running_children; chans = e i; known = f i }
 
 -- a pair with the same channel knows the same of it
 pub known_with : (p q : Pair) → q.chan ≡ p.chan → q.sharing ≡ p.sharing → known_by q ≡ known_by p
@@ -99,11 +99,11 @@ module _ (c : Channel) (rs : List Record) (here : CountChange) where
   }
 
   pub top : up_in rs here.at ≡ None → StepsUp c rs here None false rs
-  top e = ((λ n. at_top n (counts_in c rs) here.at (reading_of here.was) (reading_of here.is) e), nothing_changed c rs, none_moved, none_read (λ i u. none_some i (sym e ∙ u)))
+  top e = ((λ n. at_top n (counts_in c rs) here.at (child_status_of here.was) (child_status_of here.is) e), nothing_changed c rs, none_moved, none_read (λ i u. none_some i (sym e ∙ u)))
 
   pub uncounted : (j : ℕ) → up_in rs here.at ≡ Some j → counts_in c rs j ≡ None → StepsUp c rs here None false rs
   uncounted j e f = (
-    (λ n. no_counts n (counts_in c rs) here.at j (reading_of here.was) (reading_of here.is) e f),
+    (λ n. no_counts n (counts_in c rs) here.at j (child_status_of here.was) (child_status_of here.is) e f),
     nothing_changed c rs,
     none_moved,
     none_read (λ i u. ap (counts_in c rs) (some_same i j (sym u ∙ e)) ∙ f),
@@ -117,8 +117,8 @@ module _ (c : Channel) (rs : List Record) (here : CountChange) where
   up_is r j e f = ap up_at e ∙ f
 
   module _ (j i : ℕ) (r : Record) (p q : Pair) (up : up_in rs here.at ≡ Some j) (stood : slice_get rs j ≡ Some r) (place : pair_index c r.pairs.items ≡ Some i) (is_p : p ≡ get_or r.pairs.items i p)
-      (chan : q.chan ≡ p.chan) (sharing : q.sharing ≡ p.sharing) (label : q.least ≡ p.least)
-      (moved : CanMove 4294967295 (reading_of here.was) (reading_of here.is) (tally p) → IsExchanged (reading_of here.was) (reading_of here.is) (tally p) (tally q)) where
+      (chan : q.chan ≡ p.chan) (sharing : q.sharing ≡ p.sharing) (label : q.min_dead_label ≡ p.min_dead_label)
+      (moved : CanMove 4294967295 (child_status_of here.was) (child_status_of here.is) (tally p) → IsExchanged (child_status_of here.was) (child_status_of here.is) (tally p) (tally q)) where
     abbrev new : Record
     new = with_pair r i q
 
@@ -131,7 +131,7 @@ module _ (c : Channel) (rs : List Record) (here : CountChange) where
     stands : slice_get now j ≡ Some new
     stands = set_there rs j r new stood
 
-    are_moved : AreMoved 4294967295 (counts_in c rs) j (reading_of here.was) (reading_of here.is) (tally p) (tally q) (counts_in c now)
+    are_moved : AreMoved 4294967295 (counts_in c rs) j (child_status_of here.was) (child_status_of here.is) (tally p) (tally q) (counts_in c now)
     are_moved = record {
       old = ap (counts_at c) stood ∙ ap (option_map tally) put.found;
       new = ap (counts_at c) stands ∙ ap (option_map tally) put.finds;
@@ -158,8 +158,8 @@ module _ (c : Channel) (rs : List Record) (here : CountChange) where
         | inr w ↦ ap (counts_at d) (set_elsewhere rs j k new w)
       ];
       labels = λ d k. elim (same_or_not k j) [
-        | inl w ↦ ap (λ z. least_at d (slice_get now z)) w ∙ (ap (least_at d) stands ∙ (put.labels d ∙ (sym (ap (least_at d) stood) ∙ sym (ap (λ z. least_at d (slice_get rs z)) w))))
-        | inr w ↦ ap (least_at d) (set_elsewhere rs j k new w)
+        | inl w ↦ ap (λ z. min_label_at d (slice_get now z)) w ∙ (ap (min_label_at d) stands ∙ (put.labels d ∙ (sym (ap (min_label_at d) stood) ∙ sym (ap (λ z. min_label_at d (slice_get rs z)) w))))
+        | inr w ↦ ap (min_label_at d) (set_elsewhere rs j k new w)
       ];
     }
 
@@ -171,20 +171,20 @@ module _ (c : Channel) (rs : List Record) (here : CountChange) where
     }
 
     -- how the parent is read by these counts
-    module _ (due : Bool) (is_closed : due ≡ false → (all_there (tally q) ≡ false) × (q.least ≡ None)) (unready : reading_of here.was ≡ live_reading true → reading_of here.is ≡ live_reading false → all_there (tally q) ≡ false) where
+    module _ (due : Bool) (is_closed : due ≡ false → (tally_ready (tally q) ≡ false) × (q.min_dead_label ≡ None)) (unready : child_status_of here.was ≡ live_child_status true → child_status_of here.is ≡ live_child_status false → tally_ready (tally q) ≡ false) where
       its_place : (i : ℕ) → up_in rs here.at ≡ Some i → i ≡ j
       its_place i e = some_same i j (sym e ∙ up)
 
-      ready_now : (i : ℕ) → up_in rs here.at ≡ Some i → counts_ready (counts_in c now i) ≡ all_there (tally q)
+      ready_now : (i : ℕ) → up_in rs here.at ≡ Some i → counts_ready (counts_in c now i) ≡ tally_ready (tally q)
       ready_now i e = ap (λ z. counts_ready (counts_in c now z)) (its_place i e) ∙ ap counts_ready are_moved.new
 
-      ready_then : (i : ℕ) → up_in rs here.at ≡ Some i → counts_ready (counts_in c rs i) ≡ all_there (tally p)
+      ready_then : (i : ℕ) → up_in rs here.at ≡ Some i → counts_ready (counts_in c rs i) ≡ tally_ready (tally p)
       ready_then i e = ap (λ z. counts_ready (counts_in c rs z)) (its_place i e) ∙ ap counts_ready are_moved.old
 
-      label_then : (i : ℕ) → up_in rs here.at ≡ Some i → leasts_in c rs i ≡ q.least
-      label_then i e = ap (leasts_in c rs) (its_place i e) ∙ (ap (least_at c) stood ∙ (ap least_label_of put.found ∙ sym label))
+      label_then : (i : ℕ) → up_in rs here.at ≡ Some i → min_labels_in c rs i ≡ q.min_dead_label
+      label_then i e = ap (min_labels_in c rs) (its_place i e) ∙ (ap (min_label_at c) stood ∙ (ap min_label_of put.found ∙ sym label))
 
-      reads : (next : Option CountChange) → (next ≡ None → all_there (tally p) ≡ all_there (tally q)) → (Falls here → (above : CountChange) → next ≡ Some above → Falls above) → ReadsParent c rs here next due now
+      reads : (next : Option CountChange) → (next ≡ None → tally_ready (tally p) ≡ tally_ready (tally q)) → (Falls here → (above : CountChange) → next ≡ Some above → Falls above) → ReadsParent c rs here next due now
       reads next same falls = record {
         closed = λ e i u. (ready_now i u ∙ (is_closed e).0, label_then i u ∙ (is_closed e).1);
         same = λ e i u. ready_now i u ∙ (sym (same e) ∙ sym (ready_then i u));
@@ -192,28 +192,28 @@ module _ (c : Channel) (rs : List Record) (here : CountChange) where
         falls = falls;
       }
 
-      pub ends : all_there (tally p) ≡ all_there (tally q) → StepsUp c rs here None due now
+      pub ends : tally_ready (tally p) ≡ tally_ready (tally q) → StepsUp c rs here None due now
       ends same = (
-        (λ n. stays n (counts_in c rs) (counts_in c now) here.at j (reading_of here.was) (reading_of here.is) (tally p) (tally q) up are_moved same),
+        (λ n. stays n (counts_in c rs) (counts_in c now) here.at j (child_status_of here.was) (child_status_of here.is) (tally p) (tally q) up are_moved same),
         only,
         moves None (λ above e. none_some above e),
         reads None (λ e. same) (λ f above e. none_some above e),
       )
 
-      pub goes : (next : CountChange) → (all_there (tally q) ≡ false → all_there (tally p) ≡ true) → next.at ≡ j → reading_of next.was ≡ read_of true (tally p) → reading_of next.is ≡ read_of true (tally q) → StepsUp c rs here (Some next) due now
+      pub goes : (next : CountChange) → (tally_ready (tally q) ≡ false → tally_ready (tally p) ≡ true) → next.at ≡ j → child_status_of next.was ≡ fork_status true (tally p) → child_status_of next.is ≡ fork_status true (tally q) → StepsUp c rs here (Some next) due now
       goes next other at was is = (
-        (λ n behind rest. goes_on n (counts_in c rs) (counts_in c now) behind here.at j (reading_of here.was) (reading_of here.is) (tally p) (tally q) up are_moved
-            (subst (λ z. UpdatedAbove (up_in rs) 4294967295 n (counts_in c now) j (read_of true (tally p)) z behind) is (subst (λ z. UpdatedAbove (up_in rs) 4294967295 n (counts_in c now) j z (reading_of next.is) behind) was
-            (subst (λ z. UpdatedAbove (up_in rs) 4294967295 n (counts_in c now) z (reading_of next.was) (reading_of next.is) behind) at rest)))),
+        (λ n behind rest. goes_on n (counts_in c rs) (counts_in c now) behind here.at j (child_status_of here.was) (child_status_of here.is) (tally p) (tally q) up are_moved
+            (subst (λ z. UpdatedAbove (up_in rs) 4294967295 n (counts_in c now) j (fork_status true (tally p)) z behind) is (subst (λ z. UpdatedAbove (up_in rs) 4294967295 n (counts_in c now) j z (child_status_of next.is) behind) was
+            (subst (λ z. UpdatedAbove (up_in rs) 4294967295 n (counts_in c now) z (child_status_of next.was) (child_status_of next.is) behind) at rest)))),
         only,
         moves (Some next) (λ above e. ap (λ z. z.at) (sym (some_same next above e)) ∙ at),
-        reads (Some next) (λ e. none_some next (sym e)) (λ f above e. subst Falls (some_same next above e) (was ∙ ap live_reading (other (unready f.0 f.1)), is ∙ ap live_reading (unready f.0 f.1))),
+        reads (Some next) (λ e. none_some next (sym e)) (λ f above e. subst Falls (some_same next above e) (was ∙ ap live_child_status (other (unready f.0 f.1)), is ∙ ap live_child_status (unready f.0 f.1))),
       )
 
 -- what is read of a fork that shares the channel
-pub fork_read : (r : Reading) (b : Bool) (p : Pair) → reading_of r ≡ live_reading b → b ≡ all_there (tally p) → reading_of r ≡ read_of true (tally p)
-fork_read r b p e f = e ∙ ap live_reading f
+pub fork_read : (r : ChildStatus) (b : Bool) (p : Pair) → child_status_of r ≡ live_child_status b → b ≡ tally_ready (tally p) → child_status_of r ≡ fork_status true (tally p)
+fork_read r b p e f = e ∙ ap live_child_status f
 
 -- what isn't due has neither all there nor a label
-pub closed_by : (due all : Bool) (p : Pair) → all ≡ all_there (tally p) → (due ≡ false → (all ≡ false) × (p.least ≡ None)) → due ≡ false → (all_there (tally p) ≡ false) × (p.least ≡ None)
+pub closed_by : (due all : Bool) (p : Pair) → all ≡ tally_ready (tally p) → (due ≡ false → (all ≡ false) × (p.min_dead_label ≡ None)) → due ≡ false → (tally_ready (tally p) ≡ false) × (p.min_dead_label ≡ None)
 closed_by due all p e h f = (sym e ∙ (h f).0, (h f).1)

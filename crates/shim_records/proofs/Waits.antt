@@ -7,7 +7,7 @@ use Rattle.std.proofs.lemmas.Option.{slice_get_within}
 use Rattle.std.proofs.lemmas.List.{length-set, append_assoc, length-append}
 use Rattle.std.proofs.lemmas.Bool.{true≢false}
 use Rattle.shim_base.proofs.Facts.{some_same, none_some}
-use Rattle.shim_records.specs.Waiting.{set_flags, KeepsRoom, AreRaised}
+use Rattle.shim_records.specs.Waiting.{set_flags, KeepsRoom, AreGrown}
 use Rattle.shim_laws_table.proofs.SameTrees.{same_or_not}
 use Rattle.shim_records.proofs.Stepping.{set_there, set_elsewhere}
 
@@ -149,7 +149,7 @@ raised old new bs k items room = record {
 }
 
 -- one flag more behind so many more
-pub raised_again : (old now next : List Bool) → AreRaised old now → next ≡ now ++ false ∷ [] → AreRaised old next
+pub raised_again : (old now next : List Bool) → AreGrown old now → next ≡ now ++ false ∷ [] → AreGrown old next
 raised_again old now next so e = (suc so.0, e ∙ (ap (λ z. z ++ false ∷ []) so.1 ∙ (append_assoc old (replicate so.0 false) (false ∷ []) ∙ ap (λ z. old ++ z) (at_end so.0))))
   where
     at_end : (k : ℕ) → replicate k false ++ false ∷ [] ≡ false ∷ replicate k false
@@ -165,7 +165,7 @@ pub still_within : (now next : List Bool) (n : ℕ) → next ≡ now ++ false �
 still_within now next n e h = let w = ap length e ∙ length-append now (false ∷ []) in omega (arith, w, h)
 
 -- where there was none, there is one flag, which isn't set
-pub first_flag : (old new : List Bool) → old ≡ [] → AreRaised old new → 1 ≤ length new → length new ≤ 1 → new ≡ false ∷ []
+pub first_flag : (old new : List Bool) → old ≡ [] → AreGrown old new → 1 ≤ length new → length new ≤ 1 → new ≡ false ∷ []
 first_flag old new none so low high = on so.0 (so.1 ∙ ap (λ z. z ++ replicate so.0 false) none)
   where
     on : (k : ℕ) → new ≡ replicate k false → new ≡ false ∷ []

@@ -5,16 +5,16 @@ use Rattle.shim_base.specs.Paths.{Channel, NamedChannel}
 use Rattle.shim_base.proofs.Facts.{some_same, none_some}
 use Rattle.shim_local.specs.Process.{Ops}
 use Rattle.shim_laws_table.specs.Seen.{ProcessStatus}
-use Rattle.shim_laws_table.specs.Counts.{Reading as Read}
-use Rattle.shim_laws_table.specs.Sufficing.{read_leaf}
+use Rattle.shim_laws_table.specs.Counts.{ChildStatus as Read}
+use Rattle.shim_laws_table.specs.Sufficing.{leaf_status}
 use Rattle.shim_records.specs.Members.{IsAmong}
-use Rattle.shim_records.specs.Pairs.{reading_of, rest_of}
+use Rattle.shim_records.specs.Pairs.{child_status_of, rest_of}
 use Rattle.shim_records.specs.Ways.{IsUpdatedAbove}
-use Rattle.shim_records.specs.AllWays.{AllUpdatedAbove, none_left, one_more}
+use Rattle.shim_records.specs.UpdatesAbove.{AllUpdatedAbove, none_left, one_more}
 use Rattle.shim_records.specs.Acted.{acting, Earlier, UpdatesForOne, unshared, again, walked, AllUpdated}
-use Rattle.shim_records.specs.declared.pair.Reading.{Reading}
+use Rattle.shim_records.specs.declared.pair.ChildStatus.{ChildStatus}
 use Rattle.shim_records.specs.declared.record.Record.{Record}
-use Rattle.shim_records.proofs.ManyWays.{rest_same}
+use Rattle.shim_records.proofs.ManyPropagations.{rest_same}
 
 -- ---- places in a list
 
@@ -56,7 +56,7 @@ among_either c d (x ∷ cs) (zero, e) = inl (0, e)
 among_either c d (x ∷ cs) (suc i, e) = elim (among_either c d cs (i, e)) [ inl w ↦ inl (suc w.0, w.1) | inr w ↦ inr w ]
 
 -- one more way behind others
-pub one_behind : (was is : Channel → Read) (n x : ℕ) {cs : List Channel} {a b : List Record} (d : List Record) (c : Channel) (read reads : Reading) → AllUpdatedAbove was is n x cs a b → (IsAmong c cs → ⊥) → reading_of read ≡ was c → reading_of reads ≡ is c → IsUpdatedAbove c n x read reads b d
+pub one_behind : (was is : Channel → Read) (n x : ℕ) {cs : List Channel} {a b : List Record} (d : List Record) (c : Channel) (read reads : ChildStatus) → AllUpdatedAbove was is n x cs a b → (IsAmong c cs → ⊥) → child_status_of read ≡ was c → child_status_of reads ≡ is c → IsUpdatedAbove c n x read reads b d
     → AllUpdatedAbove was is n x (cs ++ c ∷ []) a d
 one_behind was is n x d c read reads (none_left rs) out e f way = one_more c [] read reads rs d d none_there e f way (none_left d)
   where
@@ -93,7 +93,7 @@ module _ {S : Type 0} (o : Ops S) (s : S) where
   module _ (k : ProcessStatus) (n x : ℕ) (start : List Record) where
     pub record SoFar (place : ℕ) (now : List Record) : Type 0 where
       pub chans : List Channel
-      pub updated : AllUpdatedAbove (acting o s) (λ c. read_leaf o c s k) n x chans start now
+      pub updated : AllUpdatedAbove (acting o s) (λ c. leaf_status o c s k) n x chans start now
       pub all : (c : Channel) → Earlier o s c place → o.shares s c ≡ true → IsAmong c chans
       pub only : (c : Channel) → IsAmong c chans → (o.shares s c ≡ true) × Earlier o s c place
 
@@ -129,7 +129,7 @@ module _ {S : Type 0} (o : Ops S) (s : S) where
     })
     next place now behind d e (walked shares first read reads was is way) so = record {
       chans = so.chans ++ d.channel ∷ [];
-      updated = one_behind (acting o s) (λ c. read_leaf o c s k) n x behind d.channel read reads so.updated (λ g. first (so.only d.channel g).1) was is way;
+      updated = one_behind (acting o s) (λ c. leaf_status o c s k) n x behind d.channel read reads so.updated (λ g. first (so.only d.channel g).1) was is way;
       all = λ c h has. elim (last_or_before h.0 place h.2) [
         | inl w ↦ among_left c d.channel so.chans (so.all c (h.0, h.1, w, h.3, h.4) has)
         | inr w ↦
@@ -164,4 +164,4 @@ module _ {S : Type 0} (o : Ops S) (s : S) where
 
     -- beside the pairs the records say what they did
     pub ways : (place : ℕ) (now : List Record) → SoFar place now → map rest_of now ≡ map rest_of start
-    ways place now so = rest_same (acting o s) (λ c. read_leaf o c s k) n x so.updated
+    ways place now so = rest_same (acting o s) (λ c. leaf_status o c s k) n x so.updated

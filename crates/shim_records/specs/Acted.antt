@@ -1,4 +1,4 @@
--- The ways up for the channels that a process was given, one after the other.
+-- The counts above a process that did anything by itself, updated for the channels that it was given, one after the other.
 use Rattle.std.specs.Prelude.{◌≡◌, ◌<◌, ◌≤◌, ℕ, true, false, Some, List, slice_get, length, map}
 use Rattle.shim_base.specs.Paths.{Path, Channel, NamedChannel}
 use Rattle.shim_local.specs.Process.{Ops}
@@ -7,17 +7,17 @@ use Rattle.shim_semantics.specs.Nodes.{Node}
 use Rattle.shim_semantics.specs.Acts.{Acted, act_here}
 use Rattle.shim_semantics.specs.Sound.{IsSound}
 use Rattle.shim_laws_table.specs.Seen.{ProcessStatus, lives, forks, ends, dies, is_leaf, place}
-use Rattle.shim_laws_table.specs.Agrees.{Has, Shows}
+use Rattle.shim_laws_table.specs.Agrees.{Has, Represents}
 use Rattle.shim_laws_table.specs.Places.{IsReplaced}
 use Rattle.shim_laws_table.specs.Tallied.{Tallied, OnTheWay, HaveCounts}
 use Rattle.shim_laws_table.specs.Updating.{AreLinked, AreAtMost}
-use Rattle.shim_laws_table.specs.Counts.{Reading as Read}
-use Rattle.shim_laws_table.specs.Sufficing.{read_leaf}
+use Rattle.shim_laws_table.specs.Counts.{ChildStatus as Read}
+use Rattle.shim_laws_table.specs.Sufficing.{leaf_status}
 use Rattle.shim_records.specs.Members.{IsAmong}
-use Rattle.shim_records.specs.Pairs.{reading_of, counts_in, up_in, rest_of, stands_of}
+use Rattle.shim_records.specs.Pairs.{child_status_of, counts_in, up_in, rest_of, stands_of}
 use Rattle.shim_records.specs.Ways.{IsUpdatedAbove}
-use Rattle.shim_records.specs.AllWays.{AllUpdatedAbove}
-use Rattle.shim_records.specs.declared.pair.Reading.{Reading}
+use Rattle.shim_records.specs.UpdatesAbove.{AllUpdatedAbove}
+use Rattle.shim_records.specs.declared.pair.ChildStatus.{ChildStatus}
 use Rattle.shim_records.specs.declared.record.Record.{Record}
 use Rattle.shim_records.specs.declared.record.Status.{Status}
 use Rattle.shim_records.specs.declared.record.Status.TheVariants as code
@@ -32,7 +32,7 @@ process_status_of (code.Dead d) = dies d
 
 -- what was read of a process that has done anything by itself
 abbrev pub acting : {S : Type 0} → Ops S → S → Channel → Read
-acting o s c = record { joining = o.shares s c; readiness = false; failing = false }
+acting o s c = record { alive = o.shares s c; ready_on = false; dead_on = false }
 
 -- the channel stands at a place before this one, of those that the process was given
 abbrev pub Earlier : {S : Type 0} → Ops S → S → Channel → ℕ → Type 0
@@ -42,19 +42,19 @@ Earlier o s c place = (at : ℕ) × (d : NamedChannel) × (at < place) × (slice
 pub data UpdatesForOne {S : Type 0} (o : Ops S) (s : S) (k : ProcessStatus) (n x : ℕ) (c : Channel) (place : ℕ) (before behind : List Record) : Type 0 where
   unshared : o.shares s c ≡ false → behind ≡ before → UpdatesForOne o s k n x c place before behind
   again : Earlier o s c place → behind ≡ before → UpdatesForOne o s k n x c place before behind
-  walked : o.shares s c ≡ true → (Earlier o s c place → ⊥) → (read reads : Reading) → reading_of read ≡ acting o s c → reading_of reads ≡ read_leaf o c s k → IsUpdatedAbove c n x read reads before behind → UpdatesForOne o s k n x c place before behind
+  walked : o.shares s c ≡ true → (Earlier o s c place → ⊥) → (read reads : ChildStatus) → child_status_of read ≡ acting o s c → child_status_of reads ≡ leaf_status o c s k → IsUpdatedAbove c n x read reads before behind → UpdatesForOne o s k n x c place before behind
 
--- for all of them
+-- for all channels that it was given and shares
 pub record AllUpdated {S : Type 0} (o : Ops S) (s : S) (k : ProcessStatus) (n x : ℕ) (before behind : List Record) : Type 0 where
   pub chans : List Channel
-  pub updated : AllUpdatedAbove (acting o s) (λ c. read_leaf o c s k) n x chans before behind
+  pub updated : AllUpdatedAbove (acting o s) (λ c. leaf_status o c s k) n x chans before behind
   pub all : (c : Channel) → IsGiven o s c → o.shares s c ≡ true → IsAmong c chans
   pub shared : (c : Channel) → IsAmong c chans → o.shares s c ≡ true
 
 -- The node of a process that did something by itself, and has no children now, is in its place, and the counts above are still those of the tree before. Updated for those channels, all counts are those of the tree now, and nothing else in the records has changed.
-abbrev pub ActedBrings : {S : Type 0} → Ops S → Type 0
-ActedBrings {S} o = (rp : Path) (states : List S) (rs behind : List Record) (old new m : Node S) (a : Acted S) (n x f : ℕ) (s : S) (k : ProcessStatus)
-    → IsSound o old → Shows o rp states (map stands_of rs) new → AreLinked states (map stands_of rs) (up_in rs) → AreAtMost 4294967295 states (map stands_of rs)
+abbrev pub StepUpdatesCounts : {S : Type 0} → Ops S → Type 0
+StepUpdatesCounts {S} o = (rp : Path) (states : List S) (rs behind : List Record) (old new m : Node S) (a : Acted S) (n x f : ℕ) (s : S) (k : ProcessStatus)
+    → IsSound o old → Represents o rp states (map stands_of rs) new → AreLinked states (map stands_of rs) (up_in rs) → AreAtMost 4294967295 states (map stands_of rs)
     → Has states (map stands_of rs) x f s k → IsReplaced (place o rp s) m a.node old new → act_here o m ≡ Some a → is_leaf a.node ≡ true → length (place o rp s) ≤ n
     → ((c : Channel) → HaveCounts o rp states (map stands_of rs) c (counts_in c rs) new) → ((c : Channel) → OnTheWay o rp states (map stands_of rs) c (counts_in c rs) old new (place o rp s))
     → AllUpdated o s k n x rs behind

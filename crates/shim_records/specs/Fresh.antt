@@ -6,7 +6,7 @@ use Rattle.shim_local.specs.Process.{Ops}
 use Rattle.shim_local.specs.Laws.{AnyOf, IsGiven}
 use Rattle.shim_laws_table.specs.Counts.{Tally, fresh_tally}
 use Rattle.shim_records.specs.Members.{IsAmong}
-use Rattle.shim_records.specs.Pairs.{tally, chans_of, IsOrdered, pair_of, tally_for, least_label_of, known_of, known_for}
+use Rattle.shim_records.specs.Pairs.{tally, chans_of, IsOrdered, pair_of, tally_for, min_label_of, known_of, known_for}
 use Rattle.shim_records.specs.declared.pair.Pair.{Pair}
 use Rattle.shim_records.specs.declared.pair.Sharing.{Sharing}
 
@@ -66,12 +66,12 @@ pub data LooksAt {S : Type 0} (o : Ops S) (c : Channel) (b : ℕ) (s : S) (befor
 -- a pair of the channel is added behind the others, unless the channel doesn't come after that of the last pair
 pub data IsOneMore {S : Type 0} (o : Ops S) (ks : List S) (c : Channel) (before behind : List Pair) : Type 0 where
   skipped : comes_after before c ≡ false → behind ≡ before → IsOneMore o ks c before behind
-  added : (p : Pair) → comes_after before c ≡ true → behind ≡ before ++ p ∷ [] → p.chan.channel ≡ c → tally p ≡ fresh_tally o c ks → p.least ≡ None → FreshSharing o c ks p.sharing → IsOneMore o ks c before behind
+  added : (p : Pair) → comes_after before c ≡ true → behind ≡ before ++ p ∷ [] → p.chan.channel ≡ c → tally p ≡ fresh_tally o c ks → p.min_dead_label ≡ None → FreshSharing o c ks p.sharing → IsOneMore o ks c before behind
 
 -- one pair for each of these channels, in order, with the counts of new children
 pub record IsPaired {S : Type 0} (o : Ops S) (ks : List S) (cs : List Channel) (pairs : List Pair) : Type 0 where
   pub ordered : IsOrdered (chans_of pairs)
-  pub right : (i : ℕ) (p : Pair) → slice_get pairs i ≡ Some p → (tally p ≡ fresh_tally o p.chan.channel ks) × (p.least ≡ None) × FreshSharing o p.chan.channel ks p.sharing
+  pub right : (i : ℕ) (p : Pair) → slice_get pairs i ≡ Some p → (tally p ≡ fresh_tally o p.chan.channel ks) × (p.min_dead_label ≡ None) × FreshSharing o p.chan.channel ks p.sharing
   pub there : (c : Channel) → IsAmong c (chans_of pairs) ↔ IsAmong c cs
 
 -- the pairs of the fork that made these children
@@ -79,5 +79,5 @@ pub record FreshPairs {S : Type 0} (o : Ops S) (p : S) (ks : List S) (pairs : Li
   pub ordered : IsOrdered (chans_of pairs)
   pub right : (c : Channel) (y : Tally) → tally_for c pairs ≡ Some y → y ≡ fresh_tally o c ks
   pub there : (c : Channel) → (tally_for c pairs ≢ None) ↔ ((o.shares p c ≡ true) × AnyOf (λ k. IsGiven o k c) ks)
-  pub unlabelled : (c : Channel) → least_label_of (pair_of c pairs) ≡ None
+  pub unlabelled : (c : Channel) → min_label_of (pair_of c pairs) ≡ None
   pub known : (c : Channel) (k : Sharing) → known_for c (known_of pairs) ≡ Some k → FreshSharing o c ks k

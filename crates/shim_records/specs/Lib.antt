@@ -5,11 +5,11 @@ pub mod Ways
 pub mod Blocks
 pub mod Fresh
 pub mod Waiting
-pub mod Showing
+pub mod Representing
 pub mod Labels
-pub mod Leaving
+pub mod CountingOff
 pub mod Recounting
-pub mod AllWays
+pub mod UpdatesAbove
 pub mod Acted
 pub mod Died
 pub mod Killed

@@ -5,9 +5,9 @@ use Rattle.std.specs.Option.{option_map}
 use Rattle.shim_base.specs.Paths.{Path, Channel, same_channel, channel_order}
 use Rattle.shim_laws_table.specs.Seen.{lives, forks, ends, dies}
 use Rattle.shim_laws_table.specs.Agrees.{RecordView, free, used}
-use Rattle.shim_laws_table.specs.Counts.{Tally, Reading as Read, all_there}
+use Rattle.shim_laws_table.specs.Counts.{Tally, ChildStatus as Read, tally_ready}
 use Rattle.shim_records.specs.declared.pair.Pair.{Pair}
-use Rattle.shim_records.specs.declared.pair.Reading.{Reading}
+use Rattle.shim_records.specs.declared.pair.ChildStatus.{ChildStatus}
 use Rattle.shim_records.specs.declared.pair.Sharing.{Sharing}
 use Rattle.shim_records.specs.declared.record.Record.{Record}
 use Rattle.shim_records.specs.declared.record.Status.{Status}
@@ -18,8 +18,8 @@ abbrev pub tally : Pair → Tally
 tally p = record { live = p.live; not_ready = p.not_ready; dead = p.dead }
 
 -- a reading of the code, as the laws have it
-abbrev pub reading_of : Reading → Read
-reading_of r = record { joining = r.joining; readiness = r.readiness; failing = r.failing }
+abbrev pub child_status_of : ChildStatus → Read
+child_status_of r = record { alive = r.alive; ready_on = r.ready_on; dead_on = r.dead_on }
 
 -- the channels of the pairs
 abbrev pub chans_of : List Pair → List Channel
@@ -55,21 +55,21 @@ counts_in c rs i = counts_at c (slice_get rs i)
 -- there are counts, and by them all are there
 abbrev pub counts_ready : Option Tally → Bool
 counts_ready None = false
-counts_ready (Some y) = all_there y
+counts_ready (Some y) = tally_ready y
 
 -- the label of a pair, where there is the pair
-abbrev pub least_label_of : Option Pair → Option ℕ
-least_label_of None = None
-least_label_of (Some p) = p.least
+abbrev pub min_label_of : Option Pair → Option ℕ
+min_label_of None = None
+min_label_of (Some p) = p.min_dead_label
 
 -- the least label that a record has for the channel, if there is the record
-abbrev pub least_at : Channel → Option Record → Option ℕ
-least_at c None = None
-least_at c (Some r) = least_label_of (pair_of c r.pairs.items)
+abbrev pub min_label_at : Channel → Option Record → Option ℕ
+min_label_at c None = None
+min_label_at c (Some r) = min_label_of (pair_of c r.pairs.items)
 
 -- the least labels that they have for it
-abbrev pub leasts_in : Channel → List Record → ℕ → Option ℕ
-leasts_in c rs i = least_at c (slice_get rs i)
+abbrev pub min_labels_in : Channel → List Record → ℕ → Option ℕ
+min_labels_in c rs i = min_label_at c (slice_get rs i)
 
 -- the number of the process whose fork made that of the record, if there is the record
 abbrev pub up_at : Option Record → Option ℕ
@@ -133,13 +133,13 @@ pub record UncountedRecord : Type 0 where
   pub first : ℕ
   pub parent : Option ℕ
   pub path : Path
-  pub going : ℕ
+  pub running_children : ℕ
   pub chans : List Channel
   pub known : List KnownPair
 
 -- what the record says without what is counted
 abbrev pub rest_of : Record → UncountedRecord
-rest_of r = record { status = r.status; first = r.first; parent = r.parent; path = r.path; going = r.going; chans = chans_of r.pairs.items; known = known_of r.pairs.items }
+rest_of r = record { status = r.status; first = r.first; parent = r.parent; path = r.path; running_children = r.running_children; chans = chans_of r.pairs.items; known = known_of r.pairs.items }
 
 -- the pairs of each record stand in order
 abbrev pub AreOrdered : List Record → Type 0

@@ -1,11 +1,11 @@
 -- How the counts of records are brought up to date on the way up.
 use Rattle.std.specs.Prelude.{◌≡◌, ◌⊎◌, ℕ, suc, Bool, true, false, Option, Some, None, List, map}
 use Rattle.shim_base.specs.Paths.{Channel, same_channel}
-use Rattle.shim_laws_table.specs.Counts.{Tally, live_reading}
+use Rattle.shim_laws_table.specs.Counts.{Tally, live_child_status}
 use Rattle.shim_laws_table.specs.Updating.{UpdatedAbove}
-use Rattle.shim_records.specs.Pairs.{reading_of, counts_in, counts_ready, leasts_in, up_in, rest_of}
+use Rattle.shim_records.specs.Pairs.{child_status_of, counts_in, counts_ready, min_labels_in, up_in, rest_of}
 use Rattle.shim_records.specs.declared.upward.CountChange.{CountChange}
-use Rattle.shim_records.specs.declared.pair.Reading.{Reading}
+use Rattle.shim_records.specs.declared.pair.ChildStatus.{ChildStatus}
 use Rattle.shim_records.specs.declared.record.Record.{Record}
 
 -- `IsAbove up n i j`: j is the number of one of the first n forks above i, by what children know of their forks.
@@ -29,11 +29,11 @@ AllCountsMovedWithin n x before behind = (c : Channel) → CountsMovedWithin c n
 pub record OnlyCounts (c : Channel) (before behind : List Record) : Type 0 where
   pub rest : map rest_of behind ≡ map rest_of before
   pub elsewhere : (d : Channel) → same_channel c d ≡ false → (i : ℕ) → counts_in d behind i ≡ counts_in d before i
-  pub labels : (d : Channel) (i : ℕ) → leasts_in d behind i ≡ leasts_in d before i
+  pub labels : (d : Channel) (i : ℕ) → min_labels_in d behind i ≡ min_labels_in d before i
 
--- what is still to be walked from the place on, through at most so many forks
+-- what is still to be updated from the place on, through at most so many forks
 abbrev pub Goes : (ℕ → Option ℕ) → ℕ → (ℕ → Option Tally) → CountChange → (ℕ → Option Tally) → Type 0
-Goes up n before here behind = UpdatedAbove up 4294967295 n before here.at (reading_of here.was) (reading_of here.is) behind
+Goes up n before here behind = UpdatedAbove up 4294967295 n before here.at (child_status_of here.was) (child_status_of here.is) behind
 
 -- the walk ends here, however far it might have led; or it goes on from the parent
 abbrev pub Continues : (ℕ → Option ℕ) → (ℕ → Option Tally) → CountChange → Option CountChange → (ℕ → Option Tally) → Type 0
@@ -47,12 +47,12 @@ pub record MovesParent (c : Channel) (before : List Record) (here : CountChange)
 
 -- a process that goes on was ready here, and isn't any more
 abbrev pub Falls : CountChange → Type 0
-Falls here = (reading_of here.was ≡ live_reading true) × (reading_of here.is ≡ live_reading false)
+Falls here = (child_status_of here.was ≡ live_child_status true) × (child_status_of here.is ≡ live_child_status false)
 
 -- How the parent is read by its counts behind a step up, which tells whether it is due: all are there, or it has a label.
 pub record ReadsParent (c : Channel) (before : List Record) (here : CountChange) (next : Option CountChange) (due : Bool) (behind : List Record) : Type 0 where
   -- where it isn't due, neither is so
-  pub closed : due ≡ false → (i : ℕ) → up_in before here.at ≡ Some i → (counts_ready (counts_in c behind i) ≡ false) × (leasts_in c before i ≡ None)
+  pub closed : due ≡ false → (i : ℕ) → up_in before here.at ≡ Some i → (counts_ready (counts_in c behind i) ≡ false) × (min_labels_in c before i ≡ None)
   -- where the walk ends, it is read as before
   pub same : next ≡ None → (i : ℕ) → up_in before here.at ≡ Some i → counts_ready (counts_in c behind i) ≡ counts_ready (counts_in c before i)
   -- where a child isn't ready any more, it isn't ready either, and whatever goes on does so for that
@@ -64,19 +64,19 @@ abbrev pub StepsUp : Channel → List Record → CountChange → Option CountCha
 StepsUp c before here next due behind =
     Continues (up_in before) (counts_in c before) here next (counts_in c behind) × OnlyCounts c before behind × MovesParent c before here next behind × ReadsParent c before here next due behind
 
--- the way up was walked through at most so many forks
-abbrev pub IsUpdatedAbove : Channel → ℕ → ℕ → Reading → Reading → List Record → List Record → Type 0
-IsUpdatedAbove c n x was is before behind = UpdatedAbove (up_in before) 4294967295 n (counts_in c before) x (reading_of was) (reading_of is) (counts_in c behind) × OnlyCounts c before behind
+-- the counts for the channel above the record x were updated, through at most n forks, and nothing else has changed
+abbrev pub IsUpdatedAbove : Channel → ℕ → ℕ → ChildStatus → ChildStatus → List Record → List Record → Type 0
+IsUpdatedAbove c n x was is before behind = UpdatedAbove (up_in before) 4294967295 n (counts_in c before) x (child_status_of was) (child_status_of is) (counts_in c behind) × OnlyCounts c before behind
 
--- ---- what becomes ready by a way
+-- ---- what becomes ready by an update
 
 -- no record is ready for the channel by its counts that wasn't
 abbrev pub NoneReadied : Channel → List Record → List Record → Type 0
 NoneReadied c before behind = (i : ℕ) → counts_ready (counts_in c behind i) ≡ true → counts_ready (counts_in c before i) ≡ true
 
--- a live process came to the channel: the way up was walked from the record x, through at most n forks
+-- a live process came to the channel: the counts above the record x were updated for it, through at most n forks
 abbrev pub ComesTo : Channel → ℕ → ℕ → List Record → List Record → Type 0
-ComesTo c n x before behind = (was : Reading) × (is : Reading) × (reading_of was ≡ live_reading false) × (reading_of is ≡ live_reading true) × IsUpdatedAbove c n x was is before behind
+ComesTo c n x before behind = (was : ChildStatus) × (is : ChildStatus) × (child_status_of was ≡ live_child_status false) × (child_status_of is ≡ live_child_status true) × IsUpdatedAbove c n x was is before behind
 
 -- with the process of the record x the record has become ready for the channel: it is that record, or ready by its counts, and it wasn't
 abbrev pub HasReadied : Channel → ℕ → List Record → List Record → ℕ → Type 0
@@ -85,4 +85,4 @@ HasReadied c x before behind j = (j ≡ x) ⊎ ((counts_ready (counts_in c behin
 -- With the process of the record x others have become ready for the channel. Beyond the first n forks above it none has, and none has a label for it whose child has.
 pub record ReadiesWithin (c : Channel) (n x : ℕ) (before behind : List Record) : Type 0 where
   pub counts : (i : ℕ) → (IsAbove (up_in before) n x i → ⊥) → counts_ready (counts_in c behind i) ≡ true → counts_ready (counts_in c before i) ≡ true
-  pub labels : (i j : ℕ) → up_in before j ≡ Some i → (IsAbove (up_in before) n x i → ⊥) → HasReadied c x before behind j → leasts_in c before i ≡ None
+  pub labels : (i j : ℕ) → up_in before j ≡ Some i → (IsAbove (up_in before) n x i → ⊥) → HasReadied c x before behind j → min_labels_in c before i ≡ None

@@ -1,36 +1,36 @@
 // The counts above a process that has done anything by itself, brought up to date for all channels.
 ghost use Rattle.std.specs.Prelude.{◌≡◌, ◌≤◌, true, false, length};
-ghost use Rattle.shim_records.specs.Pairs.{reading_of, AreOrdered};
+ghost use Rattle.shim_records.specs.Pairs.{child_status_of, AreOrdered};
 ghost use Rattle.shim_records.specs.Ways.{AllCountsMovedWithin};
 ghost use Rattle.shim_records.specs.Acted.{Earlier, process_status_of, UpdatesForOne, AllUpdated};
-ghost use Rattle.shim_laws_table.specs.Sufficing.{read_leaf};
+ghost use Rattle.shim_laws_table.specs.Sufficing.{leaf_status};
 
-use crate::pair::Reading;
+use crate::pair::ChildStatus;
 use crate::receiving::is_at_channel;
 use crate::record::{Record, Status};
 use crate::upward::update_counts_above;
 use shim_base::Chan;
 use shim_local::Local;
 
-// What a fork reads of a process without children, of which this came.
-fn reading_now<L: Local>(process: &L, status: Status, c: &Chan) -> Reading
-    ensures { reading_of result ≡ read_leaf L.ops c.now.channel process.now (process_status_of status) }
+// What a fork reads of a process without children whose record has this status.
+fn status_now<L: Local>(process: &L, status: Status, c: &Chan) -> ChildStatus
+    ensures { child_status_of result ≡ leaf_status L.ops c.now.channel process.now (process_status_of status) }
 {
     match status {
-        Status::Live => Reading {
-            joining: process.shares(c),
-            readiness: is_at_channel(process, c),
-            failing: false,
+        Status::Live => ChildStatus {
+            alive: process.shares(c),
+            ready_on: is_at_channel(process, c),
+            dead_on: false,
         },
-        Status::Dead(_) => Reading {
-            joining: false,
-            readiness: false,
-            failing: process.shares(c),
+        Status::Dead(_) => ChildStatus {
+            alive: false,
+            ready_on: false,
+            dead_on: process.shares(c),
         },
-        Status::Free | Status::Forked(_) | Status::Ended => Reading {
-            joining: false,
-            readiness: false,
-            failing: false,
+        Status::Free | Status::Forked(_) | Status::Ended => ChildStatus {
+            alive: false,
+            ready_on: false,
+            dead_on: false,
         },
     }
 }
@@ -75,12 +75,12 @@ fn update_for_one<L: Local>(
     if !is_first(process, c, place) {
         return 0;
     }
-    let was = Reading {
-        joining: true,
-        readiness: false,
-        failing: false,
+    let was = ChildStatus {
+        alive: true,
+        ready_on: false,
+        dead_on: false,
     };
-    update_counts_above(records, at, c, was, reading_now(process, status, c), forks)
+    update_counts_above(records, at, c, was, status_now(process, status, c), forks)
 }
 
 /// Brings the counts above a process up to date that has done anything by itself, and of which this came, for

@@ -4,7 +4,7 @@ ghost use Rattle.shim_records.specs.Pairs.{AreOrdered};
 ghost use Rattle.shim_records.specs.Died.{LowersForOne, IsTaken};
 
 use crate::acted::is_first;
-use crate::labels::lower_labels_above;
+use crate::labels::lower_min_labels;
 use crate::record::Record;
 use shim_base::Chan;
 use shim_local::Local;
@@ -28,7 +28,7 @@ fn lower_for_one<L: Local>(
     if !is_first(process, c, place) {
         return;
     }
-    lower_labels_above(records, at, c, label, forks);
+    lower_min_labels(records, at, c, label, forks);
 }
 
 /// Takes the label of a process's death into the labels above its record, for each channel that it was given

@@ -60,7 +60,7 @@ fn counted<L: Local>(chan: Chan, children: &[L]) -> Pair
     requires few { length children.now ≤ 4294967295 }
     ensures chan { result.chan ≡ chan }
     ensures counts { tally result ≡ fresh_tally L.ops chan.channel children.now }
-    ensures label { result.least ≡ None }
+    ensures label { result.min_dead_label ≡ None }
     ensures sharing { FreshSharing L.ops chan.channel children.now result.sharing }
 {
     let mut live = 0;
@@ -82,7 +82,7 @@ fn counted<L: Local>(chan: Chan, children: &[L]) -> Pair
         live,
         not_ready,
         dead: 0,
-        least: None,
+        min_dead_label: None,
         sharing,
     }
 }

@@ -1,10 +1,10 @@
 // The counts above a live process that was killed where it stood, brought up to date for all channels.
 ghost use Rattle.std.specs.Prelude.{◌≡◌, ◌≤◌, length};
-ghost use Rattle.shim_records.specs.Pairs.{reading_of, AreOrdered};
+ghost use Rattle.shim_records.specs.Pairs.{child_status_of, AreOrdered};
 ghost use Rattle.shim_records.specs.Killed.{living, as_dead, KillsOne, IsKilled};
 
 use crate::acted::is_first;
-use crate::pair::Reading;
+use crate::pair::ChildStatus;
 use crate::receiving::is_at_channel;
 use crate::record::Record;
 use crate::upward::update_counts_above;
@@ -12,24 +12,24 @@ use shim_base::Chan;
 use shim_local::Local;
 
 // What a fork read of the process while it lived.
-fn living_reading<L: Local>(process: &L, c: &Chan) -> Reading
-    ensures { reading_of result ≡ living L.ops process.now c.now.channel }
+fn status_alive<L: Local>(process: &L, c: &Chan) -> ChildStatus
+    ensures { child_status_of result ≡ living L.ops process.now c.now.channel }
 {
-    Reading {
-        joining: process.shares(c),
-        readiness: is_at_channel(process, c),
-        failing: false,
+    ChildStatus {
+        alive: process.shares(c),
+        ready_on: is_at_channel(process, c),
+        dead_on: false,
     }
 }
 
 // What a fork reads of it when it has died.
-fn dead_reading<L: Local>(process: &L, c: &Chan) -> Reading
-    ensures { reading_of result ≡ as_dead L.ops process.now c.now.channel }
+fn status_dead<L: Local>(process: &L, c: &Chan) -> ChildStatus
+    ensures { child_status_of result ≡ as_dead L.ops process.now c.now.channel }
 {
-    Reading {
-        joining: false,
-        readiness: false,
-        failing: process.shares(c),
+    ChildStatus {
+        alive: false,
+        ready_on: false,
+        dead_on: process.shares(c),
     }
 }
 
@@ -55,8 +55,8 @@ fn kill_one<L: Local>(
         records,
         at,
         c,
-        living_reading(process, c),
-        dead_reading(process, c),
+        status_alive(process, c),
+        status_dead(process, c),
         forks,
     );
 }

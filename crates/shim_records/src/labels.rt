@@ -10,20 +10,20 @@ use shim_base::Chan;
 
 // Takes a label into those of a pair, and answers whether it was lower.
 fn lower_label(pair: &mut Pair, label: u32) -> bool
-    ensures taken { pair.new.least ≡ lesser pair.old.least (Some label) }
-    ensures stays { result ≡ false → pair.new.least ≡ pair.old.least }
+    ensures taken { pair.new.min_dead_label ≡ lesser pair.old.min_dead_label (Some label) }
+    ensures stays { result ≡ false → pair.new.min_dead_label ≡ pair.old.min_dead_label }
     ensures chan { pair.new.chan ≡ pair.old.chan }
     ensures sharing { pair.new.sharing ≡ pair.old.sharing }
     ensures counts { tally pair.new ≡ tally pair.old }
 {
-    match pair.least {
+    match pair.min_dead_label {
         None => {
-            pair.least = Some(label);
+            pair.min_dead_label = Some(label);
             true
         }
-        Some(least) => {
-            if label < least {
-                pair.least = Some(label);
+        Some(min_dead_label) => {
+            if label < min_dead_label {
+                pair.min_dead_label = Some(label);
                 true
             } else {
                 false
@@ -59,7 +59,7 @@ fn lower_one(records: &mut Vec<Record>, at: usize, c: &Chan, label: u32) -> Opti
 
 /// Takes the label of a death of a sharer of the channel into the labels above its record, through at most
 /// so many forks: as far up as a fork had none as low.
-pub fn lower_labels_above(records: &mut Vec<Record>, at: usize, c: &Chan, label: u32, forks: u32)
+pub fn lower_min_labels(records: &mut Vec<Record>, at: usize, c: &Chan, label: u32, forks: u32)
     requires { AreOrdered records.old.items }
     ensures { IsLoweredAbove c.now.channel label forks at records.old.items records.new.items }
 {

@@ -1,10 +1,10 @@
 // What is counted of the children of a fork for a channel.
 ghost use Rattle.std.specs.Prelude.{◌≡◌, ◌≤◌, ◌+◌, true, false, position};
 ghost use Rattle.shim_base.specs.Paths.{same_channel};
-ghost use Rattle.shim_laws_table.specs.Counts.{bit, all_there, live_reading, IsExchanged};
+ghost use Rattle.shim_laws_table.specs.Counts.{bit, tally_ready, live_child_status, IsExchanged};
 ghost use Rattle.shim_laws_table.specs.Updating.{CanMove};
 ghost use Rattle.shim_records.specs.declared.pair.Pair.{Pair as PairOf};
-ghost use Rattle.shim_records.specs.Pairs.{tally, reading_of, pair_index, chans_of, IsOrdered};
+ghost use Rattle.shim_records.specs.Pairs.{tally, child_status_of, pair_index, chans_of, IsOrdered};
 
 use shim_base::Chan;
 
@@ -29,7 +29,7 @@ pub struct Pair {
     pub not_ready: u32,
     pub dead: u32,
     /// The least label of those at and below the children that share it and are dead.
-    pub least: Option<u32>,
+    pub min_dead_label: Option<u32>,
     /// Who they are. Three numbers tell it, however many they are.
     pub sharing: Sharing,
 }
@@ -37,24 +37,24 @@ pub struct Pair {
 /// What a fork reads of a child on a channel: that it shares it and goes on, is ready, or shares it and is
 /// dead.
 #[derive(Clone, Copy)]
-pub struct Reading {
-    pub joining: bool,
-    pub readiness: bool,
-    pub failing: bool,
+pub struct ChildStatus {
+    pub alive: bool,
+    pub ready_on: bool,
+    pub dead_on: bool,
 }
 
 /// What a fork reads of a child that goes on and shares the channel, and is ready on it or not.
-pub fn live_reading(readiness: bool) -> Reading
-    ensures { reading_of result ≡ live_reading readiness }
+pub fn live_child_status(ready_on: bool) -> ChildStatus
+    ensures { child_status_of result ≡ live_child_status ready_on }
 {
-    Reading {
-        joining: true,
-        readiness,
-        failing: false,
+    ChildStatus {
+        alive: true,
+        ready_on,
+        dead_on: false,
     }
 }
 
-// The count with the new reading of a child in place of the old one.
+// The count where a child that was counted or not is counted now or not.
 fn moved(count: u32, was: bool, is: bool) -> u32
     ensures one { was ≡ false → is ≡ true → 1 ≤ result }
     ensures moved { bit was ≤ count → count + bit is ≤ 4294967295 + bit was → result + bit was ≡ count + bit is }
@@ -67,8 +67,8 @@ fn moved(count: u32, was: bool, is: bool) -> u32
 }
 
 /// Whether a fork with these counts is ready on the channel.
-pub fn has_all(pair: &Pair) -> bool
-    ensures { result ≡ all_there (tally pair.now) }
+pub fn tally_ready(pair: &Pair) -> bool
+    ensures { result ≡ tally_ready (tally pair.now) }
 {
     if pair.live == 0 {
         return false;
@@ -80,21 +80,21 @@ pub fn has_all(pair: &Pair) -> bool
     }
 }
 
-/// The counts with another reading of a child in place of that before.
-pub(crate) fn move_pair(pair: &mut Pair, was: Reading, is: Reading)
-    ensures moved { CanMove 4294967295 (reading_of was) (reading_of is) (tally pair.old) → IsExchanged (reading_of was) (reading_of is) (tally pair.old) (tally pair.new) }
-    ensures falls { reading_of was ≡ live_reading true → reading_of is ≡ live_reading false → all_there (tally pair.new) ≡ false }
+/// The counts with another status of a child in place of that before.
+pub(crate) fn move_pair(pair: &mut Pair, was: ChildStatus, is: ChildStatus)
+    ensures moved { CanMove 4294967295 (child_status_of was) (child_status_of is) (tally pair.old) → IsExchanged (child_status_of was) (child_status_of is) (tally pair.old) (tally pair.new) }
+    ensures falls { child_status_of was ≡ live_child_status true → child_status_of is ≡ live_child_status false → tally_ready (tally pair.new) ≡ false }
     ensures same { pair.new.chan ≡ pair.old.chan }
-    ensures label { pair.new.least ≡ pair.old.least }
+    ensures label { pair.new.min_dead_label ≡ pair.old.min_dead_label }
     ensures sharing { pair.new.sharing ≡ pair.old.sharing }
 {
-    pair.live = moved(pair.live, was.joining, is.joining);
+    pair.live = moved(pair.live, was.alive, is.alive);
     pair.not_ready = moved(
         pair.not_ready,
-        was.joining && !was.readiness,
-        is.joining && !is.readiness,
+        was.alive && !was.ready_on,
+        is.alive && !is.ready_on,
     );
-    pair.dead = moved(pair.dead, was.failing, is.failing);
+    pair.dead = moved(pair.dead, was.dead_on, is.dead_on);
 }
 
 // The place of the first pair of the channel.

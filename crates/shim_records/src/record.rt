@@ -1,5 +1,5 @@
 // What is kept of a process beside its state.
-ghost use Rattle.std.specs.Prelude.{◌≡◌, true};
+ghost use Rattle.std.specs.Prelude.{◌≡◌, ◌≢◌, false, true};
 ghost use Rattle.shim_laws_table.specs.Agrees.{free};
 ghost use Rattle.shim_records.specs.Pairs.{fork_size, stands_of};
 
@@ -18,7 +18,7 @@ pub enum Status {
     Dead(Death),
 }
 
-/// Into how many a process has forked of which this came.
+/// Into how many a process has forked whose record has this status; 0 if it hasn't.
 pub fn fork_size(status: Status) -> u32
     ensures { result ≡ fork_size status }
 {
@@ -30,7 +30,8 @@ pub fn fork_size(status: Status) -> u32
 
 /// Whether the record is free.
 pub fn is_free(place: &Record) -> bool
-    ensures { result ≡ true → stands_of place.now ≡ free }
+    ensures free { result ≡ true → stands_of place.now ≡ free }
+    ensures used { result ≡ false → stands_of place.now ≢ free }
 {
     match place.status {
         Status::Free => true,
@@ -48,7 +49,7 @@ pub struct Record {
     pub parent: Option<u32>,
     pub path: Path,
     /// How many children of its fork have neither ended nor died.
-    pub going: u32,
+    pub running_children: u32,
     /// The counts of its fork's children, for each channel that it shares and gave to one of them.
     pub pairs: Vec<Pair>,
 }

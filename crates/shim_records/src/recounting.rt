@@ -1,8 +1,8 @@
 // The least labels of dead sharers, read off the forks' children again on the way up from a close.
 ghost use Rattle.std.specs.Prelude.{◌≡◌, false, map};
 ghost use Rattle.shim_laws_table.specs.Dooms.{lesser};
-ghost use Rattle.shim_laws_table.specs.Recounting.{label_at, least_label_among};
-ghost use Rattle.shim_records.specs.Pairs.{tally, least_label_of, pair_of, chans_of, stands_of, leasts_in, IsOrdered, AreOrdered};
+ghost use Rattle.shim_laws_table.specs.Recounting.{label_at, min_label_among};
+ghost use Rattle.shim_records.specs.Pairs.{tally, min_label_of, pair_of, chans_of, stands_of, min_labels_in, IsOrdered, AreOrdered};
 ghost use Rattle.shim_records.specs.Recounting.{RecountsOne, IsRecounted};
 
 use crate::pair::{Pair, place_in};
@@ -26,18 +26,18 @@ fn lesser_of(one: Option<u32>, other: Option<u32>) -> Option<u32>
 // The label that a fork keeps for the channel.
 fn kept(fork: &Record, c: &Chan) -> Option<u32>
     requires { IsOrdered (chans_of fork.now.pairs.items) }
-    ensures { result ≡ least_label_of (pair_of c.now.channel fork.now.pairs.items) }
+    ensures { result ≡ min_label_of (pair_of c.now.channel fork.now.pairs.items) }
 {
     match place_in(fork.pairs.as_slice(), c) {
         None => None,
-        Some(place) => fork.pairs[place].least,
+        Some(place) => fork.pairs[place].min_dead_label,
     }
 }
 
 // The label that its fork reads of the record with this number.
 fn label_of_child<L: Local>(states: &[L], records: &[Record], at: usize, c: &Chan) -> Option<u32>
     requires { AreOrdered records.now }
-    ensures { result ≡ label_at L.ops c.now.channel states.now (map stands_of records.now) (leasts_in c.now.channel records.now) at }
+    ensures { result ≡ label_at L.ops c.now.channel states.now (map stands_of records.now) (min_labels_in c.now.channel records.now) at }
 {
     if at >= states.len() {
         return None;
@@ -65,34 +65,34 @@ fn label_of_children<L: Local>(
     c: &Chan,
 ) -> Option<u32>
     requires { AreOrdered records.now }
-    ensures { result ≡ least_label_among L.ops c.now.channel states.now (map stands_of records.now) (leasts_in c.now.channel records.now) first count }
+    ensures { result ≡ min_label_among L.ops c.now.channel states.now (map stands_of records.now) (min_labels_in c.now.channel records.now) first count }
 {
-    let mut least = None;
+    let mut min_dead_label = None;
     for i in 0..count {
-        least = lesser_of(
-            least,
+        min_dead_label = lesser_of(
+            min_dead_label,
             label_of_child(states, records, first as usize + i as usize, c),
         );
     }
-    least
+    min_dead_label
 }
 
 // Puts a label in place of that of a pair, and answers whether it is another one.
 fn put_label(pair: &mut Pair, label: Option<u32>) -> bool
-    ensures put { pair.new.least ≡ label }
-    ensures stays { result ≡ false → pair.new.least ≡ pair.old.least }
+    ensures put { pair.new.min_dead_label ≡ label }
+    ensures stays { result ≡ false → pair.new.min_dead_label ≡ pair.old.min_dead_label }
     ensures chan { pair.new.chan ≡ pair.old.chan }
     ensures sharing { pair.new.sharing ≡ pair.old.sharing }
     ensures counts { tally pair.new ≡ tally pair.old }
 {
-    let other = pair.least != label;
-    pair.least = label;
+    let other = pair.min_dead_label != label;
+    pair.min_dead_label = label;
     other
 }
 
 // Reads the label of the record's parent off its children, if it has counts for the channel; the parent,
 // where the label is another than before.
-fn recount_one<L: Local>(
+fn recompute_one<L: Local>(
     states: &[L],
     records: &mut Vec<Record>,
     at: usize,
@@ -125,13 +125,19 @@ fn recount_one<L: Local>(
 
 /// Reads the labels above a record off the forks' children again, through at most so many forks: as far up
 /// as a fork's label was another than before.
-pub fn recount<L: Local>(states: &[L], records: &mut Vec<Record>, at: usize, c: &Chan, forks: u32)
+pub fn recompute_min_labels<L: Local>(
+    states: &[L],
+    records: &mut Vec<Record>,
+    at: usize,
+    c: &Chan,
+    forks: u32,
+)
     requires { AreOrdered records.old.items }
     ensures { IsRecounted L.ops c.now.channel states.now forks at records.old.items records.new.items }
 {
     let mut here = at;
     for walked in 0..forks {
-        match recount_one(states, records, here, c) {
+        match recompute_one(states, records, here, c) {
             None => return,
             Some(above) => here = above,
         }

@@ -1,10 +1,10 @@
 // Counts brought up to date on the way up.
 ghost use Rattle.std.specs.Prelude.{◌≡◌, ◌≤◌, ◌+◌, true, false, None, if◌then◌else◌};
-ghost use Rattle.shim_laws_table.specs.Counts.{live_reading};
-ghost use Rattle.shim_records.specs.Pairs.{reading_of, AreOrdered};
+ghost use Rattle.shim_laws_table.specs.Counts.{live_child_status};
+ghost use Rattle.shim_records.specs.Pairs.{child_status_of, AreOrdered};
 ghost use Rattle.shim_records.specs.Ways.{most_forks, StepsUp, IsUpdatedAbove, CountsMovedWithin, NoneReadied, ComesTo, ReadiesWithin};
 
-use crate::pair::{Reading, has_all, live_reading, move_pair, place_in};
+use crate::pair::{ChildStatus, live_child_status, move_pair, place_in, tally_ready};
 use crate::record::Record;
 use shim_base::Chan;
 
@@ -12,8 +12,8 @@ use shim_base::Chan;
 #[derive(Clone, Copy)]
 pub(crate) struct CountChange {
     pub(crate) at: usize,
-    pub(crate) was: Reading,
-    pub(crate) is: Reading,
+    pub(crate) was: ChildStatus,
+    pub(crate) is: ChildStatus,
 }
 
 // Whether something may be due at a fork on the channel: all are there, or there is a label.
@@ -48,37 +48,37 @@ fn step_up(records: &mut Vec<Record>, c: &Chan, here: CountChange) -> (Option<Co
         Some(place) => place,
     };
     let pair = &mut record.pairs[place];
-    let before = has_all(pair);
+    let before = tally_ready(pair);
     move_pair(pair, here.was, here.is);
-    let after = has_all(pair);
-    let due = may_be_due(after, pair.least);
+    let after = tally_ready(pair);
+    let due = may_be_due(after, pair.min_dead_label);
     if before == after {
         return (None, due);
     }
     let next = CountChange {
         at: above,
-        was: live_reading(before),
-        is: live_reading(after),
+        was: live_child_status(before),
+        is: live_child_status(after),
     };
     (Some(next), due)
 }
 
-/// Updates the counts for a channel above a record whose reading was `was` and is `is`. It goes on upward while
-/// the reading of the fork itself changes, through at most so many forks. No counts beyond the first so many forks
+/// Updates the counts for a channel above a record whose status was `was` and is `is`. It goes on upward while
+/// the status of the fork itself changes, through at most so many forks. No counts beyond the first so many forks
 /// as it answers have changed; the answer may be too large.
 pub fn update_counts_above(
     records: &mut Vec<Record>,
     at: usize,
     c: &Chan,
-    was: Reading,
-    is: Reading,
+    was: ChildStatus,
+    is: ChildStatus,
     forks: u32,
 ) -> u32
     requires { AreOrdered records.old.items }
     ensures counts { IsUpdatedAbove c.now.channel forks at was is records.old.items records.new.items }
     ensures reaches { CountsMovedWithin c.now.channel result at records.old.items records.new.items }
     ensures most { result ≤ forks }
-    ensures falls { reading_of was ≡ live_reading true → reading_of is ≡ live_reading false → NoneReadied c.now.channel records.old.items records.new.items }
+    ensures falls { child_status_of was ≡ live_child_status true → child_status_of is ≡ live_child_status false → NoneReadied c.now.channel records.old.items records.new.items }
 {
     let mut here = CountChange { at, was, is };
     for walked in 0..forks {
@@ -101,15 +101,15 @@ fn looked_at(before: u64, walked: u32, due: bool) -> u64
 /// Updates the counts for a channel above the record of a live process that has come to it and was at none
 /// before. The answer is how many forks above it are to be looked at again: at those further up all
 /// are there no more than before, and none of them has a label where a child has become ready.
-pub fn arrive_above(records: &mut Vec<Record>, at: usize, c: &Chan) -> u64
+pub fn propagate_stop_above(records: &mut Vec<Record>, at: usize, c: &Chan) -> u64
     requires { AreOrdered records.old.items }
     ensures counts { ComesTo c.now.channel most_forks at records.old.items records.new.items }
     ensures readies { ReadiesWithin c.now.channel result at records.old.items records.new.items }
 {
     let mut here = CountChange {
         at,
-        was: live_reading(false),
-        is: live_reading(true),
+        was: live_child_status(false),
+        is: live_child_status(true),
     };
     let mut again = 0;
     for walked in 0..u32::MAX {

@@ -1,6 +1,6 @@
 // Numbers that wait to be looked at.
 ghost use Rattle.std.specs.Prelude.{◌≡◌, ◌<◌, ◌≤◌, false, [], ◌∷◌, ◌++◌, length, OnOk, OnErr};
-ghost use Rattle.shim_records.specs.Waiting.{AreRaised, Enqueues, Dequeues, AreListedIn};
+ghost use Rattle.shim_records.specs.Waiting.{AreGrown, Enqueues, Dequeues, AreListedIn};
 
 use shim_base::NoMemory;
 use std::alloc::Global;
@@ -54,8 +54,8 @@ impl Worklist {
     }
 
     /// All numbers below this one may be listed, and no further ones. Want of memory leaves all that is listed.
-    pub fn raise_to(&mut self, end: usize) -> Result<(), NoMemory>
-        ensures raised { AreRaised self.old self.new }
+    pub fn grow_to(&mut self, end: usize) -> Result<(), NoMemory>
+        ensures raised { AreGrown self.old self.new }
         ensures ok { OnOk result (end ≤ length self.new) }
         ensures most { length self.old ≤ end → length self.new ≤ end }
     {

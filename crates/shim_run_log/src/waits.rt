@@ -1,5 +1,5 @@
 // The processes that wait, by path.
-ghost use Rattle.std.specs.Prelude.{◌≡◌, OnOk, IfOk, map};
+ghost use Rattle.std.specs.Prelude.{◌≡◌, OnErr, OnOk, IfOk, map};
 ghost use Rattle.std.specs.FinMap as finite;
 ghost use Rattle.shim_semantics.specs.Endings.{wait_at};
 ghost use Rattle.shim_run_log.specs.Waits.{with_wait};
@@ -39,9 +39,10 @@ impl Waits {
         }
     }
 
-    /// The process of this path waits at the channel. Of one path the first channel stays.
+    /// The process of this path waits at the channel. Of one path the first channel stays. A refusal changes nothing.
     pub fn add(&mut self, path: &Path, chan: &Chan) -> Result<(), NoMemory>
-        ensures { OnOk result (self.new ≡ with_wait self.old path.now chan.now) }
+        ensures ok { OnOk result (self.new ≡ with_wait self.old path.now chan.now) }
+        ensures err { OnErr result (self.new ≡ self.old) }
     {
         if self.kept.contains_key(path) {
             return Ok(());

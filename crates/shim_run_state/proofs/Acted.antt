@@ -18,27 +18,27 @@ use Rattle.shim_laws_table.specs.Seen.{ProcessStatus, lives, place}
 use Rattle.shim_laws_table.proofs.SameTrees.{seen_live}
 use Rattle.shim_laws_replay.specs.Grants.{IsNoQuietStep}
 use Rattle.shim_laws_table_events.specs.keeping.Tables.{HasProcessState}
-use Rattle.shim_laws_table_events.specs.keeping.Moves.{MovesBy}
+use Rattle.shim_laws_table_events.specs.keeping.Moves.{Performs}
 use Rattle.shim_laws_table_events.specs.keeping.Acting.{event_at_stop}
-use Rattle.shim_laws_table_events.specs.waking.Awake.{is_listed}
-use Rattle.shim_process_table.specs.Acting.{ActsHere, told_of}
+use Rattle.shim_laws_table_events.specs.queues.EventQueue.{is_listed}
+use Rattle.shim_process_table.specs.Acting.{ActsAlone, throw_effects}
 use Rattle.shim_process_table.specs.declared.acting.Thrown.{Thrown}
 use Rattle.shim_process_table.specs.declared.acting.Thrown.TheVariants as thrown
 use Rattle.shim_run_state.specs.ProcessLists.{ProcessListsView, Serves}
-use Rattle.shim_run_state.specs.RunStates.{RunStateView, tree_in, IsHeld, KeepsTree}
-use Rattle.shim_run_state.specs.Holding.{HappensIn}
+use Rattle.shim_run_state.specs.RunStates.{RunStateView, tree_in, IsCheckedOut, RunStateInvariant}
+use Rattle.shim_run_state.specs.CheckingOut.{HappensIn}
 use Rattle.shim_run_state.specs.Settling.{StaysAs}
-use Rattle.shim_run_state.specs.Waking.{HasCounted, Requeues}
+use Rattle.shim_run_state.specs.Enqueueing.{HasCounted, Requeues}
 use Rattle.shim_run_state.proofs.Advanced.{stands_there}
 use Rattle.shim_run_state.proofs.Events as events
-use Rattle.shim_run_state.proofs.OneMoved.{same_held, one_moved, other_stop_free, for_all_behind}
+use Rattle.shim_run_state.proofs.OneMoved.{same_out, one_moved, other_stop_free, for_all_behind}
 use Rattle.shim_run_state.proofs.OwnCounts.{count_is_few, counts_more, counts_stay, as_many_counts}
 
 -- where the value is the same, nothing has happened
 pub stays_as : {S : Type 0} (o : Ops S) (before behind : RunStateView S) → behind ≡ before → StaysAs o before behind
 stays_as o before behind e = record {
   tree = ap (tree_in o) e;
-  held = λ i l. (λ h. subst (λ z. IsHeld o z i l) (sym e) h, λ h. subst (λ z. IsHeld o z i l) e h);
+  checked_out = λ i l. (λ h. subst (λ z. IsCheckedOut o z i l) (sym e) h, λ h. subst (λ z. IsCheckedOut o z i l) e h);
 }
 
 -- ---- what some of them tell
@@ -49,7 +49,7 @@ put_logs_none m p None = refl
 put_logs_none m p (Some b) = refl
 
 -- a throw puts nothing
-pub throw_puts_none : (bytes : List ℕ) (t : Thrown) → bytes ≡ bytes ++ (told_of t).bytes
+pub throw_puts_none : (bytes : List ℕ) (t : Thrown) → bytes ≡ bytes ++ (throw_effects t).bytes
 throw_puts_none bytes (thrown.Caught name line) = sym (append-nil bytes)
 throw_puts_none bytes (thrown.Died d) = sym (append-nil bytes)
 throw_puts_none bytes thrown.Trapped = sym (append-nil bytes)
@@ -73,15 +73,15 @@ module _ {S : Type 0} (o : Ops S) (law : LocalLaws o) where
   one_may_be_counted v i f l k has few count e = let c = count_is_few o v i f count l k has e in omega (arith, c, few)
 
   -- the step of a process that stands at something else is no quiet one
-  pub no_quiet_step : (v : RunStateView S) → KeepsTree o v → (i f : ℕ) (l : S) → HasProcessState v.table i f l lives → o.stop l ≢ AtQuiet → IsNoQuietStep o (tree_in o v) (Own (o.path l))
-  no_quiet_step v kept i f l has other p e (m, stands, quiet) =
+  pub no_quiet_step : (v : RunStateView S) → RunStateInvariant o v → (i f : ℕ) (l : S) → HasProcessState v.table i f l lives → o.stop l ≢ AtQuiet → IsNoQuietStep o (tree_in o v) (Own (o.path l))
+  no_quiet_step v kept i f l has other p e (m, stands, ready_queue) =
       let t = tree_in o v in
       let same : o.path l ≡ p = ap (own_path p) e in
-      let mine = stands_there o law v.table t.root i f l kept.shows has in
+      let mine = stands_there o law v.table t.root i f l kept.represents has in
       let is : Live l ≡ Live m = some_same (Live l) (Live m) (sym mine.there ∙ (ap (λ z. at_route t.root (route (o.path (state t.root)) z)) same ∙ stands.there)) in
-      other (ap (λ z. o.stop (state z)) is ∙ quiet)
+      other (ap (λ z. o.stop (state z)) is ∙ ready_queue)
 
-  module _ (before behind : RunStateView S) (kept : KeepsTree o before) (n number : ℕ) (stop : StopView) (k : ProcessStatus) (effects : Effects) (a : ActsHere o n number stop k effects before.table behind.table) where
+  module _ (before behind : RunStateView S) (kept : RunStateInvariant o before) (n number : ℕ) (stop : StopView) (k : ProcessStatus) (effects : Effects) (a : ActsAlone o n number stop k effects before.table behind.table) where
     abbrev acted : Acted S
     acted = record { node = a.left; effects = effects }
 
@@ -91,64 +91,64 @@ module _ {S : Type 0} (o : Ops S) (law : LocalLaws o) where
     path : o.path (state a.left) ≡ o.path a.process
     path =
         let root = (tree_in o before).root in
-        let there = seen_live (at (place o [] a.process) root) a.process (kept.shows.shows.agrees.shown number a.first a.process lives a.has) in
-        (here_keeps o law (Live a.process) acted (sound_at o (place o [] a.process) root (Live a.process) kept.shows.shows.sound.below there) does).follows.path
+        let there = seen_live (at (place o [] a.process) root) a.process (kept.represents.represents.agrees.shown number a.first a.process lives a.has) in
+        (here_keeps o law (Live a.process) acted (sound_at o (place o [] a.process) root (Live a.process) kept.represents.represents.sound.below there) does).follows.path
 
     -- what it told, and nothing else
-    pub record HasTold : Type 0 where
+    pub record AddsEffects : Type 0 where
       pub output : behind.output ≡ before.output ++ effects.bytes
       pub histories : behind.histories ≡ before.histories
       pub logs : behind.logs ≡ with_logs before.logs (o.path a.process) effects.logs
       pub past : behind.past ≡ before.past
 
-    pub own_happens : event_at_stop stop (o.path a.process) ≡ Own (o.path a.process) → HasTold → HasCounted number 1 before.process_lists.own behind.process_lists.own → behind.events ≡ before.events → events.Happened o before behind kept.shows (Own (o.path a.process))
+    pub own_happens : event_at_stop stop (o.path a.process) ≡ Own (o.path a.process) → AddsEffects → HasCounted number 1 before.process_lists.own behind.process_lists.own → behind.events ≡ before.events → events.Happened o before behind kept.represents (Own (o.path a.process))
     own_happens own told counted e =
-        events.own o before behind kept.shows number a.first a.process acted a.has does (subst (λ z. MovesBy o z before.table behind.table) own a.moves) told.output told.histories told.logs
+        events.own o before behind kept.represents number a.first a.process acted a.has does (subst (λ z. Performs o z before.table behind.table) own a.moves) told.output told.histories told.logs
         (counts_more o before behind number a.first a.process (state a.left) lives k a.has a.becomes path told.past 1 counted) e
 
-    pub end_happens : event_at_stop stop (o.path a.process) ≡ End (o.path a.process) → HasTold → behind.process_lists.own ≡ before.process_lists.own → behind.events ≡ before.events + 1 → events.Happened o before behind kept.shows (End (o.path a.process))
+    pub end_happens : event_at_stop stop (o.path a.process) ≡ End (o.path a.process) → AddsEffects → behind.process_lists.own ≡ before.process_lists.own → behind.events ≡ before.events + 1 → events.Happened o before behind kept.represents (End (o.path a.process))
     end_happens end told own e =
-        events.end o before behind kept.shows number a.first a.process acted a.has does (subst (λ z. MovesBy o z before.table behind.table) end a.moves) told.output told.histories told.logs
+        events.end o before behind kept.represents number a.first a.process acted a.has does (subst (λ z. Performs o z before.table behind.table) end a.moves) told.output told.histories told.logs
         (counts_stay o before behind number a.first a.process (state a.left) lives k a.has a.becomes path told.past own) e
 
-    module _ (other : stop ≢ AtQuiet) (held : behind.process_lists.held ≡ before.process_lists.held) (e : Event) (h : events.Happened o before behind kept.shows e) where
+    module _ (other : stop ≢ AtQuiet) (checked_out : behind.process_lists.checked_out ≡ before.process_lists.checked_out) (e : Event) (h : events.Happened o before behind kept.represents e) where
       stands_else : o.stop a.process ≢ AtQuiet
       stands_else z = other (sym a.stood ∙ z)
 
-      free : is_listed before.process_lists.held number ≡ false
+      free : is_listed before.process_lists.checked_out number ≡ false
       free = other_stop_free o law before behind kept number a.first a.process a.has stands_else
 
-      flags : (i : ℕ) → i ≢ number → is_listed behind.process_lists.held i ≡ is_listed before.process_lists.held i
-      flags i far = ap (λ z. is_listed z i) held
+      flags : (i : ℕ) → i ≢ number → is_listed behind.process_lists.checked_out i ≡ is_listed before.process_lists.checked_out i
+      flags i far = ap (λ z. is_listed z i) checked_out
 
-      pub acted_keeps : steps (tree_in o before) < 4000000 → Requeues o behind.table n number before.process_lists behind.process_lists → length behind.process_lists.own ≡ length before.process_lists.own → KeepsTree o behind
+      pub acted_keeps : steps (tree_in o before) < 4000000 → Requeues o behind.table n number before.process_lists behind.process_lists → length behind.process_lists.own ≡ length before.process_lists.own → RunStateInvariant o behind
       acted_keeps few again owns =
           let more = h.counts in
-          one_moved o law before behind kept number a.first a.process (state a.left) lives k a.has a.becomes flags (ap (λ z. is_listed z number) held ∙ free) n h.shows (omega (arith, few, more)) a.wakes again.awake again.quiet owns
+          one_moved o law before behind kept number a.first a.process (state a.left) lives k a.has a.becomes flags (ap (λ z. is_listed z number) checked_out ∙ free) n h.represents (omega (arith, few, more)) a.newly_ready again.event_queue again.ready_queue owns
 
       pub happens_in : IsNoQuietStep o (tree_in o before) e → HappensIn o before behind e
       happens_in none = record {
         leads = h.leads;
         other = none;
-        same = same_held o law before behind kept number a.first a.process (state a.left) lives k a.has a.becomes flags (ap (λ z. is_listed z number) held ∙ free) free;
+        same = same_out o law before behind kept number a.first a.process (state a.left) lives k a.has a.becomes flags (ap (λ z. is_listed z number) checked_out ∙ free) free;
       }
 
     -- so the type keeps what it kept, and the event has happened
-    pub own_done : event_at_stop stop (o.path a.process) ≡ Own (o.path a.process) → stop ≢ AtQuiet → HasTold → HasCounted number 1 before.process_lists.own behind.process_lists.own → Requeues o behind.table n number before.process_lists behind.process_lists → behind.events ≡ before.events → steps (tree_in o before) < 4000000
-        → KeepsTree o behind × HappensIn o before behind (Own (o.path a.process)) × (steps (tree_in o behind) ≡ steps (tree_in o before) + 1)
+    pub own_done : event_at_stop stop (o.path a.process) ≡ Own (o.path a.process) → stop ≢ AtQuiet → AddsEffects → HasCounted number 1 before.process_lists.own behind.process_lists.own → Requeues o behind.table n number before.process_lists behind.process_lists → behind.events ≡ before.events → steps (tree_in o before) < 4000000
+        → RunStateInvariant o behind × HappensIn o before behind (Own (o.path a.process)) × (steps (tree_in o behind) ≡ steps (tree_in o before) + 1)
     own_done own other told counted again same few =
         let h = own_happens own told counted same in (
-          acted_keeps other again.held (Own (o.path a.process)) h few again (as_many_counts number 1 before.process_lists.own behind.process_lists.own counted),
-          happens_in other again.held (Own (o.path a.process)) h (no_quiet_step before kept number a.first a.process a.has (λ e. other (sym a.stood ∙ e))),
+          acted_keeps other again.checked_out (Own (o.path a.process)) h few again (as_many_counts number 1 before.process_lists.own behind.process_lists.own counted),
+          happens_in other again.checked_out (Own (o.path a.process)) h (no_quiet_step before kept number a.first a.process a.has (λ e. other (sym a.stood ∙ e))),
           h.counts,
         )
 
-    pub end_done : event_at_stop stop (o.path a.process) ≡ End (o.path a.process) → stop ≢ AtQuiet → HasTold → behind.process_lists.own ≡ before.process_lists.own → Requeues o behind.table n number before.process_lists behind.process_lists → behind.events ≡ before.events + 1 → steps (tree_in o before) < 4000000
-        → KeepsTree o behind × HappensIn o before behind (End (o.path a.process)) × (steps (tree_in o behind) ≡ steps (tree_in o before) + 1)
+    pub end_done : event_at_stop stop (o.path a.process) ≡ End (o.path a.process) → stop ≢ AtQuiet → AddsEffects → behind.process_lists.own ≡ before.process_lists.own → Requeues o behind.table n number before.process_lists behind.process_lists → behind.events ≡ before.events + 1 → steps (tree_in o before) < 4000000
+        → RunStateInvariant o behind × HappensIn o before behind (End (o.path a.process)) × (steps (tree_in o behind) ≡ steps (tree_in o before) + 1)
     end_done end other told same again more few =
         let h = end_happens end told same more in (
-          acted_keeps other again.held (End (o.path a.process)) h few again (ap length same),
-          happens_in other again.held (End (o.path a.process)) h (end_is_no_step o before (o.path a.process)),
+          acted_keeps other again.checked_out (End (o.path a.process)) h few again (ap length same),
+          happens_in other again.checked_out (End (o.path a.process)) h (end_is_no_step o before (o.path a.process)),
           h.counts,
         )
 

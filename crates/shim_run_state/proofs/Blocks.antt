@@ -4,9 +4,9 @@ use Rattle.std.specs.Prelude.{slice_get, replicate}
 use Rattle.std.proofs.lemmas.List.{length-set}
 use lib.ListN.{length-replicate}
 use Rattle.shim_laws_table.proofs.SameTrees.{same_or_not}
-use Rattle.shim_laws_table_events.specs.waking.Awake.{is_set, is_listed}
+use Rattle.shim_laws_table_events.specs.queues.EventQueue.{is_set, is_listed}
 use Rattle.shim_records.specs.Blocks.{with_one, with_block}
-use Rattle.shim_records.proofs.Showing.{block_in, block_out}
+use Rattle.shim_records.proofs.Representing.{block_in, block_out}
 use Rattle.shim_records.proofs.Together.{one_set}
 
 -- a number is one of so many from another one on, or none of them

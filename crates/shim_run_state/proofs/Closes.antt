@@ -11,38 +11,38 @@ use Rattle.shim_laws_table.proofs.OneChange.{one_state}
 use Rattle.shim_laws_table.proofs.SameTrees.{same_or_not}
 use Rattle.shim_laws_replay.specs.Grants.{IsNoQuietStep}
 use Rattle.shim_laws_table_events.specs.keeping.Tables.{TableView, HasProcessState, stands}
-use Rattle.shim_laws_table_events.specs.waking.Awake.{is_listed}
+use Rattle.shim_laws_table_events.specs.queues.EventQueue.{is_listed}
 use Rattle.shim_run_log.specs.Counted.{StepCount, counted}
-use Rattle.shim_process_table.specs.Closing.{ClosesHere, told_by}
+use Rattle.shim_process_table.specs.Closing.{ClosesAt, close_effects}
 use Rattle.shim_process_table.specs.declared.acting.Thrown.TheVariants as thrown
 use Rattle.shim_process_table.specs.declared.closing.CloseOutcome.{CloseOutcome}
 use Rattle.shim_process_table.specs.declared.closing.CloseOutcome.TheVariants.{GoesOn, Threw}
-use Rattle.shim_process_table.specs.Reading.{IsInUse}
+use Rattle.shim_process_table.specs.Lookups.{IsInUse}
 use Rattle.shim_run_state.specs.ProcessLists.{ProcessListsView, Serves}
-use Rattle.shim_run_state.specs.RunStates.{RunStateView, tree_in, path_at, counts_from, IsQuietAt, KeepsTree}
+use Rattle.shim_run_state.specs.RunStates.{RunStateView, tree_in, path_at, counts_from, IsQuietAt, RunStateInvariant}
 use Rattle.shim_run_state.specs.PastCounts.{only_block}
-use Rattle.shim_run_state.specs.Waking.{Requeues}
-use Rattle.shim_process_table.proofs.Readied.{touches_wake}
-use Rattle.shim_run_state.proofs.Wakened.{one_suffices}
+use Rattle.shim_run_state.specs.Enqueueing.{Requeues}
+use Rattle.shim_process_table.proofs.Readied.{touches_requeue}
+use Rattle.shim_run_state.proofs.Enqueued.{one_suffices}
 use Rattle.shim_run_state.proofs.Events as events
 use Rattle.shim_run_state.proofs.OneMoved.{still_for_all, keeps_on}
 use Rattle.shim_run_state.proofs.PastCounts.{taken_out}
 use Rattle.shim_run_state.proofs.Paths.{InUse, path_of, in_use_or_not, same_path_at}
-use Rattle.shim_run_state.proofs.Staying.{quiet_stays, held_as_before, still_held, still_listed}
+use Rattle.shim_run_state.proofs.Staying.{quiet_stays, out_as_before, still_out, still_listed}
 use Rattle.shim_run_state.proofs.Telling.{Goes}
 
 -- a close puts no bytes
-no_bytes : (r : CloseOutcome) → (told_by r).bytes ≡ []
+no_bytes : (r : CloseOutcome) → (close_effects r).bytes ≡ []
 no_bytes GoesOn = refl
 no_bytes (Threw (thrown.Caught name line)) = refl
 no_bytes (Threw (thrown.Died d)) = refl
 no_bytes (Threw thrown.Trapped) = refl
 
 -- the children of a fork are in use
-pub children_used : {S : Type 0} (o : Ops S) (v : RunStateView S) → KeepsTree o v → (i f n : ℕ) (l : S) → HasProcessState v.table i f l (forks n) → (b : ℕ) → b < n → IsInUse v.table (f + b)
-children_used o v kept i f n l has b less = let w = kept.shows.shows.agrees.below i f n l has b less in (w.0, w.1, w.2, w.3)
+pub children_used : {S : Type 0} (o : Ops S) (v : RunStateView S) → RunStateInvariant o v → (i f n : ℕ) (l : S) → HasProcessState v.table i f l (forks n) → (b : ℕ) → b < n → IsInUse v.table (f + b)
+children_used o v kept i f n l has b less = let w = kept.represents.represents.agrees.below i f n l has b less in (w.0, w.1, w.2, w.3)
 
-module _ {S : Type 0} (o : Ops S) (m number : ℕ) (outcome : CloseOutcome) (before behind : TableView S) (h : ClosesHere o m number outcome before behind) where
+module _ {S : Type 0} (o : Ops S) (m number : ℕ) (outcome : CloseOutcome) (before behind : TableView S) (h : ClosesAt o m number outcome before behind) where
   pub was_used : (i : ℕ) → IsInUse behind i → IsInUse before i
   was_used i u = elim (h.becomes.only i u.0 u.1 u.2 u.3) [
     | inl w ↦ (h.first, h.process, forks h.many, subst (λ z. HasProcessState before z h.first h.process (forks h.many)) (sym w.0) h.forked)
@@ -54,10 +54,10 @@ module _ {S : Type 0} (o : Ops S) (m number : ℕ) (outcome : CloseOutcome) (bef
   closed_room s all = still_for_all before behind s.own s.own was_used refl all
 
 -- what is told of it, beside the process and lists of numbers
-pub record OneClose {S : Type 0} (o : Ops S) (m number : ℕ) (outcome : CloseOutcome) (before behind : RunStateView S) (h : ClosesHere o m number outcome before.table behind.table) : Type 0 where
+pub record OneClose {S : Type 0} (o : Ops S) (m number : ℕ) (outcome : CloseOutcome) (before behind : RunStateView S) (h : ClosesAt o m number outcome before.table behind.table) : Type 0 where
   pub output : behind.output ≡ before.output
   pub histories : behind.histories ≡ before.histories
-  pub logs : behind.logs ≡ with_logs before.logs (o.path h.process) (told_by outcome).logs
+  pub logs : behind.logs ≡ with_logs before.logs (o.path h.process) (close_effects outcome).logs
   pub own : behind.process_lists.own ≡ before.process_lists.own
   pub gathered : List StepCount
   pub past : behind.past ≡ before.past ++ gathered
@@ -65,7 +65,7 @@ pub record OneClose {S : Type 0} (o : Ops S) (m number : ℕ) (outcome : CloseOu
   pub events : behind.events ≡ before.events + 1
   pub again : Requeues o behind.table (m + 1) number before.process_lists behind.process_lists
 
-module _ {S : Type 0} (o : Ops S) (law : LocalLaws o) (before behind : RunStateView S) (kept : KeepsTree o before) (m number : ℕ) (outcome : CloseOutcome) (h : ClosesHere o m number outcome before.table behind.table) (one : OneClose o m number outcome before behind h) where
+module _ {S : Type 0} (o : Ops S) (law : LocalLaws o) (before behind : RunStateView S) (kept : RunStateInvariant o before) (m number : ℕ) (outcome : CloseOutcome) (h : ClosesAt o m number outcome before.table behind.table) (one : OneClose o m number outcome before behind h) where
   gone : (b : ℕ) → b < h.many → path_at o behind.table (h.first + b) ≡ None
   gone b less = elim (in_use_or_not o behind.table (h.first + b)) [
     | inr n ↦ n
@@ -96,10 +96,10 @@ module _ {S : Type 0} (o : Ops S) (law : LocalLaws o) (before behind : RunStateV
       (λ j. counted (counts_from g (one.own j) ++ one.past j))
       ∙ taken_out f g h.first h.many before.process_lists.own before.past one.gathered gone (λ i out. same_path_at o before.table behind.table i (still_there i out) (was_there i)) one.are
 
-  happened : events.Happened o before behind kept.shows (Close (o.path h.process))
+  happened : events.Happened o before behind kept.represents (Close (o.path h.process))
   happened =
       let bytes : before.output ++ h.left.effects.bytes ≡ before.output = ap (λ z. before.output ++ z) (ap (λ (z : Effects). z.bytes) h.told ∙ no_bytes outcome) ∙ append-nil before.output in
-      events.close o before behind kept.shows number h.first h.many h.process h.left h.forked h.does h.moves (one.output ∙ sym bytes) one.histories
+      events.close o before behind kept.represents number h.first h.many h.process h.left h.forked h.does h.moves (one.output ∙ sym bytes) one.histories
       (one.logs ∙ ap (λ (z : Effects). with_logs before.logs (o.path h.process) z.logs) (sym h.told)) counts one.events
 
   no_step : IsNoQuietStep o (tree_in o before) (Close (o.path h.process))
@@ -111,16 +111,16 @@ module _ {S : Type 0} (o : Ops S) (law : LocalLaws o) (before behind : RunStateV
     | inr w ↦ (g, t, lives, w.2, refl)
   ]
 
-  flags : (i : ℕ) → is_listed behind.process_lists.held i ≡ is_listed before.process_lists.held i
-  flags i = ap (λ z. is_listed z i) one.again.held
+  flags : (i : ℕ) → is_listed behind.process_lists.checked_out i ≡ is_listed before.process_lists.checked_out i
+  flags i = ap (λ z. is_listed z i) one.again.checked_out
 
-  stay : (i : ℕ) (l : S) → IsQuietAt o before.table i l → is_listed before.process_lists.held i ≡ true → IsQuietAt o behind.table i l
-  stay i l q flag = quiet_stays o law before behind kept (Close (o.path h.process)) happened.leads no_step happened.shows lived i l q
+  stay : (i : ℕ) (l : S) → IsQuietAt o before.table i l → is_listed before.process_lists.checked_out i ≡ true → IsQuietAt o behind.table i l
+  stay i l q flag = quiet_stays o law before behind kept (Close (o.path h.process)) happened.leads no_step happened.represents lived i l q
 
   module _ (few : steps (tree_in o before) < 4000000) where
-    quiet_listed : (i : ℕ) (l : S) → IsQuietAt o behind.table i l → (is_listed behind.process_lists.quiet i ≡ true) ⊎ IsQuietAt o before.table i l
+    quiet_listed : (i : ℕ) (l : S) → IsQuietAt o behind.table i l → (is_listed behind.process_lists.ready_queue i ≡ true) ⊎ IsQuietAt o before.table i l
     quiet_listed i l q = elim (h.becomes.only i q.first l lives q.has) [
-      | inl w ↦ inl (ap (is_listed behind.process_lists.quiet) w.0 ∙ one.again.quiet.mine l (subst (λ z. IsQuietAt o behind.table z l) w.0 q))
+      | inl w ↦ inl (ap (is_listed behind.process_lists.ready_queue) w.0 ∙ one.again.ready_queue.mine l (subst (λ z. IsQuietAt o behind.table z l) w.0 q))
       | inr w ↦ inr (record { first = q.first; has = w.2; stands = q.stands })
     ]
 
@@ -130,14 +130,14 @@ module _ {S : Type 0} (o : Ops S) (law : LocalLaws o) (before behind : RunStateV
     pub closes_go : Goes o before behind (Close (o.path h.process))
     closes_go = record {
       keeps = keeps_on o law before behind kept (record {
-        shows = happened.shows;
+        represents = happened.represents;
         few = let n = happened.counts in omega (arith, few, n);
-        looks = one_suffices o [] before.table behind.table (tree_in o behind).root happened.shows (m + 1) number before.process_lists.awake behind.process_lists.awake one.again.awake (touches_wake o m number before.table behind.table h.touches);
-        awake = one.again.awake.kept;
-        quiet = still_listed o before behind kept flags stay one.again.quiet.kept quiet_listed;
-        held = still_held o before behind kept flags stay;
+        looks = one_suffices o [] before.table behind.table (tree_in o behind).root happened.represents (m + 1) number before.process_lists.event_queue behind.process_lists.event_queue one.again.event_queue (touches_requeue o m number before.table behind.table h.touches);
+        event_queue = one.again.event_queue.kept;
+        ready_queue = still_listed o before behind kept flags stay one.again.ready_queue.kept quiet_listed;
+        checked_out = still_out o before behind kept flags stay;
         serves = still_for_all before.table behind.table before.process_lists.own behind.process_lists.own used_before (ap length one.own) kept.serves;
       });
-      happens = record { leads = happened.leads; other = no_step; same = held_as_before o before behind kept flags stay };
+      happens = record { leads = happened.leads; other = no_step; same = out_as_before o before behind kept flags stay };
       steps_are = happened.counts;
     }

@@ -8,10 +8,10 @@ use Rattle.shim_laws_table.proofs.SameTrees.{same_or_not}
 use Rattle.shim_records.proofs.Stepping.{set_there, set_elsewhere}
 use Rattle.shim_records.specs.Waiting.{set_flags}
 use Rattle.shim_laws_table_events.specs.keeping.Tables.{TableView}
-use Rattle.shim_laws_table_events.specs.waking.Awake.{is_set, is_listed}
+use Rattle.shim_laws_table_events.specs.queues.EventQueue.{is_set, is_listed}
 use Rattle.shim_process_table.proofs.Parents.{there_is}
 use Rattle.shim_run_state.specs.RunStates.{IsQuietAt}
-use Rattle.shim_run_state.specs.Waking.{StillListed}
+use Rattle.shim_run_state.specs.Enqueueing.{KeepsQuietListed}
 
 -- what is read of a flag
 pub flag_read : (flags : List Bool) (n : ℕ) → n < length flags → is_listed flags n ≡ get_or flags n false
@@ -55,16 +55,16 @@ fewer_flags (false ∷ bs) zero e = absurd cc
 fewer_flags (true ∷ bs) (suc n) e = let less = fewer_flags bs n e in omega (arith, less)
 fewer_flags (false ∷ bs) (suc n) e = fewer_flags bs n e
 
-module _ {S : Type 0} (o : Ops S) (v : TableView S) (held old : List Bool) where
-  pub all_listed : StillListed o v held old old
+module _ {S : Type 0} (o : Ops S) (v : TableView S) (checked_out old : List Bool) where
+  pub all_listed : KeepsQuietListed o v checked_out old old
   all_listed = record { kept = λ h. h; as_many = refl }
 
-  module _ (now : List Bool) (still : StillListed o v held old now) (n : ℕ) (was : slice_get now n ≡ Some true) where
-    -- a number is dropped whose process doesn't stand before a quiet step, or is held
-    pub dropped : (next : List Bool) → next ≡ slice_set now n false → ((l : S) → IsQuietAt o v n l → is_listed held n ≡ true) → StillListed o v held old next
+  module _ (now : List Bool) (still : KeepsQuietListed o v checked_out old now) (n : ℕ) (was : slice_get now n ≡ Some true) where
+    -- a number is dropped whose process doesn't stand before a quiet step, or is checked out
+    pub dropped : (next : List Bool) → next ≡ slice_set now n false → ((l : S) → IsQuietAt o v n l → is_listed checked_out n ≡ true) → KeepsQuietListed o v checked_out old next
     dropped next e out = record {
       kept = λ h i l q. elim (same_or_not i n) [
-        | inl w ↦ inr (ap (is_listed held) w ∙ out l (subst (λ z. IsQuietAt o v z l) w q))
+        | inl w ↦ inr (ap (is_listed checked_out) w ∙ out l (subst (λ z. IsQuietAt o v z l) w q))
         | inr far ↦ elim (still.kept h i l q) [
           | inl y ↦ inl (ap (λ z. is_listed z i) e ∙ (far_flag now i n false far ∙ y))
           | inr y ↦ inr y
@@ -74,7 +74,7 @@ module _ {S : Type 0} (o : Ops S) (v : TableView S) (held old : List Bool) where
     }
 
     -- one that was taken out is put back
-    pub put_back : (next : List Bool) → next ≡ slice_set (slice_set now n false) n true → StillListed o v held old next
+    pub put_back : (next : List Bool) → next ≡ slice_set (slice_set now n false) n true → KeepsQuietListed o v checked_out old next
     put_back next e = record {
       kept = λ h i l q. elim (same_or_not i n) [
         | inl w ↦ inl ((λ t. is_listed (e t) (w t)) ∙ flag_put (slice_set now n false) n true (within_cleared now n was))

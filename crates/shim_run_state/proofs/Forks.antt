@@ -16,7 +16,7 @@ use Rattle.shim_laws_table.proofs.OneChange.{one_state}
 use Rattle.shim_laws_table.proofs.SameTrees.{same_or_not}
 use Rattle.shim_laws_table_events.specs.keeping.Tables.{TableView, HasProcessState, stands}
 use Rattle.shim_laws_table_events.proofs.meetings.AtHome.{node_at}
-use Rattle.shim_laws_table_events.specs.waking.Awake.{is_listed}
+use Rattle.shim_laws_table_events.specs.queues.EventQueue.{is_listed}
 use Rattle.shim_run_log.specs.Counted.{counted}
 use Rattle.shim_semantics.specs.Advancing.{steps_taken}
 use Rattle.shim_process_table.specs.Forking.{HasForkedHere, HasTrappedHere, ForksHere}
@@ -24,24 +24,24 @@ use Rattle.shim_process_table.specs.Stepping.{HasBecome}
 use Rattle.shim_process_table.specs.declared.forking.ForkOutcome.{ForkOutcome}
 use Rattle.shim_process_table.specs.declared.forking.ForkOutcome.TheVariants as outcome
 use Rattle.shim_records.proofs.Stepping.{set_there, set_elsewhere}
-use Rattle.shim_process_table.specs.Acting.{ActsHere}
-use Rattle.shim_process_table.specs.Reading.{IsInUse}
+use Rattle.shim_process_table.specs.Acting.{ActsAlone}
+use Rattle.shim_process_table.specs.Lookups.{IsInUse}
 use Rattle.shim_process_table.proofs.Parents.{there_is, use_within}
 use Rattle.shim_run_state.specs.ProcessLists.{ProcessListsView, Serves}
-use Rattle.shim_run_state.specs.RunStates.{RunStateView, tree_in, path_at, entry, counts_from, IsQuietAt, KeepsTree}
+use Rattle.shim_run_state.specs.RunStates.{RunStateView, tree_in, path_at, entry, counts_from, IsQuietAt, RunStateInvariant}
 use Rattle.shim_run_state.specs.Room.{HasRoomFor, HasNewChildren, block_of}
-use Rattle.shim_run_state.specs.Waking.{HasCounted, ListsAwake, ListsQuiet, Requeues}
-use Rattle.shim_process_table.proofs.Readied.{touches_wake}
-use Rattle.shim_run_state.proofs.Wakened.{forked_suffices}
+use Rattle.shim_run_state.specs.Enqueueing.{HasCounted, ListsInEventQueue, ListsInReadyQueue, Requeues}
+use Rattle.shim_process_table.proofs.Readied.{touches_requeue}
+use Rattle.shim_run_state.proofs.Enqueued.{forked_suffices}
 use Rattle.shim_records.specs.Pairs.{up_in}
 use Rattle.shim_records.proofs.Reaching.{among_more}
-use Rattle.shim_run_state.proofs.Acted.{HasTold, one_may_be_counted, no_quiet_step, own_done}
+use Rattle.shim_run_state.proofs.Acted.{AddsEffects, one_may_be_counted, no_quiet_step, own_done}
 use Rattle.shim_run_state.proofs.Blocks.{in_block_or_not, block_is, outside_is, block_long, ListsBlock, block_listed}
 use Rattle.shim_run_state.proofs.Counts.{more, fresh}
 use Rattle.shim_run_state.proofs.Events as events
 use Rattle.shim_run_state.proofs.OneMoved.{keeps_on}
 use Rattle.shim_run_state.proofs.Paths.{InUse, path_of, in_use_or_not, same_path_at}
-use Rattle.shim_run_state.proofs.Staying.{held_as_before, still_held, still_listed}
+use Rattle.shim_run_state.proofs.Staying.{out_as_before, still_out, still_listed}
 use Rattle.shim_run_state.proofs.Telling.{Goes}
 
 -- counts that differ where no path is are the same
@@ -64,14 +64,14 @@ pub record OneOwnStep {S : Type 0} (before behind : RunStateView S) : Type 0 whe
   pub events : behind.events ≡ before.events
 
 -- a process that is in use is sound
-pub is_sound : {S : Type 0} (o : Ops S) (v : RunStateView S) → KeepsTree o v → (i f : ℕ) (l : S) (k : ProcessStatus) → HasProcessState v.table i f l k → o.sound l
+pub is_sound : {S : Type 0} (o : Ops S) (v : RunStateView S) → RunStateInvariant o v → (i f : ℕ) (l : S) (k : ProcessStatus) → HasProcessState v.table i f l k → o.sound l
 is_sound o v kept i f l k has =
     let root = (tree_in o v).root in
-    let shows = kept.shows.shows in
-    let n = node_at o [] v.table.states (stands v.table) root shows i f l k has in
-    subst (λ z. o.sound z) n.2 (state_sound o n.0 (sound_at o (place o [] l) root n.0 shows.sound.below n.1))
+    let represents = kept.represents.represents in
+    let n = node_at o [] v.table.states (stands v.table) root represents i f l k has in
+    subst (λ z. o.sound z) n.2 (state_sound o n.0 (sound_at o (place o [] l) root n.0 represents.sound.below n.1))
 
-module _ {S : Type 0} (o : Ops S) (law : LocalLaws o) (before : RunStateView S) (kept : KeepsTree o before) (now : TableView S) (m number first count : ℕ) (h : HasForkedHere o m number first count before.table now) where
+module _ {S : Type 0} (o : Ops S) (law : LocalLaws o) (before : RunStateView S) (kept : RunStateInvariant o before) (now : TableView S) (m number first count : ℕ) (h : HasForkedHere o m number first count before.table now) where
   sound : o.sound h.was
   sound = is_sound o before kept number h.was_first h.was lives h.lived
 
@@ -87,10 +87,10 @@ module _ {S : Type 0} (o : Ops S) (law : LocalLaws o) (before : RunStateView S) 
   pub block_fits : (end : ℕ) → length now.records ≤ end → first + count ≤ end
   block_fits end most = let w = some count refl in omega (arith, w, most)
 
-module _ {S : Type 0} (o : Ops S) (law : LocalLaws o) (before behind : RunStateView S) (kept : KeepsTree o before) (m number first count : ℕ) (h : HasForkedHere o m number first count before.table behind.table) (s : ProcessListsView) (new : HasNewChildren first count before.process_lists s)
+module _ {S : Type 0} (o : Ops S) (law : LocalLaws o) (before behind : RunStateView S) (kept : RunStateInvariant o before) (m number first count : ℕ) (h : HasForkedHere o m number first count before.table behind.table) (s : ProcessListsView) (new : HasNewChildren first count before.process_lists s)
     (c : HasCounted number 1 s.own behind.process_lists.own) (again : Requeues o behind.table (m + 1) number s behind.process_lists) (one : OneOwnStep before behind) where
-  held : behind.process_lists.held ≡ before.process_lists.held
-  held = again.held ∙ new.held
+  checked_out : behind.process_lists.checked_out ≡ before.process_lists.checked_out
+  checked_out = again.checked_out ∙ new.checked_out
 
   path_is : o.path h.is ≡ o.path h.was
   path_is = law.moved_path h.was h.is (is_sound o before kept number h.was_first h.was lives h.lived) (by_fork h.born h.stood h.forked)
@@ -146,16 +146,16 @@ module _ {S : Type 0} (o : Ops S) (law : LocalLaws o) (before behind : RunStateV
   does : act_live o h.was (o.stop h.was) ≡ Some acted
   does = ap (act_live o h.was) h.stood ∙ ap (λ z. Some (record { node = parted z; effects = nothing })) h.forked
 
-  happened : events.Happened o before behind kept.shows (Own (o.path h.was))
-  happened = events.own o before behind kept.shows number h.was_first h.was acted h.lived does h.moves (one.output ∙ sym (append-nil before.output)) one.histories one.logs counts one.events
+  happened : events.Happened o before behind kept.represents (Own (o.path h.was))
+  happened = events.own o before behind kept.represents number h.was_first h.was acted h.lived does h.moves (one.output ∙ sym (append-nil before.output)) one.histories one.logs counts one.events
 
   not_quiet : o.stop h.was ≢ AtQuiet
   not_quiet e = absurd (let z = sym h.stood ∙ e in cc)
 
-  flags : (i : ℕ) → is_listed behind.process_lists.held i ≡ is_listed before.process_lists.held i
-  flags i = ap (λ z. is_listed z i) held
+  flags : (i : ℕ) → is_listed behind.process_lists.checked_out i ≡ is_listed before.process_lists.checked_out i
+  flags i = ap (λ z. is_listed z i) checked_out
 
-  stay : (i : ℕ) (l : S) → IsQuietAt o before.table i l → is_listed before.process_lists.held i ≡ true → IsQuietAt o behind.table i l
+  stay : (i : ℕ) (l : S) → IsQuietAt o before.table i l → is_listed before.process_lists.checked_out i ≡ true → IsQuietAt o behind.table i l
   stay i l q flag = record { first = q.first; has = h.becomes.others i q.first l lives far q.has; stands = q.stands }
     where
       far : i ≢ number
@@ -163,18 +163,18 @@ module _ {S : Type 0} (o : Ops S) (law : LocalLaws o) (before behind : RunStateV
           let mine = subst (λ z. HasProcessState before.table z q.first l lives) e q.has in
           not_quiet (ap o.stop (one_state before.table.states (stands before.table) number h.was_first q.first h.was l lives lives h.lived mine) ∙ q.stands)
 
-  awakes : ListsBlock first count before.process_lists.awake s.awake
-  awakes = block_listed first count before.process_lists.awake s.awake new.listed new.awake
+  event_queues : ListsBlock first count before.process_lists.event_queue s.event_queue
+  event_queues = block_listed first count before.process_lists.event_queue s.event_queue new.listed new.event_queue
 
-  quiets : ListsBlock first count before.process_lists.quiet s.quiet
-  quiets = block_listed first count before.process_lists.quiet s.quiet new.listed_quiet new.quiet
+  ready_queues : ListsBlock first count before.process_lists.ready_queue s.ready_queue
+  ready_queues = block_listed first count before.process_lists.ready_queue s.ready_queue new.listed_quiet new.ready_queue
 
   module _ (few : steps (tree_in o before) < 4000000) (end : ℕ) (most : length behind.table.records ≤ end) (room : HasRoomFor end before.process_lists) where
-    quiet_listed : (i : ℕ) (l : S) → IsQuietAt o behind.table i l → (is_listed behind.process_lists.quiet i ≡ true) ⊎ IsQuietAt o before.table i l
+    quiet_listed : (i : ℕ) (l : S) → IsQuietAt o behind.table i l → (is_listed behind.process_lists.ready_queue i ≡ true) ⊎ IsQuietAt o before.table i l
     quiet_listed i l q = elim (h.becomes.only i q.first l lives q.has) [
       | inl w ↦ absurd (let e = w.2 in cc)
       | inr x ↦ elim x [
-        | inl w ↦ inl (again.quiet.kept i (ap (is_listed s.quiet) w.2 ∙ quiets.mine w.0 (let b = slice_get_within h.born w.0 l w.1 in let m = h.many in omega (arith, b, m))))
+        | inl w ↦ inl (again.ready_queue.kept i (ap (is_listed s.ready_queue) w.2 ∙ ready_queues.mine w.0 (let b = slice_get_within h.born w.0 l w.1 in let m = h.many in omega (arith, b, m))))
         | inr w ↦ inr (record { first = q.first; has = w.1; stands = q.stands })
       ]
     ]
@@ -182,21 +182,21 @@ module _ {S : Type 0} (o : Ops S) (law : LocalLaws o) (before behind : RunStateV
     owns : length behind.process_lists.own ≡ length before.process_lists.own
     owns = ap length c.is ∙ (length-set s.own number (c.count + 1) ∙ block_long 0 first count before.process_lists.own s.own new.within new.own)
 
-    keeps : KeepsTree o behind
+    keeps : RunStateInvariant o behind
     keeps = keeps_on o law before behind kept (record {
-      shows = happened.shows;
+      represents = happened.represents;
       few = let n = happened.counts in omega (arith, few, n);
-      looks = forked_suffices o [] before.table behind.table (tree_in o behind).root happened.shows m number s.awake behind.process_lists.awake again.awake again.within first count (λ b less. again.awake.kept (first + b) (awakes.mine b less)) h.touches;
-      awake = λ i e. again.awake.kept i (awakes.kept i e);
-      quiet = still_listed o before behind kept flags stay (λ i e. again.quiet.kept i (quiets.kept i e)) quiet_listed;
-      held = still_held o before behind kept flags stay;
+      looks = forked_suffices o [] before.table behind.table (tree_in o behind).root happened.represents m number s.event_queue behind.process_lists.event_queue again.event_queue again.within first count (λ b less. again.event_queue.kept (first + b) (event_queues.mine b less)) h.touches;
+      event_queue = λ i e. again.event_queue.kept i (event_queues.kept i e);
+      ready_queue = still_listed o before behind kept flags stay (λ i e. again.ready_queue.kept i (ready_queues.kept i e)) quiet_listed;
+      checked_out = still_out o before behind kept flags stay;
       serves = λ i u. let w = use_within o behind.table i u in let long = owns in omega (arith, w, most, room, long);
     })
 
     pub forks_go : Goes o before behind (Own (o.path h.was))
     forks_go = record {
       keeps = keeps;
-      happens = record { leads = happened.leads; other = no_quiet_step o law before kept number h.was_first h.was h.lived not_quiet; same = held_as_before o before behind kept flags stay };
+      happens = record { leads = happened.leads; other = no_quiet_step o law before kept number h.was_first h.was h.lived not_quiet; same = out_as_before o before behind kept flags stay };
       steps_are = happened.counts;
     }
 
@@ -204,7 +204,7 @@ module _ {S : Type 0} (o : Ops S) (law : LocalLaws o) (before behind : RunStateV
 
 module _ {S : Type 0} (o : Ops S) (m number : ℕ) (before behind : TableView S) (h : HasTrappedHere o number before behind) where
   -- it is a step that its process did by itself
-  pub traps_act : ActsHere o (m + 1) number AtFork lives nothing before behind
+  pub traps_act : ActsAlone o (m + 1) number AtFork lives nothing before behind
   traps_act = record {
     first = h.first;
     process = h.was;
@@ -215,7 +215,7 @@ module _ {S : Type 0} (o : Ops S) (m number : ℕ) (before behind : TableView S)
     came = refl;
     becomes = subst (λ z. HasBecome number h.is lives before z) (sym h.behind_is) become;
     moves = h.moves;
-    wakes = touches_wake o m number before behind (record { others = λ i f s k has far out. h.touches.others i f s k has far (λ w. out (among_more (up_in behind.records) m (omega arith) w)); no_more = h.touches.no_more });
+    newly_ready = touches_requeue o m number before behind (record { others = λ i f s k has far out. h.touches.others i f s k has far (λ w. out (among_more (up_in behind.records) m (omega arith) w)); no_more = h.touches.no_more });
   }
     where
       become : HasBecome number h.is lives before (record { states = slice_set before.states number h.is; records = before.records })
@@ -226,9 +226,9 @@ module _ {S : Type 0} (o : Ops S) (m number : ℕ) (before behind : TableView S)
         only = λ j g t x far w. record { state_is = sym (set_elsewhere before.states number j h.is far) ∙ w.state_is; stands_so = w.stands_so };
       }
 
-module _ {S : Type 0} (o : Ops S) (law : LocalLaws o) (before behind : RunStateView S) (kept : KeepsTree o before) (m number : ℕ) (h : HasTrappedHere o number before.table behind.table) (one : OneOwnStep before behind) (c : HasCounted number 1 before.process_lists.own behind.process_lists.own)
+module _ {S : Type 0} (o : Ops S) (law : LocalLaws o) (before behind : RunStateView S) (kept : RunStateInvariant o before) (m number : ℕ) (h : HasTrappedHere o number before.table behind.table) (one : OneOwnStep before behind) (c : HasCounted number 1 before.process_lists.own behind.process_lists.own)
     (again : Requeues o behind.table (m + 1) number before.process_lists behind.process_lists) (few : steps (tree_in o before) < 4000000) where
-  acts : ActsHere o (m + 1) number AtFork lives nothing before.table behind.table
+  acts : ActsAlone o (m + 1) number AtFork lives nothing before.table behind.table
   acts = traps_act o m number before.table behind.table h
 
   other : AtFork ≢ AtQuiet
@@ -237,13 +237,13 @@ module _ {S : Type 0} (o : Ops S) (law : LocalLaws o) (before behind : RunStateV
   pub traps_go : Goes o before behind (Own (o.path h.was))
   unfolding acts traps_act
   traps_go =
-      let told : HasTold o law before behind kept (m + 1) number AtFork lives nothing acts = record { output = one.output ∙ sym (append-nil before.output); histories = one.histories; logs = one.logs; past = one.past } in
+      let told : AddsEffects o law before behind kept (m + 1) number AtFork lives nothing acts = record { output = one.output ∙ sym (append-nil before.output); histories = one.histories; logs = one.logs; past = one.past } in
       let w = own_done o law before behind kept (m + 1) number AtFork lives nothing acts refl other told c again one.events few in
       record { keeps = w.0; happens = w.1; steps_are = w.2 }
 
 -- ---- either way
 
-module _ {S : Type 0} (o : Ops S) (law : LocalLaws o) (before : RunStateView S) (kept : KeepsTree o before) (now : TableView S) (m number : ℕ) where
+module _ {S : Type 0} (o : Ops S) (law : LocalLaws o) (before : RunStateView S) (kept : RunStateInvariant o before) (now : TableView S) (m number : ℕ) where
   -- the block of new numbers lies below what there is room for
   pub new_fits : (r : ForkOutcome) (end : ℕ) → ForksHere o m number before.table now r → length now.records ≤ end → (block_of r).0 + (block_of r).1 ≤ end
   new_fits (outcome.Forked first count) end h most = block_fits o law before kept now m number first count h end most
@@ -274,7 +274,7 @@ module _ {S : Type 0} (o : Ops S) (law : LocalLaws o) (before : RunStateView S) 
       let long = block_long 0 first count before.process_lists.own s.own new.within new.own in
       omega (arith, w, most, fits, long)
 
-module _ {S : Type 0} (o : Ops S) (law : LocalLaws o) (before behind : RunStateView S) (kept : KeepsTree o before) (m number : ℕ) (s : ProcessListsView) (c : HasCounted number 1 s.own behind.process_lists.own) (again : Requeues o behind.table (m + 1) number s behind.process_lists) (one : OneOwnStep before behind) (few : steps (tree_in o before) < 4000000)
+module _ {S : Type 0} (o : Ops S) (law : LocalLaws o) (before behind : RunStateView S) (kept : RunStateInvariant o before) (m number : ℕ) (s : ProcessListsView) (c : HasCounted number 1 s.own behind.process_lists.own) (again : Requeues o behind.table (m + 1) number s behind.process_lists) (one : OneOwnStep before behind) (few : steps (tree_in o before) < 4000000)
     (end : ℕ) (most : length behind.table.records ≤ end) (room : HasRoomFor end before.process_lists) where
   -- what the process was that forked
   pub record Forks : Type 0 where
@@ -296,9 +296,9 @@ module _ {S : Type 0} (o : Ops S) (law : LocalLaws o) (before behind : RunStateV
     lived = h.lived;
     goes = traps_go o law before behind kept m number h one (subst (λ z. HasCounted number 1 z behind.process_lists.own) new.own c)
         (record {
-          awake = subst (λ z. ListsAwake o behind.table (m + 1) number z behind.process_lists.awake) new.awake again.awake;
-          quiet = subst (λ z. ListsQuiet o behind.table number z behind.process_lists.quiet) new.quiet again.quiet;
-          held = again.held ∙ new.held;
+          event_queue = subst (λ z. ListsInEventQueue o behind.table (m + 1) number z behind.process_lists.event_queue) new.event_queue again.event_queue;
+          ready_queue = subst (λ z. ListsInReadyQueue o behind.table number z behind.process_lists.ready_queue) new.ready_queue again.ready_queue;
+          checked_out = again.checked_out ∙ new.checked_out;
           within = again.within;
         }) few;
   }

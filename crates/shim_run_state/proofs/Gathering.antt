@@ -15,8 +15,8 @@ use Rattle.std.specs.Option.{option_map}
 use Rattle.shim_records.specs.Pairs.{stands_by, stands_of}
 use Rattle.shim_records.specs.declared.record.Record.{Record}
 use Rattle.shim_records.specs.declared.record.Status.TheVariants as code
-use Rattle.shim_records.proofs.Showing.{map_get}
-use Rattle.shim_laws_table.specs.ShownTree.{node_of, node_in, nodes_from, node_in_front, fork_over}
+use Rattle.shim_records.proofs.Representing.{map_get}
+use Rattle.shim_laws_table.specs.RepresentedTree.{node_of, node_in, nodes_from, node_in_front, fork_over}
 use Rattle.shim_laws_table_events.specs.keeping.Tables.{TableView, stands}
 use Rattle.shim_run_state.specs.Gathering.{AddsWaits}
 

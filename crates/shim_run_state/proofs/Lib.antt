@@ -8,7 +8,7 @@ pub mod Counts
 pub mod Events
 pub mod Flags
 pub mod Forks
-pub mod Held
+pub mod CheckedOut
 pub mod Gathering
 pub mod Meets
 pub mod NextDue
@@ -25,6 +25,6 @@ pub mod Quiescent
 pub mod RootRead
 pub mod Stepped
 pub mod Telling
-pub mod Wakened
-pub mod WakesEach
+pub mod Enqueued
+pub mod EnqueuesAll
 pub mod Summing

@@ -8,17 +8,17 @@ use Rattle.shim_semantics.proofs.HowMany.{clash}
 use Rattle.shim_laws_table.specs.Seen.{ProcessStatus, lives}
 use Rattle.shim_laws_table.proofs.OneChange.{one_state}
 use Rattle.shim_laws_table.proofs.SameTrees.{same_or_not}
-use Rattle.shim_laws_table_events.specs.keeping.Tables.{TableView, HasProcessState, Keeps, stands}
-use Rattle.shim_laws_table_events.specs.waking.Awake.{is_listed}
-use Rattle.shim_laws_table_events.proofs.waking.Awake.{listing_stays}
-use Rattle.shim_process_table.specs.Reading.{IsInUse, IsForAll}
+use Rattle.shim_laws_table_events.specs.keeping.Tables.{TableView, HasProcessState, TableInvariant, stands}
+use Rattle.shim_laws_table_events.specs.queues.EventQueue.{is_listed}
+use Rattle.shim_laws_table_events.proofs.queues.EventQueue.{queue_stays_complete}
+use Rattle.shim_process_table.specs.Lookups.{IsInUse, IsForAll}
 use Rattle.shim_process_table.specs.Stepping.{HasBecome}
-use Rattle.shim_process_table.specs.Touching.{WakesAbove}
+use Rattle.shim_process_table.specs.Touching.{ReadiesAbove}
 use Rattle.shim_run_state.specs.ProcessLists.{Serves}
-use Rattle.shim_run_state.specs.RunStates.{RunStateView, tree_in, IsQuietAt, IsHeld, KeepsTree, QuietAreListed}
-use Rattle.shim_run_state.specs.Holding.{SameHeld}
-use Rattle.shim_run_state.specs.Waking.{ListsAwake, ListsQuiet}
-use Rattle.shim_run_state.proofs.Wakened.{Suffices, one_suffices}
+use Rattle.shim_run_state.specs.RunStates.{RunStateView, tree_in, IsQuietAt, IsCheckedOut, RunStateInvariant, QuietAreListed}
+use Rattle.shim_run_state.specs.CheckingOut.{SameCheckedOut}
+use Rattle.shim_run_state.specs.Enqueueing.{ListsInEventQueue, ListsInReadyQueue}
+use Rattle.shim_run_state.proofs.Enqueued.{Suffices, one_suffices}
 
 -- as long a list has an item for the same numbers
 pub still_for_all : {S A : Type 0} (before behind : TableView S) (xs ys : List A) → ((i : ℕ) → IsInUse behind i → IsInUse before i) → length ys ≡ length xs → IsForAll before xs → IsForAll behind ys
@@ -35,23 +35,23 @@ module _ {S : Type 0} (before behind : TableView S) (number f : ℕ) (l s : S) (
   pub for_all_behind : {A : Type 0} (xs : List A) → IsForAll before xs → IsForAll behind xs
   for_all_behind xs h i u = h i (was_used i u)
 
-module _ {S : Type 0} (o : Ops S) (law : LocalLaws o) (before behind : RunStateView S) (kept : KeepsTree o before) where
+module _ {S : Type 0} (o : Ops S) (law : LocalLaws o) (before behind : RunStateView S) (kept : RunStateInvariant o before) where
   -- Where the records show the tree behind, the list has all that is to be looked at again, and whoever stands before a quiet step is listed anew, or did so before.
   pub record HasMoved : Type 0 where
-    pub shows : Keeps o [] behind.table (tree_in o behind).root
+    pub represents : TableInvariant o [] behind.table (tree_in o behind).root
     pub few : steps (tree_in o behind) ≤ 4000000
-    pub looks : Suffices o before.table behind.table behind.process_lists.awake
-    pub awake : (i : ℕ) → is_listed before.process_lists.awake i ≡ true → is_listed behind.process_lists.awake i ≡ true
-    pub quiet : QuietAreListed o behind.table behind.process_lists.quiet behind.process_lists.held
-    pub held : (i : ℕ) → is_listed behind.process_lists.held i ≡ true → (l : S) × IsQuietAt o behind.table i l
+    pub looks : Suffices o before.table behind.table behind.process_lists.event_queue
+    pub event_queue : (i : ℕ) → is_listed before.process_lists.event_queue i ≡ true → is_listed behind.process_lists.event_queue i ≡ true
+    pub ready_queue : QuietAreListed o behind.table behind.process_lists.ready_queue behind.process_lists.checked_out
+    pub checked_out : (i : ℕ) → is_listed behind.process_lists.checked_out i ≡ true → (l : S) × IsQuietAt o behind.table i l
     pub serves : Serves behind.table behind.process_lists
 
-  pub keeps_on : HasMoved → KeepsTree o behind
+  pub keeps_on : HasMoved → RunStateInvariant o behind
   keeps_on m = record {
-    shows = m.shows;
-    awake = (listing_stays o law).moves [] before.table behind.table (tree_in o before) (tree_in o behind) before.process_lists.awake behind.process_lists.awake kept.shows m.shows kept.awake m.awake m.looks;
-    quiet = m.quiet;
-    held = m.held;
+    represents = m.represents;
+    event_queue = (queue_stays_complete o law).moves [] before.table behind.table (tree_in o before) (tree_in o behind) before.process_lists.event_queue behind.process_lists.event_queue kept.represents m.represents kept.event_queue m.event_queue m.looks;
+    ready_queue = m.ready_queue;
+    checked_out = m.checked_out;
     serves = m.serves;
     few = m.few;
   }
@@ -59,7 +59,7 @@ module _ {S : Type 0} (o : Ops S) (law : LocalLaws o) (before behind : RunStateV
   -- ---- one process has become another
 
   module _ (number f : ℕ) (l s : S) (h k : ProcessStatus) (has : HasProcessState before.table number f l h) (becomes : HasBecome number s k before.table behind.table)
-      (flags : (i : ℕ) → i ≢ number → is_listed behind.process_lists.held i ≡ is_listed before.process_lists.held i) (free : is_listed behind.process_lists.held number ≡ false) where
+      (flags : (i : ℕ) → i ≢ number → is_listed behind.process_lists.checked_out i ≡ is_listed before.process_lists.checked_out i) (free : is_listed behind.process_lists.checked_out number ≡ false) where
     used_before : (i : ℕ) → IsInUse behind.table i → IsInUse before.table i
     used_before = was_used before.table behind.table number f l s h k has becomes
 
@@ -69,60 +69,60 @@ module _ {S : Type 0} (o : Ops S) (law : LocalLaws o) (before behind : RunStateV
     pub quiet_behind : (i : ℕ) (t : S) → i ≢ number → IsQuietAt o before.table i t → IsQuietAt o behind.table i t
     quiet_behind i t far q = record { first = q.first; has = becomes.others i q.first t lives far q.has; stands = q.stands }
 
-    -- who is held now is another one, and was held
-    held_far : (i : ℕ) → is_listed behind.process_lists.held i ≡ true → i ≢ number
-    held_far i flag e = clash (is_listed behind.process_lists.held i) flag (ap (is_listed behind.process_lists.held) e ∙ free)
+    -- who is checked out now is another one, and was checked out
+    out_far : (i : ℕ) → is_listed behind.process_lists.checked_out i ≡ true → i ≢ number
+    out_far i flag e = clash (is_listed behind.process_lists.checked_out i) flag (ap (is_listed behind.process_lists.checked_out) e ∙ free)
 
-    pub others_held : (i : ℕ) (t : S) → i ≢ number → IsHeld o before i t ↔ IsHeld o behind i t
-    others_held i t far = (
-      λ w. record { quiet = quiet_behind i t far w.quiet; flag = flags i far ∙ w.flag },
-      λ w. record { quiet = quiet_before i t far w.quiet; flag = sym (flags i far) ∙ w.flag },
+    pub others_out : (i : ℕ) (t : S) → i ≢ number → IsCheckedOut o before i t ↔ IsCheckedOut o behind i t
+    others_out i t far = (
+      λ w. record { at_quiet = quiet_behind i t far w.at_quiet; flag = flags i far ∙ w.flag },
+      λ w. record { at_quiet = quiet_before i t far w.at_quiet; flag = sym (flags i far) ∙ w.flag },
     )
 
-    pub isnt_held : (t : S) → IsHeld o behind number t → ⊥
-    isnt_held t w = clash (is_listed behind.process_lists.held number) w.flag free
+    pub isnt_out : (t : S) → IsCheckedOut o behind number t → ⊥
+    isnt_out t w = clash (is_listed behind.process_lists.checked_out number) w.flag free
 
-    -- who was held still is, where the process wasn't
-    pub same_held : is_listed before.process_lists.held number ≡ false → SameHeld o before behind
-    same_held was i t = elim (same_or_not i number) [
-      | inr far ↦ others_held i t far
+    -- who was checked out still is, where the process wasn't
+    pub same_out : is_listed before.process_lists.checked_out number ≡ false → SameCheckedOut o before behind
+    same_out was i t = elim (same_or_not i number) [
+      | inr far ↦ others_out i t far
       | inl e ↦ (
-        λ w. clash (is_listed before.process_lists.held i) w.flag (ap (is_listed before.process_lists.held) e ∙ was),
-        λ w. clash (is_listed behind.process_lists.held i) w.flag (ap (is_listed behind.process_lists.held) e ∙ free),
+        λ w. clash (is_listed before.process_lists.checked_out i) w.flag (ap (is_listed before.process_lists.checked_out) e ∙ was),
+        λ w. clash (is_listed behind.process_lists.checked_out i) w.flag (ap (is_listed behind.process_lists.checked_out) e ∙ free),
       )
     ]
 
-    module _ (n : ℕ) (shows : Keeps o [] behind.table (tree_in o behind).root) (few : steps (tree_in o behind) ≤ 4000000) (wakes : WakesAbove o n number before.table behind.table)
-        (awake : ListsAwake o behind.table n number before.process_lists.awake behind.process_lists.awake) (quiet : ListsQuiet o behind.table number before.process_lists.quiet behind.process_lists.quiet)
+    module _ (n : ℕ) (represents : TableInvariant o [] behind.table (tree_in o behind).root) (few : steps (tree_in o behind) ≤ 4000000) (newly_ready : ReadiesAbove o n number before.table behind.table)
+        (event_queue : ListsInEventQueue o behind.table n number before.process_lists.event_queue behind.process_lists.event_queue) (ready_queue : ListsInReadyQueue o behind.table number before.process_lists.ready_queue behind.process_lists.ready_queue)
         (owns : length behind.process_lists.own ≡ length before.process_lists.own) where
-      lists : QuietAreListed o behind.table behind.process_lists.quiet behind.process_lists.held
+      lists : QuietAreListed o behind.table behind.process_lists.ready_queue behind.process_lists.checked_out
       lists i t q = elim (same_or_not i number) [
-        | inl e ↦ inl (ap (is_listed behind.process_lists.quiet) e ∙ quiet.mine t (subst (λ z. IsQuietAt o behind.table z t) e q))
-        | inr far ↦ elim (kept.quiet i t (quiet_before i t far q)) [ inl w ↦ inl (quiet.kept i w) | inr w ↦ inr (flags i far ∙ w) ]
+        | inl e ↦ inl (ap (is_listed behind.process_lists.ready_queue) e ∙ ready_queue.mine t (subst (λ z. IsQuietAt o behind.table z t) e q))
+        | inr far ↦ elim (kept.ready_queue i t (quiet_before i t far q)) [ inl w ↦ inl (ready_queue.kept i w) | inr w ↦ inr (flags i far ∙ w) ]
       ]
 
-      stay_held : (i : ℕ) → is_listed behind.process_lists.held i ≡ true → (t : S) × IsQuietAt o behind.table i t
-      stay_held i flag =
-          let far = held_far i flag in
-          let w = kept.held i (sym (flags i far) ∙ flag) in
+      stay_out : (i : ℕ) → is_listed behind.process_lists.checked_out i ≡ true → (t : S) × IsQuietAt o behind.table i t
+      stay_out i flag =
+          let far = out_far i flag in
+          let w = kept.checked_out i (sym (flags i far) ∙ flag) in
           (w.0, quiet_behind i w.0 far w.1)
 
-      pub one_moved : KeepsTree o behind
+      pub one_moved : RunStateInvariant o behind
       one_moved = keeps_on (record {
-        shows = shows;
+        represents = represents;
         few = few;
-        looks = one_suffices o [] before.table behind.table (tree_in o behind).root shows n number before.process_lists.awake behind.process_lists.awake awake wakes;
-        awake = awake.kept;
-        quiet = lists;
-        held = stay_held;
+        looks = one_suffices o [] before.table behind.table (tree_in o behind).root represents n number before.process_lists.event_queue behind.process_lists.event_queue event_queue newly_ready;
+        event_queue = event_queue.kept;
+        ready_queue = lists;
+        checked_out = stay_out;
         serves = still_for_all before.table behind.table before.process_lists.own behind.process_lists.own used_before owns kept.serves;
       })
 
-  -- who stands at something else isn't held
-  pub other_stop_free : (number f : ℕ) (l : S) → HasProcessState before.table number f l lives → o.stop l ≢ AtQuiet → is_listed before.process_lists.held number ≡ false
-  other_stop_free number f l has other = elim (true_or_false (is_listed before.process_lists.held number)) [
+  -- who stands at something else isn't checked out
+  pub other_stop_free : (number f : ℕ) (l : S) → HasProcessState before.table number f l lives → o.stop l ≢ AtQuiet → is_listed before.process_lists.checked_out number ≡ false
+  other_stop_free number f l has other = elim (true_or_false (is_listed before.process_lists.checked_out number)) [
     | inr e ↦ e
     | inl e ↦
-        let w = kept.held number e in
+        let w = kept.checked_out number e in
         absurd (other (ap o.stop (one_state before.table.states (stands before.table) number f w.1.first l w.0 lives lives has w.1.has) ∙ w.1.stands))
   ]

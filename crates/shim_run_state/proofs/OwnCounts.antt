@@ -17,7 +17,7 @@ use Rattle.shim_semantics.specs.Advancing.{steps_taken}
 use Rattle.shim_process_table.specs.Stepping.{HasBecome}
 use Rattle.shim_run_log.specs.Counted.{counted}
 use Rattle.shim_run_state.specs.RunStates.{RunStateView, tree_in, path_at, counts_from}
-use Rattle.shim_run_state.specs.Waking.{HasCounted}
+use Rattle.shim_run_state.specs.Enqueueing.{HasCounted}
 use Rattle.shim_run_state.proofs.Counts.{more, same}
 use Rattle.shim_run_state.proofs.Events.{counts_in}
 use Rattle.shim_run_state.proofs.Paths.{path_of, changed}

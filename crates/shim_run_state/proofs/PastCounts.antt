@@ -9,7 +9,7 @@ use Rattle.shim_base.proofs.Facts.{some_same, none_some}
 use Rattle.shim_records.proofs.Walked.{less_or_not}
 use Rattle.shim_local.specs.Process.{Ops}
 use Rattle.shim_laws_table_events.specs.keeping.Tables.{TableView}
-use Rattle.shim_process_table.specs.Reading.{IsInUse}
+use Rattle.shim_process_table.specs.Lookups.{IsInUse}
 use Rattle.shim_semantics.specs.Advancing.{steps_taken}
 use Rattle.shim_run_log.specs.Counted.{StepCount, counted}
 use Rattle.shim_run_log.proofs.Counted.{swapped}

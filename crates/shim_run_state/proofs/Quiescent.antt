@@ -11,18 +11,18 @@ use Rattle.shim_laws_table.proofs.CanHappen.{enabled_by_records}
 use Rattle.shim_records.specs.Members.{IsAmong}
 use Rattle.shim_records.specs.Waiting.{AreListedIn}
 use Rattle.shim_laws_table_events.specs.keeping.Tables.{TableView, stands}
-use Rattle.shim_laws_table_events.specs.waking.Looks.{HasNothingDue, IsDue, IsQuietStepAt}
-use Rattle.shim_laws_table_events.specs.waking.Awake.{is_set, is_listed}
-use Rattle.shim_laws_table_events.proofs.waking.Idle.{looks_decide}
-use Rattle.shim_laws_table_events.proofs.waking.Waking.{looked_for}
+use Rattle.shim_laws_table_events.specs.queues.RecordDecisions.{HasNothingDue, CanHappenAt, IsQuietStepAt}
+use Rattle.shim_laws_table_events.specs.queues.EventQueue.{is_set, is_listed}
+use Rattle.shim_laws_table_events.proofs.queues.Idle.{record_decides}
+use Rattle.shim_laws_table_events.proofs.queues.Requeueing.{event_has_one_owner}
 use Rattle.shim_process_table.specs.Stepping.{IsBeforeQuiet}
 use Rattle.shim_process_table.specs.Due.{DueIs}
 use Rattle.shim_process_table.specs.declared.due.Due.{Due}
 use Rattle.shim_process_table.specs.declared.due.Due.TheVariants as code
 use Rattle.shim_process_table.proofs.DueEvents as events
-use Rattle.shim_run_state.specs.RunStates.{RunStateView, tree_in, KeepsTree, IsQuietAt}
-use Rattle.shim_run_state.specs.Holding.{NoneHeld}
-use Rattle.shim_run_state.specs.Reading.{NoneQuiet, NoneDue}
+use Rattle.shim_run_state.specs.RunStates.{RunStateView, tree_in, RunStateInvariant, IsQuietAt}
+use Rattle.shim_run_state.specs.CheckingOut.{NoneCheckedOut}
+use Rattle.shim_run_state.specs.Quiescence.{NoneQuiet, NoneDue}
 
 -- a flag that is set is there
 pub flag_there : (flags : List Bool) (i : ℕ) → is_listed flags i ≡ true → slice_get flags i ≡ Some true
@@ -35,7 +35,7 @@ flag_there flags i h = on (slice_get flags i) h
 
 module _ {S : Type 0} (o : Ops S) (law : LocalLaws o) where
   -- something that is due at a number is an event
-  pub some_due : (v : TableView S) (i : ℕ) (d : Due) → d ≢ code.Nothing → DueIs o v i d → (e : Event) × IsDue o v i e
+  pub some_due : (v : TableView S) (i : ℕ) (d : Due) → d ≢ code.Nothing → DueIs o v i d → (e : Event) × CanHappenAt o v i e
   some_due v i code.Nothing n w = absurd (n refl)
   some_due v i code.Put n w = (_, events.due_put o v i w)
   some_due v i code.Fork n w = (_, events.due_fork o v i w)
@@ -51,33 +51,33 @@ module _ {S : Type 0} (o : Ops S) (law : LocalLaws o) where
   pub nothing_due : (v : TableView S) (i : ℕ) (d : Due) → d ≡ code.Nothing → DueIs o v i d → HasNothingDue o v i
   nothing_due v i d is w = subst (DueIs o v i) is w
 
-  module _ (v : RunStateView S) (kept : KeepsTree o v) (none : NoneHeld o v) where
+  module _ (v : RunStateView S) (kept : RunStateInvariant o v) (none : NoneCheckedOut o v) where
     abbrev pub t : Tree S
     t = tree_in o v
 
     -- where one stands before a quiet step, that can happen
     pub one_quiet : (n : ℕ) → IsBeforeQuiet o n v.table true → IsQuiescent o t → ⊥
-    one_quiet n w rest = ((enabled_by_records o law).steps [] v.table.states (stands v.table) t n w.0 w.1 kept.shows.shows w.2).1 (ap own_action_at w.3) (rest (Own (o.path w.1)))
+    one_quiet n w rest = ((enabled_by_records o law).steps [] v.table.states (stands v.table) t n w.0 w.1 kept.represents.represents w.2).1 (ap own_action_at w.3) (rest (Own (o.path w.1)))
 
-    pub one_due : (n : ℕ) (e : Event) → IsDue o v.table n e → IsQuiescent o t → ⊥
-    one_due n e due rest = ((looks_decide o law).can [] v.table t e n kept.shows due).0 (rest e)
+    pub one_due : (n : ℕ) (e : Event) → CanHappenAt o v.table n e → IsQuiescent o t → ⊥
+    one_due n e due rest = ((record_decides o law).can [] v.table t e n kept.represents due).0 (rest e)
 
     -- where at no listed number anything can, nothing can
-    module _ (quiet awake : List ℕ) (quiets : AreListedIn quiet v.process_lists.quiet) (awakes : AreListedIn awake v.process_lists.awake) (no_quiet : NoneQuiet o v.table quiet true) (no_due : NoneDue o v.table awake true) where
+    module _ (ready_queue event_queue : List ℕ) (ready_queues : AreListedIn ready_queue v.process_lists.ready_queue) (event_queues : AreListedIn event_queue v.process_lists.event_queue) (no_quiet : NoneQuiet o v.table ready_queue true) (no_due : NoneDue o v.table event_queue true) where
       no_step : (i : ℕ) (e : Event) → IsQuietStepAt o v.table i e → ⊥
       no_step i e s =
           let q : IsQuietAt o v.table i s.process = record { first = s.first; has = s.has; stands = s.stands } in
-          elim (kept.quiet i s.process q) [
-            | inl h ↦ no_quiet i (quiets.all i (flag_there v.process_lists.quiet i h)) s.first s.process s.has s.stands
-            | inr h ↦ none i s.process (record { quiet = q; flag = h })
+          elim (kept.ready_queue i s.process q) [
+            | inl h ↦ no_quiet i (ready_queues.all i (flag_there v.process_lists.ready_queue i h)) s.first s.process s.has s.stands
+            | inr h ↦ none i s.process (record { at_quiet = q; flag = h })
           ]
 
       cannot : (e : Event) → Can o t e → ⊥
       cannot e can =
-          let at = (looked_for o law).somewhere [] v.table t e kept.shows can in
-          let listed = kept.awake e at.0 can at.1 (no_step at.0 e) in
-          let idle = no_due at.0 (awakes.all at.0 (flag_there v.process_lists.awake at.0 listed)) in
-          no_step at.0 e ((looks_decide o law).idle [] v.table t e at.0 kept.shows idle can at.1)
+          let at = (event_has_one_owner o law).somewhere [] v.table t e kept.represents can in
+          let listed = kept.event_queue e at.0 can at.1 (no_step at.0 e) in
+          let idle = no_due at.0 (event_queues.all at.0 (flag_there v.process_lists.event_queue at.0 listed)) in
+          no_step at.0 e ((record_decides o law).idle [] v.table t e at.0 kept.represents idle can at.1)
 
       pub rests : IsQuiescent o t
       rests e = on (after o e t) refl
@@ -86,16 +86,16 @@ module _ {S : Type 0} (o : Ops S) (law : LocalLaws o) where
           on None h = h
           on (Some u) h = absurd (cannot e (λ n. none_some u (sym n ∙ h)))
 
-module _ {S : Type 0} (o : Ops S) (law : LocalLaws o) (v : RunStateView S) (kept : KeepsTree o v) (none : NoneHeld o v) (quiet : List ℕ) where
+module _ {S : Type 0} (o : Ops S) (law : LocalLaws o) (v : RunStateView S) (kept : RunStateInvariant o v) (none : NoneCheckedOut o v) (ready_queue : List ℕ) where
   -- what the code is told of the listed numbers tells whether anything can happen
-  pub told_some_quiet : (b : Bool) → b ≡ false → NoneQuiet o v.table quiet b → IsTrue false ↔ IsQuiescent o (tree_in o v)
+  pub told_some_quiet : (b : Bool) → b ≡ false → NoneQuiet o v.table ready_queue b → IsTrue false ↔ IsQuiescent o (tree_in o v)
   told_some_quiet false e w = (λ h. absurd cc, λ rest. absurd (one_quiet o law v kept none w.0 w.1 rest))
   told_some_quiet true e w = absurd cc
 
-  pub told_rests : (b d : Bool) (awake : List ℕ) → AreListedIn quiet v.process_lists.quiet → AreListedIn awake v.process_lists.awake → b ≡ true → NoneQuiet o v.table quiet b → NoneDue o v.table awake d → IsTrue d ↔ IsQuiescent o (tree_in o v)
-  told_rests true true awake q a e w u = (λ h. rests o law v kept none quiet awake q a w u, λ rest. refl)
-  told_rests true false awake q a e w u = (λ h. absurd cc, λ rest. absurd (one_due o law v kept none u.0 u.1 u.2 rest))
-  told_rests false d awake q a e w u = absurd cc
+  pub told_rests : (b d : Bool) (event_queue : List ℕ) → AreListedIn ready_queue v.process_lists.ready_queue → AreListedIn event_queue v.process_lists.event_queue → b ≡ true → NoneQuiet o v.table ready_queue b → NoneDue o v.table event_queue d → IsTrue d ↔ IsQuiescent o (tree_in o v)
+  told_rests true true event_queue q a e w u = (λ h. rests o law v kept none ready_queue event_queue q a w u, λ rest. refl)
+  told_rests true false event_queue q a e w u = (λ h. absurd cc, λ rest. absurd (one_due o law v kept none u.0 u.1 u.2 rest))
+  told_rests false d event_queue q a e w u = absurd cc
 
 -- ---- a run over numbers
 

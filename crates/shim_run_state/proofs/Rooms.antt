@@ -9,17 +9,17 @@ use Rattle.shim_laws_table.specs.Seen.{lives}
 use Rattle.shim_laws_table.specs.Enabled.{Can}
 use Rattle.shim_laws_replay.specs.Grants.{IsNoQuietStep}
 use Rattle.shim_laws_table_events.specs.keeping.Tables.{HasProcessState, stands}
-use Rattle.shim_laws_table.specs.ShownTree.{shown_tree}
-use Rattle.shim_laws_table_events.specs.waking.Awake.{is_listed}
+use Rattle.shim_laws_table.specs.RepresentedTree.{represented_tree}
+use Rattle.shim_laws_table_events.specs.queues.EventQueue.{is_listed}
 use Rattle.shim_run_log.specs.Counted.{StepCount, counted}
 use Rattle.shim_run_state.specs.ProcessLists.{ProcessListsView}
-use Rattle.shim_run_state.specs.RunStates.{RunStateView, tree_in, path_at, entry, counts_from, or_begun, KeepsTree}
-use Rattle.shim_run_state.specs.Holding.{SameHeld, HappensIn}
+use Rattle.shim_run_state.specs.RunStates.{RunStateView, tree_in, path_at, entry, counts_from, or_begun, RunStateInvariant}
+use Rattle.shim_run_state.specs.CheckingOut.{SameCheckedOut, HappensIn}
 use Rattle.shim_run_state.specs.Room.{IsLonger, IsRoomier, HasMoreRoom}
 use Rattle.shim_run_state.specs.Settling.{StaysAs}
 use Rattle.shim_run_state.proofs.Counts.{front}
 use Rattle.shim_run_state.proofs.Events.{told, counts_in}
-use Rattle.shim_run_state.proofs.Held.{with_process_lists}
+use Rattle.shim_run_state.proofs.CheckedOut.{with_process_lists}
 
 -- ---- a list that was filled up
 
@@ -65,22 +65,22 @@ no_more_counted k f (n ∷ ns) past =
 -- ---- the tree with such lists
 
 module _ {S : Type 0} (o : Ops S) where
-  -- it is the same tree, and the same ones are held
+  -- it is the same tree, and the same ones are checked out
   pub same_tree : (before behind : RunStateView S) → HasMoreRoom before behind → tree_in o behind ≡ tree_in o before
   same_tree before behind m =
       let counts : counts_in o behind ≡ counts_in o before =
       (λ j. counted (counts_from (path_at o (m.table j)) (m.process_lists.own.1 j) ++ m.past j)) ∙ no_more_counted m.process_lists.own.0 (path_at o before.table) before.process_lists.own before.past in
-      (λ j. told o (or_begun (m.begun j) (shown_tree o (m.table j).states (stands (m.table j)))) (m.output j) (m.histories j) (m.logs j) (counts j) (m.events j))
+      (λ j. told o (or_begun (m.begun j) (represented_tree o (m.table j).states (stands (m.table j)))) (m.output j) (m.histories j) (m.logs j) (counts j) (m.events j))
 
-  same_held : (before behind : RunStateView S) → HasMoreRoom before behind → SameHeld o before behind
-  same_held before behind m i l =
-      let flag = as_listed before.process_lists.held behind.process_lists.held m.process_lists.held i in (
-        λ h. record { quiet = record { first = h.quiet.first; has = subst (λ z. HasProcessState z i h.quiet.first l lives) (sym m.table) h.quiet.has; stands = h.quiet.stands }; flag = flag ∙ h.flag },
-        λ h. record { quiet = record { first = h.quiet.first; has = subst (λ z. HasProcessState z i h.quiet.first l lives) m.table h.quiet.has; stands = h.quiet.stands }; flag = sym flag ∙ h.flag },
+  same_out : (before behind : RunStateView S) → HasMoreRoom before behind → SameCheckedOut o before behind
+  same_out before behind m i l =
+      let flag = as_listed before.process_lists.checked_out behind.process_lists.checked_out m.process_lists.checked_out i in (
+        λ h. record { at_quiet = record { first = h.at_quiet.first; has = subst (λ z. HasProcessState z i h.at_quiet.first l lives) (sym m.table) h.at_quiet.has; stands = h.at_quiet.stands }; flag = flag ∙ h.flag },
+        λ h. record { at_quiet = record { first = h.at_quiet.first; has = subst (λ z. HasProcessState z i h.at_quiet.first l lives) m.table h.at_quiet.has; stands = h.at_quiet.stands }; flag = sym flag ∙ h.flag },
       )
 
   pub stays_so : (before behind : RunStateView S) → HasMoreRoom before behind → StaysAs o before behind
-  stays_so before behind m = record { tree = same_tree before behind m; held = same_held before behind m }
+  stays_so before behind m = record { tree = same_tree before behind m; checked_out = same_out before behind m }
 
   module _ (v : RunStateView S) (s : ProcessListsView) (more : IsRoomier v.process_lists s) where
     pub more_room : HasMoreRoom v (with_process_lists v s)
@@ -89,12 +89,12 @@ module _ {S : Type 0} (o : Ops S) where
     tree : tree_in o (with_process_lists v s) ≡ tree_in o v
     tree = same_tree v (with_process_lists v s) more_room
 
-    pub room_keeps : KeepsTree o v → KeepsTree o (with_process_lists v s)
+    pub room_keeps : RunStateInvariant o v → RunStateInvariant o (with_process_lists v s)
     room_keeps kept = record {
-      shows = kept.shows;
-      awake = λ e i can at none. as_listed v.process_lists.awake s.awake more.awake i ∙ kept.awake e i (subst (λ (t : Tree S). Can o t e) tree can) at none;
-      quiet = λ i l q. elim (kept.quiet i l q) [ inl e ↦ inl (as_listed v.process_lists.quiet s.quiet more.quiet i ∙ e) | inr e ↦ inr (as_listed v.process_lists.held s.held more.held i ∙ e) ];
-      held = λ i e. kept.held i (sym (as_listed v.process_lists.held s.held more.held i) ∙ e);
+      represents = kept.represents;
+      event_queue = λ e i can at none. as_listed v.process_lists.event_queue s.event_queue more.event_queue i ∙ kept.event_queue e i (subst (λ (t : Tree S). Can o t e) tree can) at none;
+      ready_queue = λ i l q. elim (kept.ready_queue i l q) [ inl e ↦ inl (as_listed v.process_lists.ready_queue s.ready_queue more.ready_queue i ∙ e) | inr e ↦ inr (as_listed v.process_lists.checked_out s.checked_out more.checked_out i ∙ e) ];
+      checked_out = λ i e. kept.checked_out i (sym (as_listed v.process_lists.checked_out s.checked_out more.checked_out i) ∙ e);
       serves = λ i u. still_within 0 v.process_lists.own s.own i more.own (kept.serves i u);
       few = subst (λ (t : Tree S). steps t ≤ 4000000) (sym tree) kept.few;
     }
@@ -107,11 +107,11 @@ module _ {S : Type 0} (o : Ops S) where
   happens_before v w z e stays h = record {
     leads = ap (after o e) (sym stays.tree) ∙ h.leads;
     other = subst (λ (t : Tree S). IsNoQuietStep o t e) stays.tree h.other;
-    same = λ i l. (λ x. (h.same i l).0 ((stays.held i l).0 x), λ x. (stays.held i l).1 ((h.same i l).1 x));
+    same = λ i l. (λ x. (h.same i l).0 ((stays.checked_out i l).0 x), λ x. (stays.checked_out i l).1 ((h.same i l).1 x));
   }
 
   pub stays_before : (v w z : RunStateView S) → StaysAs o v w → StaysAs o w z → StaysAs o v z
   stays_before v w z first later = record {
     tree = later.tree ∙ first.tree;
-    held = λ i l. (λ x. (later.held i l).0 ((first.held i l).0 x), λ x. (first.held i l).1 ((later.held i l).1 x));
+    checked_out = λ i l. (λ x. (later.checked_out i l).0 ((first.checked_out i l).0 x), λ x. (first.checked_out i l).1 ((later.checked_out i l).1 x));
   }

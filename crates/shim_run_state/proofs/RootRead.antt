@@ -13,39 +13,39 @@ use Rattle.shim_semantics.proofs.Enabled.{empty_is_quiescent}
 use Rattle.shim_run_log.proofs.WaitsAdded.{blocked_waits}
 use Rattle.shim_laws_table.specs.Seen.{place}
 use Rattle.shim_laws_table.specs.Agrees.{used}
-use Rattle.shim_laws_table.specs.ShownTree.{node_of}
-use Rattle.shim_laws_table.proofs.ShownTree.{root_within, AreNear}
+use Rattle.shim_laws_table.specs.RepresentedTree.{node_of}
+use Rattle.shim_laws_table.proofs.RepresentedTree.{root_within, AreNear}
 use Rattle.shim_records.specs.Pairs.{stands_of}
 use Rattle.shim_records.specs.declared.record.Status.{Status as Stood}
 use Rattle.shim_records.specs.declared.record.Status.TheVariants as code
-use Rattle.shim_records.proofs.Showing.{map_get}
-use Rattle.shim_laws_table_events.specs.keeping.Tables.{TableView, Keeps, stands}
+use Rattle.shim_records.proofs.Representing.{map_get}
+use Rattle.shim_laws_table_events.specs.keeping.Tables.{TableView, TableInvariant, stands}
 use Rattle.shim_laws_table_events.proofs.keeping.Moved.{from_map}
-use Rattle.shim_process_table.specs.Reading.{IsInUse}
-use Rattle.shim_run_state.specs.RunStates.{RunStateView, tree_in, KeepsTree}
+use Rattle.shim_process_table.specs.Lookups.{IsInUse}
+use Rattle.shim_run_state.specs.RunStates.{RunStateView, tree_in, RunStateInvariant}
 use Rattle.shim_run_state.specs.Endings.{IsRoot}
 use Rattle.shim_run_state.specs.Gathering.{AddsWaits}
 
 module _ {S : Type 0} (o : Ops S) where
   -- ---- the root is computed, and has a record
 
-  are_near : (v : TableView S) (root : Node S) (most : ℕ) → 4294967295 ≡ most → Keeps o [] v root → AreNear o [] v.states (stands v) most
+  are_near : (v : TableView S) (root : Node S) (most : ℕ) → 4294967295 ≡ most → TableInvariant o [] v root → AreNear o [] v.states (stands v) most
   are_near v root most e kept i f s k has =
       let w = from_map stands_of (slice_get v.records i) (used f k) (sym (map_get stands_of v.records i) ∙ has.stands_so) in
       subst (λ z. length (place o [] s) ≤ z) e (kept.fit i f s k w.0 has w.1).near
 
-  root_computed : (v : TableView S) (root : Node S) (most levels : ℕ) → 4294967295 ≡ most → levels ≡ suc most → Keeps o [] v root → IsRoot v levels root
+  root_computed : (v : TableView S) (root : Node S) (most levels : ℕ) → 4294967295 ≡ most → levels ≡ suc most → TableInvariant o [] v root → IsRoot v levels root
   root_computed v root most levels e is kept =
-      record { is = ap (λ z. node_of v.states (stands v) z 0) is ∙ root_within o [] v.states (stands v) root most kept.shows (are_near v root most e kept) }
+      record { is = ap (λ z. node_of v.states (stands v) z 0) is ∙ root_within o [] v.states (stands v) root most kept.represents (are_near v root most e kept) }
 
-  pub root_is : (v : TableView S) (root : Node S) → Keeps o [] v root → IsRoot v 4294967296 root
+  pub root_is : (v : TableView S) (root : Node S) → TableInvariant o [] v root → IsRoot v 4294967296 root
   root_is v root kept = root_computed v root 4294967295 4294967296 refl one_more kept
     where
       one_more : 4294967296 ≡ suc 4294967295
       one_more = omega arith
 
-  pub root_in_use : (v : TableView S) (root : Node S) → Keeps o [] v root → IsInUse v 0
-  root_in_use v root kept = let r = kept.shows.rooted in (r.first, r.state, r.status, r.has)
+  pub root_in_use : (v : TableView S) (root : Node S) → TableInvariant o [] v root → IsInUse v 0
+  root_in_use v root kept = let r = kept.represents.rooted in (r.first, r.state, r.status, r.has)
 
   -- ---- what came of it
 
@@ -62,5 +62,5 @@ same_truth true false Q w u = sym (u.1 (w.0 refl))
 same_truth false true Q w u = w.1 (u.0 refl)
 same_truth false false Q w u = refl
 
-pub told_empty : {S : Type 0} (o : Ops S) (v : RunStateView S) (b : Bool) → KeepsTree o v → IsTrue b ↔ IsQuiescent o (tree_in o v) → b ≡ is_empty (walk o (tree_in o v).root)
-told_empty o v b kept w = same_truth b (is_empty (walk o (tree_in o v).root)) (IsQuiescent o (tree_in o v)) w (empty_is_quiescent o (tree_in o v) kept.shows.shows.sound.below)
+pub told_empty : {S : Type 0} (o : Ops S) (v : RunStateView S) (b : Bool) → RunStateInvariant o v → IsTrue b ↔ IsQuiescent o (tree_in o v) → b ≡ is_empty (walk o (tree_in o v).root)
+told_empty o v b kept w = same_truth b (is_empty (walk o (tree_in o v).root)) (IsQuiescent o (tree_in o v)) w (empty_is_quiescent o (tree_in o v) kept.represents.represents.sound.below)

@@ -11,21 +11,21 @@ use Rattle.shim_laws_table.specs.Seen.{lives}
 use Rattle.shim_laws_table.proofs.OneChange.{one_state}
 use Rattle.shim_laws_replay.proofs.Entries.{pieces_are_entries}
 use Rattle.shim_laws_table_events.specs.keeping.Tables.{TableView, stands}
-use Rattle.shim_laws_table_events.specs.keeping.Moves.{AdvancesBy}
-use Rattle.shim_laws_table_events.specs.waking.Awake.{is_listed}
-use Rattle.shim_process_table.specs.Reading.{IsInUse}
-use Rattle.shim_process_table.specs.Stepping.{HasBecome, IsBeforeQuiet, StepsHere}
-use Rattle.shim_process_table.specs.Touching.{WakesAbove}
+use Rattle.shim_laws_table_events.specs.keeping.Moves.{PerformsQuiet}
+use Rattle.shim_laws_table_events.specs.queues.EventQueue.{is_listed}
+use Rattle.shim_process_table.specs.Lookups.{IsInUse}
+use Rattle.shim_process_table.specs.Stepping.{HasBecome, IsBeforeQuiet, StepsAt}
+use Rattle.shim_process_table.specs.Touching.{ReadiesAbove}
 use Rattle.shim_run_state.specs.ProcessLists.{ProcessListsView, Serves}
-use Rattle.shim_run_state.specs.RunStates.{RunStateView, tree_in, IsQuietAt, IsHeld, KeepsTree}
-use Rattle.shim_run_state.specs.Holding.{Releases, StepsIn}
-use Rattle.shim_run_state.specs.Waking.{HasCounted, ListsAwake, ListsQuiet}
+use Rattle.shim_run_state.specs.RunStates.{RunStateView, tree_in, IsQuietAt, IsCheckedOut, RunStateInvariant}
+use Rattle.shim_run_state.specs.CheckingOut.{ChecksIn, StepsIn}
+use Rattle.shim_run_state.specs.Enqueueing.{HasCounted, ListsInEventQueue, ListsInReadyQueue}
 use Rattle.shim_run_state.proofs.Advanced.{Advanced, grantable, steps_on}
-use Rattle.shim_run_state.proofs.OneMoved.{for_all_behind, others_held, isnt_held, same_held, one_moved}
+use Rattle.shim_run_state.proofs.OneMoved.{for_all_behind, others_out, isnt_out, same_out, one_moved}
 use Rattle.shim_run_state.proofs.OwnCounts.{count_is_few, counts_more, as_many_counts}
 
 -- beside the processes and the counts nothing that is told has changed
-pub record SameTold {S : Type 0} (before behind : RunStateView S) : Type 0 where
+pub record SameEffects {S : Type 0} (before behind : RunStateView S) : Type 0 where
   pub output : behind.output ≡ before.output
   pub histories : behind.histories ≡ before.histories
   pub logs : behind.logs ≡ before.logs
@@ -37,15 +37,15 @@ pub record DoesSteps {S : Type 0} (o : Ops S) (before behind : TableView S) (num
   pub last : S
   pub chain : QuietSteps o n l last
   pub becomes : HasBecome number last lives before behind
-  pub advances : AdvancesBy o (o.path l) n before behind
+  pub advances : PerformsQuiet o (o.path l) n before behind
 
-pub does_steps : {S : Type 0} (o : Ops S) (before behind : TableView S) (number n : ℕ) (l : S) → IsQuietAt o before number l → StepsHere o number n before behind → DoesSteps o before behind number n l
+pub does_steps : {S : Type 0} (o : Ops S) (before behind : TableView S) (number n : ℕ) (l : S) → IsQuietAt o before number l → StepsAt o number n before behind → DoesSteps o before behind number n l
 does_steps o before behind number n l q h =
     let e : h.process ≡ l = one_state before.states (stands before) number h.first q.first h.process l lives lives h.has q.has in record {
       last = h.last;
       chain = subst (λ z. QuietSteps o n z h.last) e h.chain;
       becomes = h.becomes;
-      advances = subst (λ z. AdvancesBy o (o.path z) n before behind) e h.advances;
+      advances = subst (λ z. PerformsQuiet o (o.path z) n before behind) e h.advances;
     }
 
 module _ {S : Type 0} (o : Ops S) where
@@ -60,39 +60,39 @@ module _ {S : Type 0} (o : Ops S) where
     pub still_serves : (s : ProcessListsView) → Serves before.table s → Serves behind s
     still_serves s = for_all_behind before.table behind number q.first l d.last lives lives q.has d.becomes s.own
 
-module _ {S : Type 0} (o : Ops S) (law : LocalLaws o) (before behind : RunStateView S) (kept : KeepsTree o before) (number n : ℕ) (l : S) (q : IsQuietAt o before.table number l) (d : DoesSteps o before.table behind.table number n l)
-    (flags : (i : ℕ) → i ≢ number → is_listed behind.process_lists.held i ≡ is_listed before.process_lists.held i) (free : is_listed behind.process_lists.held number ≡ false) where
-  module _ (told : SameTold before behind) (counted : HasCounted number n before.process_lists.own behind.process_lists.own) where
+module _ {S : Type 0} (o : Ops S) (law : LocalLaws o) (before behind : RunStateView S) (kept : RunStateInvariant o before) (number n : ℕ) (l : S) (q : IsQuietAt o before.table number l) (d : DoesSteps o before.table behind.table number n l)
+    (flags : (i : ℕ) → i ≢ number → is_listed behind.process_lists.checked_out i ≡ is_listed before.process_lists.checked_out i) (free : is_listed behind.process_lists.checked_out number ≡ false) where
+  module _ (told : SameEffects before behind) (counted : HasCounted number n before.process_lists.own behind.process_lists.own) where
     path : o.path d.last ≡ o.path l
-    path = ((pieces_are_entries o law).comes (tree_in o before) n l d.last kept.shows.shows.sound (grantable o law before number l kept.shows q) d.chain).1
+    path = ((pieces_are_entries o law).comes (tree_in o before) n l d.last kept.represents.represents.sound (grantable o law before number l kept.represents q) d.chain).1
 
     pub advanced_by : Advanced o law before behind n l d.last
-    advanced_by = steps_on o law before behind number n l d.last kept.shows q d.chain d.advances told.output told.histories told.logs (counts_more o before behind number q.first l d.last lives lives q.has d.becomes path told.past n counted) told.events
+    advanced_by = steps_on o law before behind number n l d.last kept.represents q d.chain d.advances told.output told.histories told.logs (counts_more o before behind number q.first l d.last lives lives q.has d.becomes path told.past n counted) told.events
 
-    pub steps_keep : (forks : ℕ) → steps (tree_in o before) + n ≤ 4000000 → WakesAbove o forks number before.table behind.table → ListsAwake o behind.table forks number before.process_lists.awake behind.process_lists.awake → ListsQuiet o behind.table number before.process_lists.quiet behind.process_lists.quiet → KeepsTree o behind
-    steps_keep forks few wakes awake quiet =
+    pub steps_keep : (forks : ℕ) → steps (tree_in o before) + n ≤ 4000000 → ReadiesAbove o forks number before.table behind.table → ListsInEventQueue o behind.table forks number before.process_lists.event_queue behind.process_lists.event_queue → ListsInReadyQueue o behind.table number before.process_lists.ready_queue behind.process_lists.ready_queue → RunStateInvariant o behind
+    steps_keep forks few newly_ready event_queue ready_queue =
         let a = advanced_by in
         let all = a.counts in
-        one_moved o law before behind kept number q.first l d.last lives lives q.has d.becomes flags free forks a.shows (omega (arith, few, all)) wakes awake quiet (as_many_counts number n before.process_lists.own behind.process_lists.own counted)
+        one_moved o law before behind kept number q.first l d.last lives lives q.has d.becomes flags free forks a.represents (omega (arith, few, all)) newly_ready event_queue ready_queue (as_many_counts number n before.process_lists.own behind.process_lists.own counted)
 
-    -- it was held, and isn't
-    pub releases : IsHeld o before number l → (last : S) → QuietSteps o n l last → Releases o before behind number n l last
-    releases was last chain = record {
+    -- it was checked out, and isn't
+    pub checks_in : IsCheckedOut o before number l → (last : S) → QuietSteps o n l last → ChecksIn o before behind number n l last
+    checks_in was last chain = record {
       was = was;
       chain = chain;
       advances = advanced_by.leads;
-      is_not = isnt_held o law before behind kept number q.first l d.last lives lives q.has d.becomes flags free;
-      others = others_held o law before behind kept number q.first l d.last lives lives q.has d.becomes flags free;
+      is_not = isnt_out o law before behind kept number q.first l d.last lives lives q.has d.becomes flags free;
+      others = others_out o law before behind kept number q.first l d.last lives lives q.has d.becomes flags free;
     }
 
   -- it wasn't, and did up to so many in place
-  module _ (told : SameTold before behind) (counted : HasCounted number n before.process_lists.own behind.process_lists.own) where
-    pub steps_in : (most : ℕ) (quiet : Quiet) → quiet.taken ≡ n → n ≤ most → (n < most → quiet.short ≡ false → IsBeforeQuiet o number behind.table false) → is_listed before.process_lists.held number ≡ false → StepsIn o before behind number most quiet l
-    steps_in most quiet e within fewer was = record {
+  module _ (told : SameEffects before behind) (counted : HasCounted number n before.process_lists.own behind.process_lists.own) where
+    pub steps_in : (most : ℕ) (did : Quiet) → did.taken ≡ n → n ≤ most → (n < most → did.short ≡ false → IsBeforeQuiet o number behind.table false) → is_listed before.process_lists.checked_out number ≡ false → StepsIn o before behind number most did l
+    steps_in most did e within fewer was = record {
       last = d.last;
       chain = subst (λ z. QuietSteps o z l d.last) (sym e) d.chain;
       within = subst (λ z. z ≤ most) (sym e) within;
       fewer = λ less whole. fewer (subst (λ z. z < most) e less) whole d.becomes.first d.last d.becomes.mine;
       advances = subst (λ z. Advances o (o.path l) z (tree_in o before) (tree_in o behind)) (sym e) (advanced_by told counted).leads;
-      same = same_held o law before behind kept number q.first l d.last lives lives q.has d.becomes flags free was;
+      same = same_out o law before behind kept number q.first l d.last lives lives q.has d.becomes flags free was;
     }

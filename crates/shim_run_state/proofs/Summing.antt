@@ -7,7 +7,7 @@ use Rattle.shim_semantics.specs.Trees.{count_of}
 use Rattle.shim_run_log.specs.Counted.{StepCount, counted}
 use Rattle.shim_run_log.specs.Summed.{with_counts}
 use Rattle.shim_run_log.proofs.Summed.{all_summed, with_both, all_grow, stays_few, below_sum}
-use Rattle.shim_run_state.specs.RunStates.{RunStateView, tree_in, KeepsTree, entry, counts_from}
+use Rattle.shim_run_state.specs.RunStates.{RunStateView, tree_in, RunStateInvariant, entry, counts_from}
 use Rattle.shim_run_state.specs.Fields.{count_in}
 use Rattle.shim_run_state.specs.declared.run_state.PastSteps.{PastSteps}
 use Rattle.shim_run_state.proofs.Counts.{same}
@@ -110,7 +110,7 @@ second_few none mid es fs most e h few p =
     subst (λ (z : FinMap path_order ℕ). count_of z p ≤ most) (sym (both_summed none mid (with_counts mid fs) es fs e h refl)) (few p)
 
 -- no process has a count above the number of all events
-pub counts_are_few : {S : Type 0} (o : Ops S) (v : RunStateView S) → KeepsTree o v → (p : Path) → count_of (tree_in o v).counts p ≤ 4000000
+pub counts_are_few : {S : Type 0} (o : Ops S) (v : RunStateView S) → RunStateInvariant o v → (p : Path) → count_of (tree_in o v).counts p ≤ 4000000
 counts_are_few o v kept p =
     let one = below_sum (tree_in o v).counts p in
     let all = kept.few in

@@ -5,11 +5,11 @@ use Rattle.shim_local.specs.Process.{Ops}
 use Rattle.shim_local.specs.Laws.{LocalLaws}
 use Rattle.shim_semantics.specs.Trees.{Event, Meet, Poison, steps}
 use Rattle.shim_laws_replay.specs.Grants.{IsNoQuietStep}
-use Rattle.shim_laws_table_events.specs.keeping.Moves.{MovesBy}
+use Rattle.shim_laws_table_events.specs.keeping.Moves.{Performs}
 use Rattle.shim_process_table.specs.Changing.{IsChanged}
-use Rattle.shim_process_table.specs.Touching.{TouchesEach}
-use Rattle.shim_run_state.specs.RunStates.{RunStateView, tree_in, KeepsTree}
-use Rattle.shim_run_state.specs.Holding.{HappensIn}
+use Rattle.shim_process_table.specs.Touching.{ChangesOnlyEach}
+use Rattle.shim_run_state.specs.RunStates.{RunStateView, tree_in, RunStateInvariant}
+use Rattle.shim_run_state.specs.CheckingOut.{HappensIn}
 use Rattle.shim_run_state.specs.Several.{RequeuesEach}
 use Rattle.shim_run_state.proofs.Events as events
 use Rattle.shim_run_state.proofs.Several.{counts_stay, several_keep, several_happen}
@@ -17,7 +17,7 @@ use Rattle.shim_run_state.proofs.Several.{counts_stay, several_keep, several_hap
 module _ {S : Type 0} (o : Ops S) where
   -- an event happened, the type's invariant stays, and the tree is one step further
   pub record Goes (before behind : RunStateView S) (e : Event) : Type 0 where
-    pub keeps : KeepsTree o behind
+    pub keeps : RunStateInvariant o behind
     pub happens : HappensIn o before behind e
     pub steps_are : steps (tree_in o behind) ≡ steps (tree_in o before) + 1
 
@@ -34,15 +34,15 @@ module _ {S : Type 0} (o : Ops S) where
   poison_is_no_step : (v : RunStateView S) (p : Path) (c : Channel) → IsNoQuietStep o (tree_in o v) (Poison p c)
   poison_is_no_step v p c q e s = absurd cc
 
-  module _ (law : LocalLaws o) (before behind : RunStateView S) (kept : KeepsTree o before) (few : steps (tree_in o before) < 4000000) (numbers : List ℕ) (touches : TouchesEach numbers before.table behind.table)
+  module _ (law : LocalLaws o) (before behind : RunStateView S) (kept : RunStateInvariant o before) (few : steps (tree_in o before) < 4000000) (numbers : List ℕ) (touches : ChangesOnlyEach numbers before.table behind.table)
       (again : RequeuesEach o behind.table numbers before.process_lists behind.process_lists) (one : OneEvent before behind) where
-    goes : (e : Event) → IsChanged o numbers before.table behind.table → IsNoQuietStep o (tree_in o before) e → events.Happened o before behind kept.shows e → Goes before behind e
+    goes : (e : Event) → IsChanged o numbers before.table behind.table → IsNoQuietStep o (tree_in o before) e → events.Happened o before behind kept.represents e → Goes before behind e
     goes e changed none h = record {
       keeps = several_keep o before behind numbers changed law kept e h none touches again few;
-      happens = several_happen o before behind numbers changed law kept e h none again.held;
+      happens = several_happen o before behind numbers changed law kept e h none again.checked_out;
       steps_are = h.counts;
     }
 
-    pub poison_goes : (p : Path) (c : Channel) → MovesBy o (Poison p c) before.table behind.table → IsChanged o numbers before.table behind.table → behind.histories ≡ before.histories → Goes before behind (Poison p c)
+    pub poison_goes : (p : Path) (c : Channel) → Performs o (Poison p c) before.table behind.table → IsChanged o numbers before.table behind.table → behind.histories ≡ before.histories → Goes before behind (Poison p c)
     poison_goes p c moves changed histories =
-        goes (Poison p c) changed (poison_is_no_step before p c) (events.poison o before behind kept.shows p c moves one.output histories one.logs (counts_stay o before behind numbers changed again.own one.past) one.events)
+        goes (Poison p c) changed (poison_is_no_step before p c) (events.poison o before behind kept.represents p c moves one.output histories one.logs (counts_stay o before behind numbers changed again.own one.past) one.events)

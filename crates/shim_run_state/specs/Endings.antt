@@ -4,7 +4,7 @@ use Rattle.shim_local.specs.declared.Outcome.{Outcome}
 use Rattle.shim_local.specs.declared.Outcome.TheVariants.{Done, Blocked}
 use Rattle.shim_semantics.specs.Nodes.{Node}
 use Rattle.shim_semantics.specs.Endings.{outcome_of_label}
-use Rattle.shim_laws_table.specs.ShownTree.{node_of}
+use Rattle.shim_laws_table.specs.RepresentedTree.{node_of}
 use Rattle.shim_records.specs.declared.record.Status.{Status}
 use Rattle.shim_records.specs.declared.record.Status.TheVariants as code
 use Rattle.shim_laws_table_events.specs.keeping.Tables.{TableView, stands}
@@ -13,7 +13,7 @@ use Rattle.shim_laws_table_events.specs.keeping.Tables.{TableView, stands}
 pub record IsRoot {S : Type 0} (v : TableView S) (levels : ℕ) (root : Node S) : Type 0 where
   pub is : node_of v.states (stands v) levels 0 ≡ Some root
 
--- what came of a root whose record stands so, where nothing can happen
+-- the outcome of a tree in which nothing can happen, whose root's record has this status
 abbrev pub outcome_by : Status → Outcome
 outcome_by code.Free = Blocked
 outcome_by code.Live = Blocked

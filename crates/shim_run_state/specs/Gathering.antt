@@ -5,7 +5,7 @@ use Rattle.shim_base.specs.Paths.{NamedChannel, path_order}
 use Rattle.shim_local.specs.Process.{Ops}
 use Rattle.shim_semantics.specs.Nodes.{Node}
 use Rattle.shim_semantics.specs.Endings.{waiting}
-use Rattle.shim_laws_table.specs.ShownTree.{node_of}
+use Rattle.shim_laws_table.specs.RepresentedTree.{node_of}
 use Rattle.shim_laws_table_events.specs.keeping.Tables.{TableView, stands}
 use Rattle.shim_run_log.specs.Waits.{with_waits}
 

@@ -2,9 +2,9 @@
 pub mod ProcessLists
 pub mod RunStates
 pub mod Fields
-pub mod Holding
-pub mod Reading
-pub mod Waking
+pub mod CheckingOut
+pub mod Quiescence
+pub mod Enqueueing
 pub mod Gathering
 pub mod Receiving
 pub mod Settling

@@ -1,7 +1,7 @@
 -- Room for more numbers, and blocks of numbers that come into use.
 use Rattle.std.specs.Prelude.{◌≡◌, ◌≤◌, ◌+◌, ◌++◌, ℕ, true, false, List, length, replicate}
 use Rattle.shim_records.specs.Blocks.{with_block}
-use Rattle.shim_records.specs.Waiting.{AreRaised}
+use Rattle.shim_records.specs.Waiting.{AreGrown}
 use Rattle.shim_process_table.specs.declared.forking.ForkOutcome.{ForkOutcome}
 use Rattle.shim_process_table.specs.declared.forking.ForkOutcome.TheVariants as outcome
 use Rattle.shim_run_state.specs.ProcessLists.{ProcessListsView}
@@ -14,9 +14,9 @@ IsLonger {A} x old new = (more : ℕ) × (new ≡ old ++ replicate more x)
 -- there is room for more numbers, and nothing else has changed
 pub record IsRoomier (before behind : ProcessListsView) : Type 0 where
   pub own : IsLonger 0 before.own behind.own
-  pub awake : AreRaised before.awake behind.awake
-  pub quiet : AreRaised before.quiet behind.quiet
-  pub held : IsLonger false before.held behind.held
+  pub event_queue : AreGrown before.event_queue behind.event_queue
+  pub ready_queue : AreGrown before.ready_queue behind.ready_queue
+  pub checked_out : IsLonger false before.checked_out behind.checked_out
 
 -- the lists of a run state have more room, and nothing else of it has changed
 pub record HasMoreRoom {S : Type 0} (before behind : RunStateView S) : Type 0 where
@@ -36,12 +36,12 @@ HasRoomFor end s = end ≤ length s.own
 -- so many children have come, from a number on: their counts are 0, and they are listed
 pub record HasNewChildren (first count : ℕ) (before behind : ProcessListsView) : Type 0 where
   pub own : behind.own ≡ with_block first (replicate count 0) before.own
-  pub awake : behind.awake ≡ with_block first (replicate count true) before.awake
-  pub quiet : behind.quiet ≡ with_block first (replicate count true) before.quiet
-  pub held : behind.held ≡ before.held
+  pub event_queue : behind.event_queue ≡ with_block first (replicate count true) before.event_queue
+  pub ready_queue : behind.ready_queue ≡ with_block first (replicate count true) before.ready_queue
+  pub checked_out : behind.checked_out ≡ before.checked_out
   pub within : first + count ≤ length before.own
-  pub listed : first + count ≤ length before.awake
-  pub listed_quiet : first + count ≤ length before.quiet
+  pub listed : first + count ≤ length before.event_queue
+  pub listed_quiet : first + count ≤ length before.ready_queue
 
 -- the number of the first child of a fork of which this came, and how many there are
 abbrev pub block_of : ForkOutcome → ℕ × ℕ

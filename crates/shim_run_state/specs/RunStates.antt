@@ -7,10 +7,10 @@ use Rattle.shim_local.specs.declared.LogWhat.{LogWhat}
 use Rattle.shim_semantics.specs.Nodes.{Node, Live}
 use Rattle.shim_semantics.specs.Trees.{Tree, Met, steps}
 use Rattle.shim_laws_table.specs.Seen.{lives}
-use Rattle.shim_laws_table.specs.ShownTree.{shown_tree}
+use Rattle.shim_laws_table.specs.RepresentedTree.{represented_tree}
 use Rattle.shim_laws_table.specs.Agrees.{RecordView, used}
-use Rattle.shim_laws_table_events.specs.keeping.Tables.{TableView, HasProcessState, Keeps, stands}
-use Rattle.shim_laws_table_events.specs.waking.Awake.{is_listed, AreListed}
+use Rattle.shim_laws_table_events.specs.keeping.Tables.{TableView, HasProcessState, TableInvariant, stands}
+use Rattle.shim_laws_table_events.specs.queues.EventQueue.{is_listed, AreListed}
 use Rattle.shim_run_log.specs.Counted.{StepCount, counted}
 use Rattle.shim_run_state.specs.ProcessLists.{ProcessListsView, Serves}
 
@@ -55,7 +55,7 @@ or_begun l (Some n) = n
 
 -- the tree that it is
 abbrev pub tree_in : {S : Type 0} → Ops S → RunStateView S → Tree S
-tree_in o v = record { root = or_begun v.begun (shown_tree o v.table.states (stands v.table)); output = v.output; histories = v.histories; logs = v.logs; counts = counted (counts_from (path_at o v.table) v.process_lists.own ++ v.past); events = v.events }
+tree_in o v = record { root = or_begun v.begun (represented_tree o v.table.states (stands v.table)); output = v.output; histories = v.histories; logs = v.logs; counts = counted (counts_from (path_at o v.table) v.process_lists.own ++ v.past); events = v.events }
 
 -- the process with this number lives, and stands before a quiet step
 pub record IsQuietAt {S : Type 0} (o : Ops S) (v : TableView S) (i : ℕ) (l : S) : Type 0 where
@@ -63,24 +63,24 @@ pub record IsQuietAt {S : Type 0} (o : Ops S) (v : TableView S) (i : ℕ) (l : S
   pub has : HasProcessState v i first l lives
   pub stands : o.stop l ≡ AtQuiet
 
--- it is held
-pub record IsHeld {S : Type 0} (o : Ops S) (v : RunStateView S) (i : ℕ) (l : S) : Type 0 where
-  pub quiet : IsQuietAt o v.table i l
-  pub flag : is_listed v.process_lists.held i ≡ true
+-- that process is checked out
+pub record IsCheckedOut {S : Type 0} (o : Ops S) (v : RunStateView S) (i : ℕ) (l : S) : Type 0 where
+  pub at_quiet : IsQuietAt o v.table i l
+  pub flag : is_listed v.process_lists.checked_out i ≡ true
 
--- whoever stands before a quiet step is listed or held
+-- whoever stands before a quiet step is listed or checked out
 abbrev pub QuietAreListed : {S : Type 0} → Ops S → TableView S → List Bool → List Bool → Type 0
-QuietAreListed {S} o v quiet held = (i : ℕ) (l : S) → IsQuietAt o v i l → (is_listed quiet i ≡ true) ⊎ (is_listed held i ≡ true)
+QuietAreListed {S} o v ready_queue checked_out = (i : ℕ) (l : S) → IsQuietAt o v i l → (is_listed ready_queue i ≡ true) ⊎ (is_listed checked_out i ≡ true)
 
--- The records show the tree, and what may happen next is listed: whatever event is enabled is looked for at a number that is listed, and whoever stands before a quiet step is listed or held. Who is held stands before a quiet step.
-pub record KeepsTree {S : Type 0} (o : Ops S) (v : RunStateView S) : Type 0 where
-  pub shows : Keeps o [] v.table (tree_in o v).root
-  pub awake : AreListed o v.table (tree_in o v) v.process_lists.awake
-  pub quiet : QuietAreListed o v.table v.process_lists.quiet v.process_lists.held
-  pub held : (i : ℕ) → is_listed v.process_lists.held i ≡ true → (l : S) × IsQuietAt o v.table i l
+-- The records show the tree, and what may happen next is listed: whatever event is enabled is looked for at a number that is listed, and whoever stands before a quiet step is listed or checked out. Who is checked out stands before a quiet step.
+pub record RunStateInvariant {S : Type 0} (o : Ops S) (v : RunStateView S) : Type 0 where
+  pub represents : TableInvariant o [] v.table (tree_in o v).root
+  pub event_queue : AreListed o v.table (tree_in o v) v.process_lists.event_queue
+  pub ready_queue : QuietAreListed o v.table v.process_lists.ready_queue v.process_lists.checked_out
+  pub checked_out : (i : ℕ) → is_listed v.process_lists.checked_out i ≡ true → (l : S) × IsQuietAt o v.table i l
   pub serves : Serves v.table v.process_lists
   pub few : steps (tree_in o v) ≤ 4000000
 
 -- what its type keeps, with how many events the code has counted
-abbrev pub KeepsCounted : {S : Type 0} → Ops S → RunStateView S → ℕ → Type 0
-KeepsCounted o v taken = KeepsTree o v × (taken ≡ steps (tree_in o v))
+abbrev pub CountedInvariant : {S : Type 0} → Ops S → RunStateView S → ℕ → Type 0
+CountedInvariant o v taken = RunStateInvariant o v × (taken ≡ steps (tree_in o v))

@@ -6,19 +6,19 @@ ghost use Rattle.shim_semantics.specs.Trees.{steps, with_logs};
 ghost use Rattle.shim_run_log.specs.Logged.{logged};
 ghost use Rattle.shim_run_log.specs.Events.{event_of};
 ghost use Rattle.shim_process_table.specs.Stepping.{LivesAt};
-ghost use Rattle.shim_process_table.specs.Acting.{told_of};
+ghost use Rattle.shim_process_table.specs.Acting.{throw_effects};
 ghost use Rattle.shim_run_state.specs.RunStates.{tree_in};
-ghost use Rattle.shim_run_state.specs.Holding.{HappensIn};
+ghost use Rattle.shim_run_state.specs.CheckingOut.{HappensIn};
 ghost use Rattle.shim_run_state.specs.Settling.{StaysAs};
 
 use crate::run_state::RunState;
 use shim_base::{NoMemory, Path, Trap};
 use shim_local::{Local, Log, LogWhat};
-use shim_process_table::{Arrival, Listing, Thrown};
+use shim_process_table::{Queue, Requeue, Thrown};
 use shim_run_log::Event;
 
 // A byte that was put, if there is one, comes behind the others.
-fn tell_byte(output: &mut Vec<u8>, byte: Option<u8>)
+fn append_byte(output: &mut Vec<u8>, byte: Option<u8>)
     requires { vec_len output.old < vec_capacity output.old }
     ensures { output.new.items ≡ output.old.items ++ (putting byte).bytes }
 {
@@ -29,9 +29,9 @@ fn tell_byte(output: &mut Vec<u8>, byte: Option<u8>)
 }
 
 /// That the process of this path caught what it threw, if it did, is logged behind the rest.
-pub(crate) fn tell_catch(logs: &mut Vec<Log>, path: Path, thrown: Thrown)
+pub(crate) fn log_catch(logs: &mut Vec<Log>, path: Path, thrown: Thrown)
     requires { vec_len logs.old < vec_capacity logs.old }
-    ensures { logged logs.new.items ≡ with_logs (logged logs.old.items) path (told_of thrown).logs }
+    ensures { logged logs.new.items ≡ with_logs (logged logs.old.items) path (throw_effects thrown).logs }
 {
     match thrown {
         Thrown::Died(_) | Thrown::Trapped => {}
@@ -53,9 +53,9 @@ impl<L: Local> RunState<L> {
     {
         let event = Event::Own(self.table.path(number).copy()?);
         self.output.reserve(1)?;
-        let (byte, arrival) = self.table.put_here(number);
-        tell_byte(&mut self.output, byte);
-        self.process_lists.acted(&self.table, number, 1, arrival);
+        let (byte, to_requeue) = self.table.put(number);
+        append_byte(&mut self.output, byte);
+        self.process_lists.acted(&self.table, number, 1, to_requeue);
         self.taken += 1;
         Ok(event)
     }
@@ -70,9 +70,9 @@ impl<L: Local> RunState<L> {
         let path = self.table.path(number).copy()?;
         let event = Event::Own(path.copy()?);
         self.logs.reserve(1)?;
-        let (thrown, arrival) = self.table.throw_here(number, label);
-        tell_catch(&mut self.logs, path, thrown);
-        self.process_lists.acted(&self.table, number, 1, arrival);
+        let (thrown, to_requeue) = self.table.throw(number, label);
+        log_catch(&mut self.logs, path, thrown);
+        self.process_lists.acted(&self.table, number, 1, to_requeue);
         self.taken += 1;
         Ok(event)
     }
@@ -87,13 +87,13 @@ impl<L: Local> RunState<L> {
         let path = self.table.path(number).copy()?;
         let event = Event::Own(path.copy()?);
         self.logs.reserve(1)?;
-        self.table.trap_here(number);
+        self.table.trap(number);
         self.logs.push_reserved(Log {
             path,
             what: LogWhat::Trap(kind, line),
         });
-        let gone = Arrival {
-            listing: self.table.listing(number),
+        let gone = Requeue {
+            queue: self.table.queue(number),
             forks: u32::MAX as u64 + 1,
         };
         self.process_lists.acted(&self.table, number, 1, gone);
@@ -109,9 +109,9 @@ impl<L: Local> RunState<L> {
         ensures err { OnErr result (StaysAs L.ops self.old self.new) }
     {
         let event = Event::End(self.table.path(number).copy()?);
-        let forks = self.table.finish_here(number);
-        let gone = Arrival {
-            listing: Listing::Nowhere,
+        let forks = self.table.end_process(number);
+        let gone = Requeue {
+            queue: Queue::Neither,
             // the next fork further up may read these otherwise
             forks: forks as u64 + 1,
         };

@@ -3,30 +3,30 @@ ghost use Rattle.std.specs.Prelude.{◌≡◌, ◌<◌, ◌+◌, ℕ, map, vec_l
 ghost use Rattle.shim_semantics.specs.Trees.{steps, with_logs};
 ghost use Rattle.shim_run_log.specs.Logged.{logged};
 ghost use Rattle.shim_run_log.specs.Events.{event_of};
-ghost use Rattle.shim_process_table.specs.Closing.{CanClose, told_by};
-ghost use Rattle.shim_process_table.specs.Reading.{IsInUse, IsForAll};
+ghost use Rattle.shim_process_table.specs.Closing.{CanClose, close_effects};
+ghost use Rattle.shim_process_table.specs.Lookups.{IsInUse, IsForAll};
 ghost use Rattle.shim_run_state.specs.Fields.{count_in};
 ghost use Rattle.shim_run_state.specs.RunStates.{tree_in, path_at, counts_from};
-ghost use Rattle.shim_run_state.specs.Holding.{HappensIn};
+ghost use Rattle.shim_run_state.specs.CheckingOut.{HappensIn};
 ghost use Rattle.shim_run_state.specs.PastCounts.{only_block};
 ghost use Rattle.shim_run_state.specs.Settling.{StaysAs};
 
-use crate::acting::tell_catch;
+use crate::acting::log_catch;
 use crate::run_state::{PastSteps, RunState};
 use shim_base::{NoMemory, Path};
 use shim_local::{Local, Log};
-use shim_process_table::{Arrival, CloseOutcome, ProcessTable};
+use shim_process_table::{CloseOutcome, ProcessTable, Requeue};
 use shim_run_log::Event;
 use std::alloc::Global;
 
 // That the process of this path caught what a child had died of, if it did, is logged behind the rest.
-fn tell_close(logs: &mut Vec<Log>, path: Path, outcome: CloseOutcome)
+fn log_close(logs: &mut Vec<Log>, path: Path, outcome: CloseOutcome)
     requires { vec_len logs.old < vec_capacity logs.old }
-    ensures { logged logs.new.items ≡ with_logs (logged logs.old.items) path (told_by outcome).logs }
+    ensures { logged logs.new.items ≡ with_logs (logged logs.old.items) path (close_effects outcome).logs }
 {
     match outcome {
         CloseOutcome::GoesOn => {}
-        CloseOutcome::Threw(thrown) => tell_catch(logs, path, thrown),
+        CloseOutcome::Threw(thrown) => log_catch(logs, path, thrown),
     }
 }
 
@@ -69,14 +69,14 @@ impl<L: Local> RunState<L> {
         let mut gathered = past_of(alloc, &self.table, self.process_lists.own(), first, count)?;
         self.logs.reserve(1)?;
         self.past.append(&mut gathered)?;
-        let (outcome, forks) = self.table.close_here(number);
-        tell_close(&mut self.logs, path, outcome);
-        let arrival = Arrival {
-            listing: self.table.listing(number),
+        let (outcome, forks) = self.table.close(number);
+        log_close(&mut self.logs, path, outcome);
+        let to_requeue = Requeue {
+            queue: self.table.queue(number),
             // the next fork further up may read these otherwise
             forks: forks as u64 + 1,
         };
-        self.process_lists.requeue(&self.table, number, arrival);
+        self.process_lists.requeue(&self.table, number, to_requeue);
         self.events += 1;
         self.taken += 1;
         Ok(event)

@@ -9,10 +9,10 @@ ghost use Rattle.shim_semantics.specs.Trees.{IsQuiescent, steps, count_of};
 ghost use Rattle.shim_semantics.specs.Endings as endings;
 ghost use Rattle.shim_run_log.specs.Counted.{counted};
 ghost use Rattle.shim_run_log.specs.Summed.{with_counts};
-ghost use Rattle.shim_process_table.specs.Reading.{IsInUse};
+ghost use Rattle.shim_process_table.specs.Lookups.{IsInUse};
 ghost use Rattle.shim_run_state.specs.RunStates.{tree_in, path_at, entry, counts_from};
 ghost use Rattle.shim_run_state.specs.Fields.{count_in};
-ghost use Rattle.shim_run_state.specs.Holding.{NoneHeld};
+ghost use Rattle.shim_run_state.specs.CheckingOut.{NoneCheckedOut};
 ghost use Rattle.shim_run_state.specs.Endings.{IsRoot, outcome_by};
 
 use crate::run_state::{PastSteps, RunState};
@@ -164,9 +164,9 @@ fn own_steps<L: Local>(
 
 impl<L: Local> RunState<L> {
     /// What is read off a tree in which nothing can happen, or in which the budget's steps were taken, where
-    /// nobody is held.
+    /// nobody is checked out.
     pub fn ended(&self, budget: u64) -> Result<Ended, NoMemory>
-        requires none { NoneHeld L.ops self.now }
+        requires none { NoneCheckedOut L.ops self.now }
         requires spent { ((steps (tree_in L.ops self.now) ≤ budget) × IsQuiescent L.ops (tree_in L.ops self.now)) ⊎ (steps (tree_in L.ops self.now) ≡ budget) }
         ensures ended { IfOk result (λ ended. ended ≡ endings.ended L.ops (tree_in L.ops self.now)) }
         ensures spent { IfOk result (λ ended. (ended.outcome ≡ Spent) ↔ (IsQuiescent L.ops (tree_in L.ops self.now) → ⊥)) }

@@ -1,4 +1,4 @@
-// A fork, and the lists that its children are to be in.
+// A fork, and the queues that its children are put in.
 ghost use Rattle.std.specs.Prelude.{◌≡◌, ◌≤◌, ◌<◌, ◌+◌, ℕ, true, false, length, replicate, vec_len, OnOk, OnErr, IfOk};
 ghost use Rattle.shim_local.specs.Process.{AtFork};
 ghost use Rattle.shim_semantics.specs.Trees.{steps, Own};
@@ -9,19 +9,19 @@ ghost use Rattle.shim_run_log.specs.Events.{event_of};
 ghost use Rattle.shim_process_table.specs.Stepping.{LivesAt};
 ghost use Rattle.shim_process_table.specs.Forking.{ForkComesTo, forked_count};
 ghost use Rattle.shim_run_state.specs.RunStates.{tree_in};
-ghost use Rattle.shim_run_state.specs.Holding.{HappensIn};
+ghost use Rattle.shim_run_state.specs.CheckingOut.{HappensIn};
 ghost use Rattle.shim_run_state.specs.Room.{IsLonger, HasMoreRoom, HasRoomFor, block_of};
 ghost use Rattle.shim_run_state.specs.Settling.{StaysAs};
 
 use crate::run_state::RunState;
 use shim_base::NoMemory;
 use shim_local::Local;
-use shim_process_table::{Arrival, Fork, ForkOutcome};
+use shim_process_table::{Fork, ForkOutcome, Requeue};
 use shim_records::Worklist;
 use shim_run_log::Event;
 
 // Counts of 0 for all numbers below this one that have none. Want of memory changes nothing.
-pub(crate) fn raise_counts(own: &mut Vec<u64>, end: usize) -> Result<(), NoMemory>
+pub(crate) fn grow_counts(own: &mut Vec<u64>, end: usize) -> Result<(), NoMemory>
     ensures longer { IsLonger 0 own.old.items own.new.items }
     ensures ok { OnOk result (end ≤ length own.new.items) }
     ensures grows { length own.old.items ≤ end → length own.new.items ≤ end }
@@ -34,7 +34,7 @@ pub(crate) fn raise_counts(own: &mut Vec<u64>, end: usize) -> Result<(), NoMemor
 }
 
 // Flags that aren't set for all numbers below this one that have none. Want of memory changes nothing.
-pub(crate) fn raise_flags(flags: &mut Vec<bool>, end: usize) -> Result<(), NoMemory>
+pub(crate) fn grow_flags(flags: &mut Vec<bool>, end: usize) -> Result<(), NoMemory>
     ensures longer { IsLonger false flags.old.items flags.new.items }
     ensures ok { OnOk result (end ≤ length flags.new.items) }
 {
@@ -115,12 +115,12 @@ impl<L: Local> RunState<L> {
         let (outcome, forks) = self.table.put_fork(alloc, fork)?;
         let (first, count) = children_of(outcome);
         self.process_lists.add_children(first, count);
-        let arrival = Arrival {
-            listing: self.table.listing(number),
+        let to_requeue = Requeue {
+            queue: self.table.queue(number),
             // the next fork further up may read these otherwise
             forks: forks as u64 + 1,
         };
-        self.process_lists.acted(&self.table, number, 1, arrival);
+        self.process_lists.acted(&self.table, number, 1, to_requeue);
         self.taken += 1;
         Ok(())
     }

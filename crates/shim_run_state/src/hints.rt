@@ -12,10 +12,10 @@ impl<L: Local> RunState<L> {
         }
     }
 
-    /// How many processes are listed as standing before a quiet step: each one that does and isn't held, and
+    /// How many processes are listed as standing before a quiet step: each one that does and isn't checked out, and
     /// perhaps some that have come to another stop since.
     pub fn listed_quiet(&self) -> usize {
-        self.process_lists.quiet().len()
+        self.process_lists.ready_queue().len()
     }
 
     /// How many records it has: those of the root and of all children of forks that haven't closed, and free

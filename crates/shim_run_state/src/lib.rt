@@ -5,19 +5,19 @@
 #![tactic(auto)]
 
 mod acting;
+mod checking_out;
 mod closing;
 mod ended;
+mod enqueueing;
+mod enqueueing_all;
 mod forking;
 mod hints;
-mod holding;
 mod meeting;
 mod poisoning;
 mod process_lists;
-mod reading;
+mod quiescence;
 mod run_state;
 mod settling;
 mod waits;
-mod waking;
-mod waking_all;
 
 pub use run_state::RunState;

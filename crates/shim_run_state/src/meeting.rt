@@ -1,4 +1,4 @@
-// A meeting, and what is told of it.
+// A meeting, and the value that is recorded of it.
 ghost use Rattle.std.specs.Prelude.{◌≡◌, ◌<◌, IfOk, OnOk, OnErr};
 ghost use Rattle.std.specs.Option.{option_copied};
 ghost use Rattle.shim_semantics.specs.Nodes.{next_channel};
@@ -6,11 +6,11 @@ ghost use Rattle.shim_semantics.specs.Trees.{steps, Meet};
 ghost use Rattle.shim_laws_table_events.specs.meetings.Sharers.{ListsReceivers};
 ghost use Rattle.shim_laws_table_events.specs.meetings.Meetings.{IsEnabled, Declares, ReceivesOne, ReceiveAll};
 ghost use Rattle.shim_run_log.specs.Events.{event_of};
-ghost use Rattle.shim_process_table.specs.Due.{MeetsAlone, AllThere};
+ghost use Rattle.shim_process_table.specs.Due.{MeetsAlone, IsReadyToMeet};
 ghost use Rattle.shim_run_state.specs.RunStates.{tree_in};
 ghost use Rattle.shim_run_state.specs.ProcessLists.{Serves};
 ghost use Rattle.shim_run_state.specs.Receiving.{RecordsValue, PassesOn};
-ghost use Rattle.shim_run_state.specs.Holding.{HappensIn};
+ghost use Rattle.shim_run_state.specs.CheckingOut.{HappensIn};
 ghost use Rattle.shim_run_state.specs.Settling.{StaysAs};
 
 use crate::process_lists::ProcessLists;
@@ -36,7 +36,7 @@ fn awaited<L: Local>(process: &L) -> Option<&Chan>
 }
 
 // The value comes behind the others of the channel, whose home has this number. Its name is looked for at its
-// first meeting alone, since no other one tells it, and among all that share the channel, which are then listed.
+// first meeting alone, since no other one brings it, and among all that share the channel, which are then listed.
 fn record<L: Local>(
     table: &ProcessTable<L>,
     histories: &mut Histories,
@@ -56,12 +56,12 @@ fn record<L: Local>(
         return Ok(());
     }
     table.sharers(number, c, sharers)?;
-    let name = table.name_here(number, c, sharers);
+    let name = table.meeting_name(number, c, sharers);
     histories.record(c, name, value)
 }
 
 // Each of these that lives and stands at the channel receives the value, one after the other, and is put in the
-// list in which it then belongs; of the forks above it those are looked at again at which more may be due.
+// queue in which it then belongs; of the forks above it those are looked at again at which more may be due.
 fn receive_each<L: Local>(
     table: &mut ProcessTable<L>,
     c: &Chan,
@@ -78,7 +78,7 @@ fn receive_each<L: Local>(
     }
 }
 
-// So it is with one of them.
+// The process with this number receives so, if it lives and stands at the channel.
 fn receive_one<L: Local>(
     table: &mut ProcessTable<L>,
     c: &Chan,
@@ -92,7 +92,7 @@ fn receive_one<L: Local>(
 {
     match table.receive(number, c, value) {
         None => {}
-        Some(arrival) => process_lists.requeue(table, number, arrival),
+        Some(to_requeue) => process_lists.requeue(table, number, to_requeue),
     }
 }
 
@@ -116,7 +116,7 @@ impl<L: Local> RunState<L> {
     // The meeting of the channel of this pair of the process's fork, which declared it.
     pub(crate) fn meet(&mut self, number: u32, pair: usize) -> Result<Event, NoMemory>
         requires few { steps (tree_in L.ops self.old) < 4000000 }
-        requires there { AllThere L.ops self.old.table number pair }
+        requires there { IsReadyToMeet L.ops self.old.table number pair }
         ensures ok { IfOk result (λ e. HappensIn L.ops self.old self.new (event_of e)) }
         ensures err { OnErr result (StaysAs L.ops self.old self.new) }
     {

@@ -4,7 +4,7 @@ ghost use Rattle.shim_semantics.specs.Trees.{steps};
 ghost use Rattle.shim_run_log.specs.Events.{event_of};
 ghost use Rattle.shim_process_table.specs.Due.{IsDoomed};
 ghost use Rattle.shim_run_state.specs.RunStates.{tree_in};
-ghost use Rattle.shim_run_state.specs.Holding.{HappensIn};
+ghost use Rattle.shim_run_state.specs.CheckingOut.{HappensIn};
 ghost use Rattle.shim_run_state.specs.Settling.{StaysAs};
 
 use crate::run_state::RunState;
@@ -31,7 +31,7 @@ impl<L: Local> RunState<L> {
         // the innermost label in force at the fork
         let label = self.table.process(number).handlers().saturating_sub(1);
         self.table.sharers(child, &chan, &mut self.sharers)?;
-        self.table.poison_here(child, &chan, label, &self.sharers);
+        self.table.poison(child, &chan, label, &self.sharers);
         let sharers = self.sharers.numbers();
         self.process_lists.requeue_each(&self.table, sharers);
         self.events += 1;

@@ -4,8 +4,8 @@ ghost use Rattle.std.specs.Option.{option_copied};
 ghost use Rattle.shim_semantics.specs.Trees as trees;
 ghost use Rattle.shim_semantics.specs.Endings as endings;
 ghost use Rattle.shim_semantics.specs.Sound.{SharesItsOwn};
-ghost use Rattle.shim_run_state.specs.RunStates.{tree_in, KeepsTree};
-ghost use Rattle.shim_run_state.specs.Holding.{NoneHeld};
+ghost use Rattle.shim_run_state.specs.RunStates.{tree_in, RunStateInvariant};
+ghost use Rattle.shim_run_state.specs.CheckingOut.{NoneCheckedOut};
 
 use crate::process_lists::ProcessLists;
 use shim_base::{Chan, NoMemory, Path};
@@ -24,8 +24,8 @@ pub(crate) struct PastSteps {
 }
 
 /// A tree of processes, as `shim_tree::Tree` is one, kept as states and records. What can happen next is
-/// listed by the numbers of processes, and a process that stands before a quiet step can be held: it then
-/// does nothing until it is released. Contracts see the tree (`tree_in`) and who is held.
+/// listed by the numbers of processes, and a process that stands before a quiet step can be checked out: it then
+/// does nothing until it is checked in. Contracts see the tree (`tree_in`) and who is checked out.
 #[derive(Drop)]
 pub struct RunState<L: Local> {
     pub(crate) begun: Snapshot<L>,
@@ -44,7 +44,7 @@ pub struct RunState<L: Local> {
 
 impl<L: Local> Model for RunState<L> {
     ghost use Rattle.shim_run_log.specs.Logged.{logged};
-    ghost use Rattle.shim_run_state.specs.RunStates.{RunStateView, KeepsCounted};
+    ghost use Rattle.shim_run_state.specs.RunStates.{RunStateView, CountedInvariant};
     ghost use Rattle.shim_run_state.specs.Fields.{view_of};
     ghost use Rattle.shim_semantics.proofs.Codes.{histories_code, logs_code};
     ghost use Rattle.std.specs.Coded.{codes};
@@ -55,7 +55,7 @@ impl<L: Local> Model for RunState<L> {
 
     ghost view = { λ t. view_of t.begun.value t.table t.output.items t.histories (logged t.logs.items) t.process_lists t.past.items t.events };
 
-    ghost invariant = { λ t. KeepsCounted L.ops (view_of t.begun.value t.table t.output.items t.histories (logged t.logs.items) t.process_lists t.past.items t.events) t.taken };
+    ghost invariant = { λ t. CountedInvariant L.ops (view_of t.begun.value t.table t.output.items t.histories (logged t.logs.items) t.process_lists t.past.items t.events) t.taken };
 }
 
 impl<L: Local> RunState<L> {
@@ -65,7 +65,7 @@ impl<L: Local> RunState<L> {
         requires path { L.ops.path root ≡ [] }
         requires own { SharesItsOwn L.ops root }
         ensures tree { IfOk result (λ tree. tree_in L.ops tree ≡ trees.start root) }
-        ensures held { IfOk result (λ tree. NoneHeld L.ops tree) }
+        ensures checked_out { IfOk result (λ tree. NoneCheckedOut L.ops tree) }
     {
         let begun = Snapshot::of(&root);
         let table = ProcessTable::start(alloc, root)?;
@@ -87,7 +87,7 @@ impl<L: Local> RunState<L> {
     /// How many events led to the tree. Its clauses tell, too, what its type keeps.
     pub fn steps(&self) -> u64
         ensures steps { result ≡ trees.steps (tree_in L.ops self.now) }
-        ensures keeps { KeepsTree L.ops self.now }
+        ensures keeps { RunStateInvariant L.ops self.now }
     {
         self.taken
     }

@@ -5,8 +5,8 @@ ghost use Rattle.shim_run_log.specs.Events.{event_of};
 ghost use Rattle.shim_process_table.specs.Due.{DueIs};
 ghost use Rattle.shim_process_table.specs.declared.due.Due.TheVariants.{Nothing};
 ghost use Rattle.shim_run_state.specs.RunStates.{tree_in};
-ghost use Rattle.shim_run_state.specs.Holding.{HappensIn, RestsIn};
-ghost use Rattle.shim_run_state.specs.Settling.{StillAwake, IsNextDue, StaysAs};
+ghost use Rattle.shim_run_state.specs.CheckingOut.{HappensIn, RestsIn};
+ghost use Rattle.shim_run_state.specs.Settling.{KeepsEventsListed, IsNextDue, StaysAs};
 
 use crate::run_state::RunState;
 use shim_base::NoMemory;
@@ -27,15 +27,15 @@ pub(crate) fn is_something(due: Due) -> bool
 // those before it are listed no more.
 pub(crate) fn first_due<L: Local>(
     table: &ProcessTable<L>,
-    awake: &mut Worklist,
+    event_queue: &mut Worklist,
 ) -> Option<(u32, Due)>
-    ensures still { StillAwake L.ops table.now awake.old awake.new }
-    ensures due { IsNextDue L.ops table.now awake.new result }
+    ensures still { KeepsEventsListed L.ops table.now event_queue.old event_queue.new }
+    ensures due { IsNextDue L.ops table.now event_queue.new result }
 {
-    while let Some(number) = awake.take() {
+    while let Some(number) = event_queue.take() {
         let due = table.due(number);
         if is_something(due) {
-            awake.add(number);
+            event_queue.add(number);
             return Some((number, due));
         }
     }
@@ -44,7 +44,8 @@ pub(crate) fn first_due<L: Local>(
 
 impl<L: Local> RunState<L> {
     /// Does an enabled event that is no quiet step, and answers which; `None` exactly where there is none.
-    /// Which of several it does is free. Who is held stays so. Want of memory leaves the tree as it was.
+    /// Which of several it does is free. Who is checked out stays so. Want of memory leaves the tree as it was.
+    /// The tree has to have fewer than 4,000,000 steps.
     pub fn settle_one(&mut self) -> Result<Option<Event>, NoMemory>
         requires few { steps (tree_in L.ops self.old) < 4000000 }
         ensures ok { IfOk result (λ event. MatchOption event (RestsIn L.ops self.old self.new) (λ e. HappensIn L.ops self.old self.new (event_of e))) }

@@ -1,4 +1,4 @@
--- Poison: where a death in or below another child has spoiled a channel for which a child waits, whoever lives there and shares the channel dies.
+-- Poison: if a child is ready on a channel and a death at or below another child dooms it there, each live process at and below the child that shares the channel dies.
 use Rattle.std.specs.Prelude.{ℕ, zero, suc, ◌-◌, Bool, false, Option, Some, None, List, [], ◌∷◌, ◌&&◌, ◌||◌, cond, ltb}
 use Rattle.shim_base.specs.Paths.{Channel}
 use Rattle.shim_local.specs.Process.{Ops}

@@ -16,27 +16,27 @@ use Rattle.shim_semantics.proofs.Leading.{route_rest}
 use Rattle.shim_semantics.proofs.Replaced.{sound_at}
 use Rattle.shim_semantics.proofs.SoundEvents.{here_keeps}
 use Rattle.shim_laws_table.specs.Seen.{ProcessStatus, forks, process_status, is_leaf, place, how_many_nodes}
-use Rattle.shim_laws_table.specs.Agrees.{RecordView, Has, Shows}
+use Rattle.shim_laws_table.specs.Agrees.{RecordView, Has, Represents}
 use Rattle.shim_laws_table.specs.Places.{IsReplaced, HasActed}
 use Rattle.shim_laws_table.specs.Changes.{HasClosed, segment, prevailing_among}
-use Rattle.shim_laws_table.specs.Counts.{going_of}
+use Rattle.shim_laws_table.specs.Counts.{running_of}
 use Rattle.shim_laws_table.specs.Tallied.{OnTheWay, HaveCounts}
 use Rattle.shim_laws_table.specs.Updating.{AreLinked, AreAtMost}
 use Rattle.shim_laws_table.specs.LoweredLabels.{LabelsOnTheWay}
 use Rattle.shim_laws_table.proofs.Begun.{counts_begin}
 use Rattle.shim_laws_table.proofs.CanHappen.{enabled_by_records}
-use Rattle.shim_laws_table.proofs.Children.{children_are_shown}
+use Rattle.shim_laws_table.proofs.Children.{children_are_represented}
 use Rattle.shim_laws_table.proofs.EventPlaces.{events_show}
 use Rattle.shim_laws_table.proofs.Foreign.{foreign_stays}
 use Rattle.shim_laws_table.proofs.LabelsBegun.{labels_begin}
 use Rattle.shim_laws_table.proofs.Linked.{links_follow}
 use Rattle.shim_laws_table.proofs.SameTrees.{same_or_not, no_fork, seen_fork}
-use Rattle.shim_laws_table.proofs.Shown.{events_are_shown}
-use Rattle.shim_records.specs.Pairs.{stands_of, up_at, up_in, counts_in, leasts_in, chans_of, IsOrdered, AreOrdered}
+use Rattle.shim_laws_table.proofs.Shown.{events_preserve}
+use Rattle.shim_records.specs.Pairs.{stands_of, up_at, up_in, counts_in, min_labels_in, chans_of, IsOrdered, AreOrdered}
 use Rattle.shim_records.specs.declared.record.Record.{Record}
-use Rattle.shim_records.proofs.Showing.{blocks_show}
+use Rattle.shim_records.proofs.Representing.{blocks_are_events}
 use Rattle.shim_records.proofs.Stepping.{set_there, set_elsewhere}
-use Rattle.shim_laws_table_events.specs.keeping.Tables.{IsFit, Keeps}
+use Rattle.shim_laws_table_events.specs.keeping.Tables.{IsFit, TableInvariant}
 use Rattle.shim_laws_table_events.specs.closes.Closing.{RecordWithoutStatus, without_status, AreFreed, HasCome}
 use Rattle.shim_laws_table_events.proofs.closes.Saying.{map_length, from_map, said_alike, part, same_counts_at, same_labels_at, same_parent_at, said, said_stands, said_ups, said_counts, said_labels, said_order}
 
@@ -57,7 +57,7 @@ closed_leaf o l ks (Some d) = thrown_leaf o (o.join l ks false) d
 
 -- Records that show the tree behind, where counts and labels above a place are still those of the tree before.
 pub record Begins {S : Type 0} (o : Ops S) (rp : Path) (states : List S) (old new : Node S) (q : List ℕ) (i : ℕ) (s : S) (k : ProcessStatus) (rs : List Record) : Type 0 where
-  pub shown : Shows o rp states (map stands_of rs) new
+  pub shown : Represents o rp states (map stands_of rs) new
   pub linked : AreLinked states (map stands_of rs) (up_in rs)
   pub few : AreAtMost 4294967295 states (map stands_of rs)
   pub ordered : AreOrdered rs
@@ -65,7 +65,7 @@ pub record Begins {S : Type 0} (o : Ops S) (rp : Path) (states : List S) (old ne
   pub has : Has states (map stands_of rs) i first s k
   pub there : (c : Channel) → HaveCounts o rp states (map stands_of rs) c (counts_in c rs) new
   pub counts : (c : Channel) → OnTheWay o rp states (map stands_of rs) c (counts_in c rs) old new q
-  pub labels : (c : Channel) → LabelsOnTheWay o rp states (map stands_of rs) c (counts_in c rs) (leasts_in c rs) old new q
+  pub labels : (c : Channel) → LabelsOnTheWay o rp states (map stands_of rs) c (counts_in c rs) (min_labels_in c rs) old new q
 
 -- so do records that say the same
 pub begins_too : {S : Type 0} (o : Ops S) (rp : Path) (states : List S) (old new : Node S) (q : List ℕ) (i : ℕ) (s : S) (k : ProcessStatus) (rs left : List Record) → map said left ≡ map said rs → Begins o rp states old new q i s k rs → Begins o rp states old new q i s k left
@@ -73,7 +73,7 @@ begins_too o rp states old new q i s k rs left h b =
     let st = sym (said_stands rs left h) in
     let counts = λ (c : Channel). sym (said_counts rs left h c) in
     record {
-      shown = subst (λ z. Shows o rp states z new) st b.shown;
+      shown = subst (λ z. Represents o rp states z new) st b.shown;
       linked = subst (λ z. AreLinked states (map stands_of left) z) (sym (said_ups rs left h)) (subst (λ z. AreLinked states z (up_in rs)) st b.linked);
       few = subst (AreAtMost 4294967295 states) st b.few;
       ordered = said_order rs left h b.ordered;
@@ -82,8 +82,8 @@ begins_too o rp states old new q i s k rs left h b =
       there = λ c. subst (λ z. HaveCounts o rp states (map stands_of left) c z new) (counts c) (subst (λ z. HaveCounts o rp states z c (counts_in c rs) new) st (b.there c));
       counts = λ c. subst (λ z. OnTheWay o rp states (map stands_of left) c z old new q) (counts c) (subst (λ z. OnTheWay o rp states z c (counts_in c rs) old new q) st (b.counts c));
       labels = λ c. subst (λ z. LabelsOnTheWay o rp states (map stands_of left) c (counts_in c left) z old new q) (sym (said_labels rs left h c))
-          (subst (λ z. LabelsOnTheWay o rp states (map stands_of left) c z (leasts_in c rs) old new q) (counts c)
-          (subst (λ z. LabelsOnTheWay o rp states z c (counts_in c rs) (leasts_in c rs) old new q) st (b.labels c)));
+          (subst (λ z. LabelsOnTheWay o rp states (map stands_of left) c z (min_labels_in c rs) old new q) (counts c)
+          (subst (λ z. LabelsOnTheWay o rp states z c (counts_in c rs) (min_labels_in c rs) old new q) st (b.labels c)));
     }
 
 -- What is known where a fork closes: of the tree behind, and of records of which those of its children are free, and its own says what came of it.
@@ -107,7 +107,7 @@ pub record Behind {S : Type 0} (o : Ops S) (rp : Path) (t : Tree S) (states : Li
   pub long : length now ≡ length rs
 
 module _ {S : Type 0} (o : Ops S) (law : LocalLaws o) (rp : Path) (t : Tree S) (states : List S) (rs : List Record) (i g n : ℕ) (l : S) (q : Record) (a : Acted S)
-    (kept : Keeps o rp (record { states = states; records = rs }) t.root) (has : Has states (map stands_of rs) i g l (forks n)) (at_q : slice_get rs i ≡ Some q) (none : q.going ≡ 0)
+    (kept : TableInvariant o rp (record { states = states; records = rs }) t.root) (has : Has states (map stands_of rs) i g l (forks n)) (at_q : slice_get rs i ≡ Some q) (none : q.running_children ≡ 0)
     (is : a ≡ closed o l (segment g n states) (prevailing_among (segment g n (map stands_of rs)))) where
   abbrev stood : List RecordView
   stood = map stands_of rs
@@ -118,28 +118,28 @@ module _ {S : Type 0} (o : Ops S) (law : LocalLaws o) (rp : Path) (t : Tree S) (
   -- ---- the tree behind
 
   fork : (ks : Nodes S) × (at (place o rp l) t.root ≡ Some (Forked l ks)) × (how_many_nodes ks ≡ n)
-  fork = seen_fork (at (place o rp l) t.root) l n (kept.shows.agrees.shown i g l (forks n) has)
+  fork = seen_fork (at (place o rp l) t.root) l n (kept.represents.agrees.shown i g l (forks n) has)
 
   abbrev m : Node S
   m = Forked l fork.0
 
-  none_go : going_of fork.0 ≡ 0
-  none_go = sym (kept.going i g n l l fork.0 q has at_q fork.1) ∙ none
+  none_go : running_of fork.0 ≡ 0
+  none_go = sym (kept.running_children i g n l l fork.0 q has at_q fork.1) ∙ none
 
   next : (u : Tree S) × (after o (Close (o.path l)) t ≡ Some u)
-  next = some_of (after o (Close (o.path l)) t) (((enabled_by_records o law).closes rp states stood t i g n l fork.0 kept.shows has fork.1).1 none_go)
+  next = some_of (after o (Close (o.path l)) t) (((enabled_by_records o law).closes rp states stood t i g n l fork.0 kept.represents has fork.1).1 none_go)
 
   abbrev new : Node S
   new = next.0.root
 
   told : (how_many_nodes fork.0 ≡ n) × (states_of fork.0 ≡ segment g n states) × (prevailing_death fork.0 ≡ prevailing_among (segment g n stood))
-  told = children_are_shown o rp states stood t.root i g n l fork.0 kept.shows.agrees has fork.1
+  told = children_are_represented o rp states stood t.root i g n l fork.0 kept.represents.agrees has fork.1
 
   acted : HasActed o (o.path l) t.root new
   acted = (events_show o law).alone t next.0 (o.path l) (Close (o.path l)) refl next.1
 
   at_place : acted.place ≡ place o rp l
-  at_place = (route_rest rp (o.path l) acted.place (ap (λ z. route z (o.path l)) (sym kept.shows.root_path) ∙ acted.leads)).1
+  at_place = (route_rest rp (o.path l) acted.place (ap (λ z. route z (o.path l)) (sym kept.represents.root_path) ∙ acted.leads)).1
 
   its_node : acted.node ≡ m
   its_node = some_same acted.node m (sym acted.replaced.was ∙ (ap (λ z. at z t.root) at_place ∙ fork.1))
@@ -167,13 +167,13 @@ module _ {S : Type 0} (o : Ops S) (law : LocalLaws o) (rp : Path) (t : Tree S) (
   leaf = ap (λ (z : Acted S). is_leaf z.node) is ∙ closed_leaf o l (segment g n states) (prevailing_among (segment g n stood))
 
   keeps : NodeKeeps o m a.node
-  keeps = here_keeps o law m a (sound_at o (place o rp l) t.root m kept.shows.sound.below fork.1) acts
+  keeps = here_keeps o law m a (sound_at o (place o rp l) t.root m kept.represents.sound.below fork.1) acts
 
   path : o.path (state a.node) ≡ o.path l
   path = keeps.follows.path
 
   given : o.given (state a.node) ≡ o.given l
-  given = (foreign_stays o law).given t.root m (place o rp l) a kept.shows.sound fork.1 acts
+  given = (foreign_stays o law).given t.root m (place o rp l) a kept.represents.sound fork.1 acts
 
   same_place : place o rp (state a.node) ≡ place o rp l
   same_place = ap (λ z. branches (drop (length rp) z)) path
@@ -192,7 +192,7 @@ module _ {S : Type 0} (o : Ops S) (law : LocalLaws o) (rp : Path) (t : Tree S) (
     stands = map stands_of now
 
     closes : HasClosed states states' stood stands i g n (state a.node) (process_status a.node)
-    closes = (blocks_show o).close rp states rs freed t.root i g n come.first l (state a.node) (process_status a.node) r kept.shows.agrees has free.freed come.stands_so
+    closes = (blocks_are_events o).close rp states rs freed t.root i g n come.first l (state a.node) (process_status a.node) r kept.represents.agrees has free.freed come.stands_so
 
     -- a fork was one before
     was_fork : (j d w : ℕ) (s : S) → Has states' stands j d s (forks w) → (j ≢ i) × Has states stood j d s (forks w)
@@ -213,7 +213,7 @@ module _ {S : Type 0} (o : Ops S) (law : LocalLaws o) (rp : Path) (t : Tree S) (
     counts_other : (c : Channel) (j : ℕ) → j ≢ i → counts_in c now j ≡ counts_in c rs j
     counts_other c j far = same_counts_at c (slice_get now j) (slice_get rs j) (part without_status (λ (z : RecordWithoutStatus). z.pairs) (slice_get now j) (slice_get rs j) (other j far))
 
-    labels_other : (c : Channel) (j : ℕ) → j ≢ i → leasts_in c now j ≡ leasts_in c rs j
+    labels_other : (c : Channel) (j : ℕ) → j ≢ i → min_labels_in c now j ≡ min_labels_in c rs j
     labels_other c j far = same_labels_at c (slice_get now j) (slice_get rs j) (part without_status (λ (z : RecordWithoutStatus). z.pairs) (slice_get now j) (slice_get rs j) (other j far))
 
     parent_is : (j : ℕ) → up_in now j ≡ up_in rs j
@@ -240,7 +240,7 @@ module _ {S : Type 0} (o : Ops S) (law : LocalLaws o) (rp : Path) (t : Tree S) (
 
     begins : Begins o rp states' t.root new (place o rp l) i (state a.node) (process_status a.node) now
     begins = record {
-      shown = (events_are_shown o law).closed rp states states' stood stands t next.0 i g n l a kept.shows has next.1 is closes;
+      shown = (events_preserve o law).closed rp states states' stood stands t next.0 i g n l a kept.represents has next.1 is closes;
       linked = subst (AreLinked states' stands) (sym ups) ((links_follow o).closed states states' stood stands i g n a.node (up_in rs) leaf closes kept.linked);
       few = λ j d w s h. kept.few j d w s (was_fork j d w s h).1;
       ordered = ordered_at;
@@ -248,7 +248,7 @@ module _ {S : Type 0} (o : Ops S) (law : LocalLaws o) (rp : Path) (t : Tree S) (
       has = closes.parent;
       there = λ c. (begun c).1;
       counts = λ c. (begun c).0;
-      labels = λ c. (labels_begin o).closed rp states states' stood stands c t.root new i g n l fork.0 a.node (counts_in c rs) (counts_in c now) (leasts_in c rs) (leasts_in c now) replaced leaf closes (counts_other c) (labels_other c) (kept.right c).labels;
+      labels = λ c. (labels_begin o).closed rp states states' stood stands c t.root new i g n l fork.0 a.node (counts_in c rs) (counts_in c now) (min_labels_in c rs) (min_labels_in c now) replaced leaf closes (counts_other c) (labels_other c) (kept.right c).labels;
     }
 
     -- what came of it still fits

@@ -8,10 +8,10 @@ use Rattle.shim_semantics.specs.Nodes.{Node}
 use Rattle.shim_laws_table.specs.Seen.{ProcessStatus}
 use Rattle.shim_laws_table.specs.Agrees.{RecordView, free, used, Has}
 use Rattle.shim_laws_table.specs.Changes.{HasClosed}
-use Rattle.shim_records.specs.Pairs.{stands_of, up_at, counts_at, least_at, known_at}
+use Rattle.shim_records.specs.Pairs.{stands_of, up_at, counts_at, min_label_at, known_at}
 use Rattle.shim_records.specs.declared.record.Record.{Record}
-use Rattle.shim_records.proofs.Showing.{map_get}
-use Rattle.shim_laws_table_events.specs.keeping.Tables.{Keeps}
+use Rattle.shim_records.proofs.Representing.{map_get}
+use Rattle.shim_laws_table_events.specs.keeping.Tables.{TableInvariant}
 use Rattle.shim_laws_table_events.proofs.closes.Saying.{from_map}
 
 less_or_not : (i m : ℕ) → (i < m) ⊎ (m ≤ i)
@@ -92,26 +92,26 @@ module _ {S : Type 0} (states : List S) (rs : List Record) (m : ℕ) (unused : (
     only = λ j d t x is. h.only j d t x (had j d t x is);
   }
 
-module _ {S : Type 0} (o : Ops S) (rp : Path) (root : Node S) (states : List S) (rs : List Record) (m : ℕ) (kept : Keeps o rp (record { states = states; records = rs }) root)
+module _ {S : Type 0} (o : Ops S) (rp : Path) (root : Node S) (states : List S) (rs : List Record) (m : ℕ) (kept : TableInvariant o rp (record { states = states; records = rs }) root)
     (unused : (i : ℕ) (r : Record) → m ≤ i → slice_get rs i ≡ Some r → stands_of r ≡ free) where
-  pub cut : Keeps o rp (record { states = take m states; records = take m rs }) root
+  pub cut : TableInvariant o rp (record { states = take m states; records = take m rs }) root
   cut = record {
-    shows = record {
-      sound = kept.shows.sound;
-      root_path = kept.shows.root_path;
-      rooted = let r = kept.shows.rooted in record { first = r.first; state = r.state; status = r.status; has = has_now states rs m unused 0 r.first r.state r.status r.has; at_root = r.at_root };
+    represents = record {
+      sound = kept.represents.sound;
+      root_path = kept.represents.root_path;
+      rooted = let r = kept.represents.rooted in record { first = r.first; state = r.state; status = r.status; has = has_now states rs m unused 0 r.first r.state r.status r.has; at_root = r.at_root };
       agrees = record {
-        shown = λ i f s k h. kept.shows.agrees.shown i f s k (had states rs m unused i f s k h);
-        apart = λ i j f g s t k h a b e. kept.shows.agrees.apart i j f g s t k h (had states rs m unused i f s k a) (had states rs m unused j g t h b) e;
-        below = λ i f n s h b less. let w = kept.shows.agrees.below i f n s (had states rs m unused i f s _ h) b less in (w.0, w.1, w.2, has_now states rs m unused (f + b) w.0 w.1 w.2 w.3, w.4);
+        shown = λ i f s k h. kept.represents.agrees.shown i f s k (had states rs m unused i f s k h);
+        apart = λ i j f g s t k h a b e. kept.represents.agrees.apart i j f g s t k h (had states rs m unused i f s k a) (had states rs m unused j g t h b) e;
+        below = λ i f n s h b less. let w = kept.represents.agrees.below i f n s (had states rs m unused i f s _ h) b less in (w.0, w.1, w.2, has_now states rs m unused (f + b) w.0 w.1 w.2 w.3, w.4);
       };
     };
     linked = record {
       parents = λ i f n s h b less.
           let fork = had states rs m unused i f s _ h in
-          let w = kept.shows.agrees.below i f n s fork b less in
+          let w = kept.represents.agrees.below i f n s fork b less in
           ap up_at (still states rs m unused (f + b) w.0 w.1 w.2 w.3) ∙ kept.linked.parents i f n s fork b less;
-      top = let r = kept.shows.rooted in ap up_at (still states rs m unused 0 r.first r.state r.status r.has) ∙ kept.linked.top;
+      top = let r = kept.represents.rooted in ap up_at (still states rs m unused 0 r.first r.state r.status r.has) ∙ kept.linked.top;
     };
     few = λ i f n s h. kept.few i f n s (had states rs m unused i f s _ h);
     ordered = λ i r e. kept.ordered i r (inside rs m i r e).1;
@@ -124,9 +124,9 @@ module _ {S : Type 0} (o : Ops S) (rp : Path) (root : Node S) (states : List S) 
       counts = λ i f n s y l ks h e there. let fork = had states rs m unused i f s _ h in (kept.right c).counts i f n s y l ks fork (sym (ap (counts_at c) (still states rs m unused i f s _ fork)) ∙ e) there;
       labels = λ i f n s l ks h counted there.
           let fork = had states rs m unused i f s _ h in
-          ap (least_at c) (still states rs m unused i f s _ fork) ∙ (kept.right c).labels i f n s l ks fork (λ none. counted (ap (counts_at c) (still states rs m unused i f s _ fork) ∙ none)) there;
+          ap (min_label_at c) (still states rs m unused i f s _ fork) ∙ (kept.right c).labels i f n s l ks fork (λ none. counted (ap (counts_at c) (still states rs m unused i f s _ fork) ∙ none)) there;
     };
-    going = λ i f n s l ks r h e there. kept.going i f n s l ks r (had states rs m unused i f s _ h) (inside rs m i r e).1 there;
+    running_children = λ i f n s l ks r h e there. kept.running_children i f n s l ks r (had states rs m unused i f s _ h) (inside rs m i r e).1 there;
     known = λ c i f n s k l ks h e there. let fork = had states rs m unused i f s _ h in kept.known c i f n s k l ks fork (sym (ap (known_at c) (still states rs m unused i f s _ fork)) ∙ e) there;
     fit = λ i f s k r h e. kept.fit i f s k r (had states rs m unused i f s k h) (inside rs m i r e).1;
     beside = same_lengths states rs m kept.beside;

@@ -11,25 +11,25 @@ use Rattle.shim_semantics.specs.Nodes.{Node, Nodes, Live, Forked, Ended, Dead, D
 use Rattle.shim_semantics.specs.Places.{at}
 use Rattle.shim_semantics.proofs.HowMany.{clash}
 use Rattle.shim_laws_table.specs.Seen.{ProcessStatus, forks, is_leaf, place}
-use Rattle.shim_laws_table.specs.Agrees.{RecordView, Has, Shows}
+use Rattle.shim_laws_table.specs.Agrees.{RecordView, Has, Represents}
 use Rattle.shim_laws_table.specs.Places.{IsReplaced}
 use Rattle.shim_laws_table.specs.Counts.{Tally}
 use Rattle.shim_laws_table.specs.Tallied.{HaveCounts, is_above}
 use Rattle.shim_laws_table.specs.Updating.{AreLinked}
-use Rattle.shim_laws_table.specs.Dooms.{least, least_among}
+use Rattle.shim_laws_table.specs.Dooms.{min_dead_label, min_dead_label_among}
 use Rattle.shim_laws_table.specs.LoweredLabels.{Labelled, LabelsOnTheWay}
 use Rattle.shim_laws_table.specs.Recounting.{Recounted, NoneUncounted}
-use Rattle.shim_laws_table.proofs.Leasts.{leasts_follow}
+use Rattle.shim_laws_table.proofs.MinLabels.{min_labels_follow}
 use Rattle.shim_laws_table.proofs.Recounts.{labels_recount}
 use Rattle.shim_laws_table.proofs.SameTrees.{seen_fork}
 use Rattle.shim_records.specs.Members.{IsAmong}
 use Rattle.shim_records.specs.Labels.{OnlyLabels}
-use Rattle.shim_records.specs.Pairs.{stands_of, up_in, counts_at, counts_in, least_at, leasts_in, rest_of, pair_of, least_label_of, tally}
+use Rattle.shim_records.specs.Pairs.{stands_of, up_in, counts_at, counts_in, min_label_at, min_labels_in, rest_of, pair_of, min_label_of, tally}
 use Rattle.shim_records.specs.Recounting.{IsRecounted}
 use Rattle.shim_records.specs.declared.pair.Pair.{Pair}
 use Rattle.shim_records.specs.declared.record.Record.{Record}
 use Rattle.shim_records.proofs.ReadOff.{same_stands}
-use Rattle.shim_records.proofs.WholeWay.{rest_ups}
+use Rattle.shim_records.proofs.FullPropagation.{rest_ups}
 use Rattle.shim_laws_table_events.proofs.keeping.Forks.{carried}
 use Rattle.shim_laws_table_events.specs.closes.Closing.{AllRecounted, none_left, one_more}
 
@@ -39,16 +39,16 @@ among_rest c d cs far (zero, e) = absurd (clash (same_channel d c) (ap (λ z. sa
 among_rest c d cs far (suc i, e) = (i, e)
 
 -- no label is kept where none is counted
-unlabelled : (c : Channel) (x : Option Record) → counts_at c x ≡ None → least_at c x ≡ None
+unlabelled : (c : Channel) (x : Option Record) → counts_at c x ≡ None → min_label_at c x ≡ None
 unlabelled c None e = refl
 unlabelled c (Some r) e = on (pair_of c r.pairs.items) e
   where
-    on : (p : Option Pair) → option_map tally p ≡ None → least_label_of p ≡ None
+    on : (p : Option Pair) → option_map tally p ≡ None → min_label_of p ≡ None
     on None e = refl
     on (Some p) e = none_some (tally p) (sym e)
 
 -- counts just where the others are: the same labels are on the way
-pub on_other_counts : {S : Type 0} (o : Ops S) (rp : Path) (states : List S) (stands : List RecordView) (c : Channel) (counts others : ℕ → Option Tally) (labels : ℕ → Option ℕ) (old new : Node S) (q : List ℕ) → Shows o rp states stands new
+pub on_other_counts : {S : Type 0} (o : Ops S) (rp : Path) (states : List S) (stands : List RecordView) (c : Channel) (counts others : ℕ → Option Tally) (labels : ℕ → Option ℕ) (old new : Node S) (q : List ℕ) → Represents o rp states stands new
     → HaveCounts o rp states stands c counts new → HaveCounts o rp states stands c others new → LabelsOnTheWay o rp states stands c counts labels old new q → LabelsOnTheWay o rp states stands c others labels old new q
 on_other_counts o rp states stands c counts others labels old new q shown have too way i f n s l ks h counted there =
     let w = seen_fork (at (place o rp s) new) s n (shown.agrees.shown i f s (forks n) h) in
@@ -60,7 +60,7 @@ no_death : (d : Death) (x : Option Death) → prevailing d x ≡ None → ⊥
 no_death d None e = absurd cc
 no_death d (Some y) e = absurd cc
 
-none_dead : {S : Type 0} (o : Ops S) (c : Channel) (ks : Nodes S) → all_done ks ≡ true → prevailing_death ks ≡ None → least_among o c ks ≡ None
+none_dead : {S : Type 0} (o : Ops S) (c : Channel) (ks : Nodes S) → all_done ks ≡ true → prevailing_death ks ≡ None → min_dead_label_among o c ks ≡ None
 none_dead o c no_node e p = refl
 none_dead o c (node_and (Live l) ks) e p = absurd cc
 none_dead o c (node_and (Forked l js) ks) e p = absurd cc
@@ -68,21 +68,21 @@ none_dead o c (node_and (Ended l) ks) e p = none_dead o c ks e p
 none_dead o c (node_and (Dead l d) ks) e p = absurd (no_death d (prevailing_death ks) p)
 
 pub as_before : {S : Type 0} (o : Ops S) (rp : Path) (states : List S) (stands : List RecordView) (c : Channel) (counts : ℕ → Option Tally) (labels : ℕ → Option ℕ) (old new a : Node S) (q : List ℕ) (l : S) (ks : Nodes S) → IsReplaced q (Forked l ks) a old new → is_leaf a ≡ true
-    → all_done ks ≡ true → prevailing_death ks ≡ None → least o c a ≡ None → LabelsOnTheWay o rp states stands c counts labels old new q → Labelled o rp states stands c counts labels new
+    → all_done ks ≡ true → prevailing_death ks ≡ None → min_dead_label o c a ≡ None → LabelsOnTheWay o rp states stands c counts labels old new q → Labelled o rp states stands c counts labels new
 as_before o rp states stands c counts labels old new a q l ks rep leaf done none nothing way j d n t u us fork counted there = on (is_above (place o rp t) q) refl
   where
-    same : least o c a ≡ least o c (Forked l ks)
+    same : min_dead_label o c a ≡ min_dead_label o c (Forked l ks)
     same = nothing ∙ sym (none_dead o c ks done none)
 
-    on : (b : Bool) → is_above (place o rp t) q ≡ b → labels j ≡ least_among o c us
+    on : (b : Bool) → is_above (place o rp t) q ≡ b → labels j ≡ min_dead_label_among o c us
     on false w = way j d n t u us fork counted (ap (λ z. at (place o rp t) (cond z old new)) w ∙ there)
     on true w =
-        let v = carried o q (Forked l ks) a old new rep leaf (least_among o c) (λ r v is js above was now. (leasts_follow o).stays c old new (Forked l ks) a q r v is js rep same above was now) (place o rp t) u us there in
+        let v = carried o q (Forked l ks) a old new rep leaf (min_dead_label_among o c) (λ r v is js above was now. (min_labels_follow o).stays c old new (Forked l ks) a q r v is js rep same above was now) (place o rp t) u us there in
         way j d n t u v.children fork counted (ap (λ z. at (place o rp t) (cond z old new)) w ∙ v.there) ∙ sym v.same
 
 -- ---- where some were read off again
 
-module _ {S : Type 0} (o : Ops S) (law : LocalLaws o) (rp : Path) (states : List S) (base : List Record) (old new m a : Node S) (n x f : ℕ) (s : S) (k : ProcessStatus) (shown : Shows o rp states (map stands_of base) new)
+module _ {S : Type 0} (o : Ops S) (law : LocalLaws o) (rp : Path) (states : List S) (base : List Record) (old new m a : Node S) (n x f : ℕ) (s : S) (k : ProcessStatus) (shown : Represents o rp states (map stands_of base) new)
     (linked : AreLinked states (map stands_of base) (up_in base)) (has : Has states (map stands_of base) x f s k) (rep : IsReplaced (place o rp s) m a old new)
     (have : (c : Channel) → HaveCounts o rp states (map stands_of base) c (counts_in c base) new) (near : length (place o rp s) ≤ n) where
   abbrev stands : List RecordView
@@ -105,28 +105,28 @@ module _ {S : Type 0} (o : Ops S) (law : LocalLaws o) (rp : Path) (states : List
   }
 
   abbrev OnWay : Channel → List Record → Type 0
-  OnWay c now = LabelsOnTheWay o rp states stands c (counts_in c base) (leasts_in c now) old new (place o rp s)
+  OnWay c now = LabelsOnTheWay o rp states stands c (counts_in c base) (min_labels_in c now) old new (place o rp s)
 
   abbrev pub Right : Channel → List Record → Type 0
-  Right c now = Labelled o rp states stands c (counts_in c base) (leasts_in c now) new
+  Right c now = Labelled o rp states stands c (counts_in c base) (min_labels_in c now) new
 
-  its_way : (c : Channel) (before behind : List Record) → AsAtFirst before → IsRecounted o c states n x before behind → Recounted o c states stands (up_in base) (counts_in c base) n (leasts_in c before) x (leasts_in c behind)
+  its_way : (c : Channel) (before behind : List Record) → AsAtFirst before → IsRecounted o c states n x before behind → Recounted o c states stands (up_in base) (counts_in c base) n (min_labels_in c before) x (min_labels_in c behind)
   its_way c before behind y h =
-      subst (λ z. Recounted o c states z (up_in base) (counts_in c base) n (leasts_in c before) x (leasts_in c behind)) y.statuses
-      (subst (λ z. Recounted o c states (map stands_of before) z (counts_in c base) n (leasts_in c before) x (leasts_in c behind)) y.ups
-      (subst (λ z. Recounted o c states (map stands_of before) (up_in before) z n (leasts_in c before) x (leasts_in c behind)) (y.counts c) h.0))
+      subst (λ z. Recounted o c states z (up_in base) (counts_in c base) n (min_labels_in c before) x (min_labels_in c behind)) y.statuses
+      (subst (λ z. Recounted o c states (map stands_of before) z (counts_in c base) n (min_labels_in c before) x (min_labels_in c behind)) y.ups
+      (subst (λ z. Recounted o c states (map stands_of before) (up_in before) z n (min_labels_in c before) x (min_labels_in c behind)) (y.counts c) h.0))
 
-  uncounted : (c : Channel) (now : List Record) → AsAtFirst now → NoneUncounted (counts_in c base) (leasts_in c now)
+  uncounted : (c : Channel) (now : List Record) → AsAtFirst now → NoneUncounted (counts_in c base) (min_labels_in c now)
   uncounted c now y i e = unlabelled c (slice_get now i) (ap (λ z. z i) (y.counts c) ∙ e)
 
   first : (c : Channel) (before behind : List Record) → o.shares s c ≡ true → AsAtFirst before → IsRecounted o c states n x before behind → OnWay c before → Right c behind
   first c before behind shares y h way =
-      labels_recount o law rp states stands (up_in base) c old new m a n x f s k (counts_in c base) (leasts_in c before) (leasts_in c behind) shown linked has rep shares (have c) (uncounted c before y) near way (its_way c before behind y h)
+      labels_recount o law rp states stands (up_in base) c old new m a n x f s k (counts_in c base) (min_labels_in c before) (min_labels_in c behind) shown linked has rep shares (have c) (uncounted c before y) near way (its_way c before behind y h)
 
   -- where they are right already they stay
   again : (c : Channel) (before behind : List Record) → o.shares s c ≡ true → AsAtFirst before → IsRecounted o c states n x before behind → Right c before → Right c behind
   again c before behind shares y h right =
-      labels_recount o law rp states stands (up_in base) c new new a a n x f s k (counts_in c base) (leasts_in c before) (leasts_in c behind) shown linked has
+      labels_recount o law rp states stands (up_in base) c new new a a n x f s k (counts_in c base) (min_labels_in c before) (min_labels_in c behind) shown linked has
       (record { was = rep.is; is = rep.is; aside = λ p far. refl }) shares (have c) (uncounted c before y) near
       (λ i d w t l ks fork counted there. right i d w t l ks fork counted (ap (at (place o rp t)) (sym (either (is_above (place o rp t) (place o rp s)))) ∙ there)) (its_way c before behind y h)
     where
@@ -134,7 +134,7 @@ module _ {S : Type 0} (o : Ops S) (law : LocalLaws o) (rp : Path) (states : List
       either true = refl
       either false = refl
 
-  elsewhere : (c d : Channel) (before behind : List Record) → OnlyLabels d before behind → same_channel d c ≡ false → leasts_in c behind ≡ leasts_in c before
+  elsewhere : (c d : Channel) (before behind : List Record) → OnlyLabels d before behind → same_channel d c ≡ false → min_labels_in c behind ≡ min_labels_in c before
   elsewhere c d before behind h far = λ t i. h.elsewhere c far i t
 
   keeps_right : {cs : List Channel} {before behind : List Record} (c : Channel) → AllRecounted o states n x cs before behind → ((d : Channel) → IsAmong d cs → o.shares s d ≡ true) → AsAtFirst before → Right c before → Right c behind
@@ -161,7 +161,7 @@ module _ {S : Type 0} (o : Ops S) (law : LocalLaws o) (rp : Path) (states : List
 
 module _ {S : Type 0} (o : Ops S) (states : List S) (n x : ℕ) where
   -- no labels of other channels have changed
-  pub others : {cs : List Channel} {before behind : List Record} (c : Channel) → AllRecounted o states n x cs before behind → (IsAmong c cs → ⊥) → leasts_in c behind ≡ leasts_in c before
+  pub others : {cs : List Channel} {before behind : List Record} (c : Channel) → AllRecounted o states n x cs before behind → (IsAmong c cs → ⊥) → min_labels_in c behind ≡ min_labels_in c before
   others c (none_left rs) out = refl
   others c (one_more d cs before between behind h more) out = others c more (λ g. out (suc g.0, g.1)) ∙ (λ t i. h.1.elsewhere c (on (same_channel d c) refl) i t)
     where

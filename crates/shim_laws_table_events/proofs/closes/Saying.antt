@@ -7,12 +7,12 @@ use Rattle.shim_base.proofs.Facts.{some_same, none_some}
 use Rattle.shim_laws_table.specs.Agrees.{RecordView}
 use Rattle.shim_laws_table.specs.Counts.{Tally}
 use Rattle.shim_laws_table.specs.Seen.{ProcessStatus, lives, forks, ends, dies}
-use Rattle.shim_laws_table_events.specs.closes.Closing.{LeavesIf}
-use Rattle.shim_records.specs.Leaving.{HasLeft, alone, lost, below}
-use Rattle.shim_records.specs.Pairs.{stands_of, up_at, up_in, counts_at, counts_in, least_at, leasts_in, tally_for, least_label_of, pair_of, chans_of, IsOrdered, AreOrdered}
+use Rattle.shim_laws_table_events.specs.closes.Closing.{CountsOffIfOver}
+use Rattle.shim_records.specs.CountingOff.{HasCountedOff, alone, lost, below}
+use Rattle.shim_records.specs.Pairs.{stands_of, up_at, up_in, counts_at, counts_in, min_label_at, min_labels_in, tally_for, min_label_of, pair_of, chans_of, IsOrdered, AreOrdered}
 use Rattle.shim_records.specs.declared.pair.Pair.{Pair}
 use Rattle.shim_records.specs.declared.record.Record.{Record}
-use Rattle.shim_records.proofs.Showing.{map_get}
+use Rattle.shim_records.proofs.Representing.{map_get}
 use Rattle.shim_records.proofs.Stepping.{map_set, set_there, set_elsewhere}
 
 pub from_map : {A B : Type 0} (f : A → B) (x : Option A) (y : B) → option_map f x ≡ Some y → (z : A) × (x ≡ Some z) × (f z ≡ y)
@@ -49,7 +49,7 @@ counts_of c (Some ps) = tally_for c ps
 
 abbrev pub labels_of : Channel → Option (List Pair) → Option ℕ
 labels_of c None = None
-labels_of c (Some ps) = least_label_of (pair_of c ps)
+labels_of c (Some ps) = min_label_of (pair_of c ps)
 
 abbrev pub pairs_in : Record → List Pair
 pairs_in r = r.pairs.items
@@ -58,7 +58,7 @@ pub counts_told : (c : Channel) (x : Option Record) → counts_at c x ≡ counts
 counts_told c None = refl
 counts_told c (Some r) = refl
 
-pub labels_told : (c : Channel) (x : Option Record) → least_at c x ≡ labels_of c (option_map pairs_in x)
+pub labels_told : (c : Channel) (x : Option Record) → min_label_at c x ≡ labels_of c (option_map pairs_in x)
 labels_told c None = refl
 labels_told c (Some r) = refl
 
@@ -81,7 +81,7 @@ part f h x y e = sym (both_parts f h x) ∙ (ap (option_map h) e ∙ both_parts 
 pub same_counts_at : (c : Channel) (x y : Option Record) → option_map pairs_in x ≡ option_map pairs_in y → counts_at c x ≡ counts_at c y
 same_counts_at c x y e = counts_told c x ∙ (ap (counts_of c) e ∙ sym (counts_told c y))
 
-pub same_labels_at : (c : Channel) (x y : Option Record) → option_map pairs_in x ≡ option_map pairs_in y → least_at c x ≡ least_at c y
+pub same_labels_at : (c : Channel) (x y : Option Record) → option_map pairs_in x ≡ option_map pairs_in y → min_label_at c x ≡ min_label_at c y
 same_labels_at c x y e = labels_told c x ∙ (ap (labels_of c) e ∙ sym (labels_told c y))
 
 pub same_parent_at : (x y : Option Record) → option_map (λ r. r.parent) x ≡ option_map (λ r. r.parent) y → up_at x ≡ up_at y
@@ -101,7 +101,7 @@ module _ (before behind : List Record) (h : map said behind ≡ map said before)
   pub said_counts : (c : Channel) → counts_in c behind ≡ counts_in c before
   said_counts c = λ t i. same_counts_at c (slice_get behind i) (slice_get before i) (part said (λ (z : Said). z.pairs) (slice_get behind i) (slice_get before i) (said_alike said before behind h i)) t
 
-  pub said_labels : (c : Channel) → leasts_in c behind ≡ leasts_in c before
+  pub said_labels : (c : Channel) → min_labels_in c behind ≡ min_labels_in c before
   said_labels c = λ t i. same_labels_at c (slice_get behind i) (slice_get before i) (part said (λ (z : Said). z.pairs) (slice_get behind i) (slice_get before i) (said_alike said before behind h i)) t
 
   pub said_order : AreOrdered before → AreOrdered behind
@@ -109,34 +109,34 @@ module _ (before behind : List Record) (h : map said behind ≡ map said before)
 
 -- ---- a child that goes on no more
 
-pub left_said : (x : ℕ) (before behind : List Record) → HasLeft x before behind → map said behind ≡ map said before
+pub left_said : (x : ℕ) (before behind : List Record) → HasCountedOff x before behind → map said behind ≡ map said before
 left_said x before behind (alone e same) = ap (map said) same
 left_said x before behind (lost j up e same) = ap (map said) same
-left_said x before behind (below j r up e same) = ap (map said) same ∙ map_set said before j r (record { status = r.status; first = r.first; parent = r.parent; path = r.path; going = r.going - 1; pairs = r.pairs }) e refl
+left_said x before behind (below j r up e same) = ap (map said) same ∙ map_set said before j r (record { status = r.status; first = r.first; parent = r.parent; path = r.path; running_children = r.running_children - 1; pairs = r.pairs }) e refl
 
-pub leaves_said : (k : ProcessStatus) (x : ℕ) (before behind : List Record) → LeavesIf k x before behind → map said behind ≡ map said before
+pub leaves_said : (k : ProcessStatus) (x : ℕ) (before behind : List Record) → CountsOffIfOver k x before behind → map said behind ≡ map said before
 leaves_said lives x before behind e = ap (map said) e
 leaves_said (forks n) x before behind e = ap (map said) e
 leaves_said ends x before behind e = left_said x before behind e
 leaves_said (dies d) x before behind e = left_said x before behind e
 
 -- so many children of another fork than its parent go on as before
-pub going_elsewhere : (x : ℕ) (before behind : List Record) → HasLeft x before behind → (j : ℕ) → up_in before x ≢ Some j → slice_get behind j ≡ slice_get before j
+pub going_elsewhere : (x : ℕ) (before behind : List Record) → HasCountedOff x before behind → (j : ℕ) → up_in before x ≢ Some j → slice_get behind j ≡ slice_get before j
 going_elsewhere x before behind (alone e same) j far = ap (λ z. slice_get z j) same
 going_elsewhere x before behind (lost h up e same) j far = ap (λ z. slice_get z j) same
 going_elsewhere x before behind (below h r up e same) j far =
     ap (λ z. slice_get z j) same
-    ∙ set_elsewhere before h j (record { status = r.status; first = r.first; parent = r.parent; path = r.path; going = r.going - 1; pairs = r.pairs }) (λ w. far (up ∙ ap Some (sym w)))
+    ∙ set_elsewhere before h j (record { status = r.status; first = r.first; parent = r.parent; path = r.path; running_children = r.running_children - 1; pairs = r.pairs }) (λ w. far (up ∙ ap Some (sym w)))
 
 -- and one less of that
-pub going_less : (x : ℕ) (before behind : List Record) → HasLeft x before behind → (j : ℕ) (q r : Record) → up_in before x ≡ Some j → slice_get before j ≡ Some q → slice_get behind j ≡ Some r → r.going ≡ q.going - 1
+pub going_less : (x : ℕ) (before behind : List Record) → HasCountedOff x before behind → (j : ℕ) (q r : Record) → up_in before x ≡ Some j → slice_get before j ≡ Some q → slice_get behind j ≡ Some r → r.running_children ≡ q.running_children - 1
 going_less x before behind (alone e same) j q r up was is = none_some j (sym e ∙ up)
 going_less x before behind (lost h above e same) j q r up was is =
     none_some q (sym e ∙ (ap (slice_get before) (some_same h j (sym above ∙ up)) ∙ was))
 going_less x before behind (below h p above e same) j q r up was is =
-    let new : Record = record { status = p.status; first = p.first; parent = p.parent; path = p.path; going = p.going - 1; pairs = p.pairs } in
+    let new : Record = record { status = p.status; first = p.first; parent = p.parent; path = p.path; running_children = p.running_children - 1; pairs = p.pairs } in
     let w : h ≡ j = some_same h j (sym above ∙ up) in
     let now : slice_get behind h ≡ Some new = ap (λ z. slice_get z h) same ∙ set_there before h p new e in
     let is_new : new ≡ r = some_same new r (sym now ∙ (ap (slice_get behind) w ∙ is)) in
     let is_old : p ≡ q = some_same p q (sym e ∙ (ap (slice_get before) w ∙ was)) in
-    ap (λ (z : Record). z.going) (sym is_new) ∙ ap (λ (z : Record). z.going - 1) is_old
+    ap (λ (z : Record). z.running_children) (sym is_new) ∙ ap (λ (z : Record). z.running_children - 1) is_old

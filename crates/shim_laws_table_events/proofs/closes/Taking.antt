@@ -13,12 +13,12 @@ use Rattle.shim_semantics.proofs.Replaced.{sound_at, states_sound}
 use Rattle.shim_laws_table.specs.Seen.{forks, place, how_many_nodes}
 use Rattle.shim_laws_table.specs.Agrees.{Has}
 use Rattle.shim_laws_table.specs.Changes.{segment, prevailing_among}
-use Rattle.shim_laws_table.proofs.Children.{children_are_shown}
+use Rattle.shim_laws_table.proofs.Children.{children_are_represented}
 use Rattle.shim_laws_table.proofs.Forking.{no_shorter}
 use Rattle.shim_laws_table.proofs.SameTrees.{seen_fork}
 use Rattle.shim_records.specs.Pairs.{stands_of}
 use Rattle.shim_records.specs.declared.record.Record.{Record}
-use Rattle.shim_laws_table_events.specs.keeping.Tables.{Keeps}
+use Rattle.shim_laws_table_events.specs.keeping.Tables.{TableInvariant}
 
 some_child : {S : Type 0} (ks : Nodes S) (n : ℕ) → ks ≢ no_node → how_many_nodes ks ≡ n → n ≢ 0
 some_child no_node n some e none = absurd (some refl)
@@ -47,16 +47,16 @@ within_all : (g n m : ℕ) → n ≢ 0 → ((b : ℕ) → b < n → g + b < m) �
 within_all g zero m some h = absurd (some refl)
 within_all g (suc n) m some h = let w = h n (omega arith) in omega (arith, w)
 
-module _ {S : Type 0} (o : Ops S) (law : LocalLaws o) (rp : Path) (states : List S) (rs : List Record) (root : Node S) (i g n : ℕ) (l : S) (kept : Keeps o rp (record { states = states; records = rs }) root)
+module _ {S : Type 0} (o : Ops S) (law : LocalLaws o) (rp : Path) (states : List S) (rs : List Record) (root : Node S) (i g n : ℕ) (l : S) (kept : TableInvariant o rp (record { states = states; records = rs }) root)
     (has : Has states (map stands_of rs) i g l (forks n)) where
   fork : (ks : Nodes S) × (at (place o rp l) root ≡ Some (Forked l ks)) × (how_many_nodes ks ≡ n)
-  fork = seen_fork (at (place o rp l) root) l n (kept.shows.agrees.shown i g l (forks n) has)
+  fork = seen_fork (at (place o rp l) root) l n (kept.represents.agrees.shown i g l (forks n) has)
 
   told : (how_many_nodes fork.0 ≡ n) × (states_of fork.0 ≡ segment g n states) × (prevailing_death fork.0 ≡ prevailing_among (segment g n (map stands_of rs)))
-  told = children_are_shown o rp states (map stands_of rs) root i g n l fork.0 kept.shows.agrees has fork.1
+  told = children_are_represented o rp states (map stands_of rs) root i g n l fork.0 kept.represents.agrees has fork.1
 
   sound : IsFork o l fork.0 (λ f. SoundChildren o l f 0 fork.0)
-  sound = sound_at o (place o rp l) root (Forked l fork.0) kept.shows.sound.below fork.1
+  sound = sound_at o (place o rp l) root (Forked l fork.0) kept.represents.sound.below fork.1
 
   -- they are born of it
   pub born : o.born l (segment g n states)
@@ -71,10 +71,10 @@ module _ {S : Type 0} (o : Ops S) (law : LocalLaws o) (rp : Path) (states : List
 
   -- the states and records of its children are there, and none of them is its own
   pub within : g + n ≤ length states
-  within = within_all g n (length states) (some_child fork.0 n sound.some fork.2) (λ b less. let z = kept.shows.agrees.below i g n l has b less in slice_get_within states (g + b) z.1 z.3.state_is)
+  within = within_all g n (length states) (some_child fork.0 n sound.some fork.2) (λ b less. let z = kept.represents.agrees.below i g n l has b less in slice_get_within states (g + b) z.1 z.3.state_is)
 
   pub apart : (i < g) ⊎ (g + n ≤ i)
   apart = aside_of i g n (λ b less e.
-      let z = kept.shows.agrees.below i g n l has b less in
+      let z = kept.represents.agrees.below i g n l has b less in
       let same : l ≡ z.1 = some_same l z.1 (sym has.state_is ∙ (ap (slice_get states) e ∙ z.3.state_is)) in
       no_shorter (place o rp l) b (ap (place o rp) same ∙ z.4))

@@ -12,10 +12,10 @@ use Rattle.shim_semantics.specs.Acts.{act_live, parted, nothing}
 use Rattle.shim_semantics.specs.Places.{at, branches}
 use Rattle.shim_semantics.specs.Trees.{Tree, Own, after, own_action_at}
 use Rattle.shim_laws_table.specs.Seen.{ProcessStatus, lives, forks, place}
-use Rattle.shim_laws_table.specs.Agrees.{Has, Shows}
+use Rattle.shim_laws_table.specs.Agrees.{Has, Represents}
 use Rattle.shim_laws_table.specs.Places.{IsReplaced}
 use Rattle.shim_laws_table.specs.Changes.{HasForked}
-use Rattle.shim_laws_table.specs.Counts.{going_of}
+use Rattle.shim_laws_table.specs.Counts.{running_of}
 use Rattle.shim_laws_table.specs.Tallied.{is_above, Tallied, HaveCounts}
 use Rattle.shim_laws_table.specs.Updating.{AreLinked, AreAtMost}
 use Rattle.shim_laws_table.specs.LoweredLabels.{Labelled}
@@ -25,18 +25,18 @@ use Rattle.shim_laws_table.proofs.Begun.{fork_parts, lives_no_fork, none_there}
 use Rattle.shim_laws_table.proofs.Linked.{links_follow}
 use Rattle.shim_laws_table.proofs.Sources.{sources_by_records}
 use Rattle.shim_laws_table.proofs.Tallies.{counts_tell}
-use Rattle.shim_records.specs.Pairs.{UncountedRecord, rest_of, stands_of, up_at, up_in, counts_in, leasts_in, known_at, known_in, AreOrdered}
+use Rattle.shim_records.specs.Pairs.{UncountedRecord, rest_of, stands_of, up_at, up_in, counts_in, min_labels_in, known_at, known_in, AreOrdered}
 use Rattle.shim_records.specs.declared.pair.Sharing.{Sharing}
 use Rattle.shim_records.specs.declared.record.Record.{Record}
-use Rattle.shim_records.proofs.ManyWays.{rest_same}
+use Rattle.shim_records.proofs.ManyPropagations.{rest_same}
 use Rattle.shim_records.proofs.ReadOff.{same_stands}
-use Rattle.shim_records.proofs.Showing.{map_get}
-use Rattle.shim_records.proofs.WholeWay.{rest_ups, kept_order}
+use Rattle.shim_records.proofs.Representing.{map_get}
+use Rattle.shim_records.proofs.FullPropagation.{rest_ups, kept_order}
 use Rattle.shim_records.proofs.SharingFound.{rest_known}
 use Rattle.shim_laws_table_events.specs.keeping.Knowing.{Knows, AreKnown}
 use Rattle.shim_laws_table_events.proofs.keeping.Knowing.{knows_aside, acts_fewer}
-use Rattle.shim_laws_table_events.specs.keeping.Tables.{TableView, HasProcessState, IsFit, Keeps}
-use Rattle.shim_laws_table_events.specs.forks.Forking.{ForksAt, ForksMove}
+use Rattle.shim_laws_table_events.specs.keeping.Tables.{TableView, HasProcessState, IsFit, TableInvariant}
+use Rattle.shim_laws_table_events.specs.forks.Forking.{ForksAt, ForkPreserves}
 use Rattle.shim_laws_table_events.proofs.forks.Above.{fork_was, same_aside, as_many_go}
 use Rattle.shim_laws_table_events.proofs.forks.Block as block
 use Rattle.shim_laws_table_events.proofs.forks.Counted as counted
@@ -44,7 +44,7 @@ use Rattle.shim_laws_table_events.proofs.forks.Handed as handed
 use Rattle.shim_laws_table_events.proofs.forks.Lists.{block_long}
 use Rattle.shim_laws_table_events.proofs.forks.Orders.{put_ordered}
 use Rattle.shim_laws_table_events.proofs.forks.OwnSteps.{live_there, can_step}
-use Rattle.shim_laws_table_events.proofs.forks.Readied.{joining, all_ways, labels_same, ready_once}
+use Rattle.shim_laws_table_events.proofs.forks.Readied.{alive, all_ways, labels_same, ready_once}
 
 same_behind : (g b d : ℕ) → g + b ≡ g + d → b ≡ d
 same_behind g b d e = omega (arith, e)
@@ -68,7 +68,7 @@ was_record : (before behind : List Record) (i : ℕ) (r : Record) → map rest_o
 was_record before behind i r h e = from_map rest_of (slice_get before i) (rest_of r) (sym (map_get rest_of before i) ∙ (ap (λ z. slice_get z i) (sym h) ∙ (map_get rest_of behind i ∙ ap (option_map rest_of) e)))
 
 module _ {S : Type 0} (o : Ops S) (law : LocalLaws o) (rp : Path) (t u : Tree S) (before behind : TableView S) (x g f : ℕ) (l p : S) (ks : List S)
-    (kept : Keeps o rp before t.root) (has : HasProcessState before x f l lives) (forked : ForksAt o x g p ks before behind) (stop : o.stop l ≡ AtFork) (parts : o.fork l ≡ Parted p ks)
+    (kept : TableInvariant o rp before t.root) (has : HasProcessState before x f l lives) (forked : ForksAt o x g p ks before behind) (stop : o.stop l ≡ AtFork) (parts : o.fork l ≡ Parted p ks)
     (happens : after o (Own (o.path l)) t ≡ Some u) where
   abbrev states : List S
   states = block.states o law rp t before behind x g f l p ks kept has forked
@@ -97,7 +97,7 @@ module _ {S : Type 0} (o : Ops S) (law : LocalLaws o) (rp : Path) (t u : Tree S)
   given : o.given p ≡ o.given l
   given = block.given o law rp t before behind x g f l p ks kept has forked stop parts
 
-  shown : Shows o rp states (map stands_of records) u.root
+  shown : Represents o rp states (map stands_of records) u.root
   shown = block.shown o law rp t before behind x g f l p ks kept has forked stop parts u happens
 
   replaced : IsReplaced (place o rp l) (Live l) (Forked p (all_live ks)) t.root u.root
@@ -116,7 +116,7 @@ module _ {S : Type 0} (o : Ops S) (law : LocalLaws o) (rp : Path) (t u : Tree S)
 
   linked : AreLinked states (map stands_of records) (up_in records)
   linked =
-      (links_follow o).forked rp before.states states (map stands_of before.records) (map stands_of records) t.root x f g l p ks (up_in before.records) (up_in records) kept.shows has has_forked
+      (links_follow o).forked rp before.states states (map stands_of before.records) (map stands_of records) t.root x f g l p ks (up_in before.records) (up_in records) kept.represents has has_forked
       (λ b less. let k = there_is ks b less in let r = born_at b k.0 k.1 in ap up_at r.there ∙ r.says.parent)
       (λ j d s k h. elim (same_or_not j x) [
         | inl w ↦ ap (up_in records) w ∙ (ap up_at its_own ∙ (forked.parent.parent ∙ (sym (ap up_at forked.had) ∙ ap (up_in before.records) (sym w))))
@@ -139,7 +139,7 @@ module _ {S : Type 0} (o : Ops S) (law : LocalLaws o) (rp : Path) (t u : Tree S)
   -- ---- behind the ways up
 
   rest : map rest_of behind.records ≡ map rest_of records
-  rest = rest_same (joining false) (joining true) 4294967295 x (all_ways 4294967295 x (ready_once its.pairs.items forked.parent.pairs.ordered) forked.records)
+  rest = rest_same (alive false) (alive true) 4294967295 x (all_ways 4294967295 x (ready_once its.pairs.items forked.parent.pairs.ordered) forked.records)
 
   same : map stands_of behind.records ≡ map stands_of records
   same = same_stands records behind.records rest
@@ -153,7 +153,7 @@ module _ {S : Type 0} (o : Ops S) (law : LocalLaws o) (rp : Path) (t u : Tree S)
       counted.brought o law rp t.root u.root before states records x g f l p ks its kept has (block.sound o law rp t before behind x g f l p ks kept has forked) stop parts its_own as_before has_forked shown replaced path given forked.parent.pairs
       linked few near c behind.records forked.records
 
-  labelled : (c : Channel) → Labelled o rp states (map stands_of records) c (counts_in c behind.records) (leasts_in c behind.records) u.root
+  labelled : (c : Channel) → Labelled o rp states (map stands_of records) c (counts_in c behind.records) (min_labels_in c behind.records) u.root
   labelled c =
       subst (λ z. Labelled o rp states (map stands_of records) c (counts_in c behind.records) z u.root) (sym (labels_same 4294967295 x c forked.records))
       (counted.labelled o law rp t.root u.root before states records x g f l p ks its kept has (block.sound o law rp t before behind x g f l p ks kept has forked) stop parts its_own as_before has_forked shown replaced path given forked.parent.pairs
@@ -161,24 +161,24 @@ module _ {S : Type 0} (o : Ops S) (law : LocalLaws o) (rp : Path) (t u : Tree S)
 
   -- ---- how many go on
 
-  fork_before : (j d n : ℕ) (s m : S) (js : Nodes S) (r : Record) → HasProcessState before j d s (forks n) → slice_get before.records j ≡ Some r → at (place o rp s) u.root ≡ Some (Forked m js) → r.going ≡ going_of js
+  fork_before : (j d n : ℕ) (s m : S) (js : Nodes S) (r : Record) → HasProcessState before j d s (forks n) → slice_get before.records j ≡ Some r → at (place o rp s) u.root ≡ Some (Forked m js) → r.running_children ≡ running_of js
   fork_before j d n s m js r h e there = elim (aside_or_further (place o rp l) (place o rp s)) [
-    | inr w ↦ none_there o rp before.states (map stands_of before.records) t.root l n j d s w.0 kept.shows.agrees h (live_there o law rp before.states (map stands_of before.records) t x f l kept.shows has) w.1
+    | inr w ↦ none_there o rp before.states (map stands_of before.records) t.root l n j d s w.0 kept.represents.agrees h (live_there o law rp before.states (map stands_of before.records) t x f l kept.represents has) w.1
     | inl far ↦ on far (is_above (place o rp s) (place o rp l)) refl
   ]
     where
-      on : ((q : List ℕ) → place o rp s ≢ place o rp l ++ q) → (b : Bool) → is_above (place o rp s) (place o rp l) ≡ b → r.going ≡ going_of js
+      on : ((q : List ℕ) → place o rp s ≢ place o rp l ++ q) → (b : Bool) → is_above (place o rp s) (place o rp l) ≡ b → r.running_children ≡ running_of js
       on far true w =
           let v = fork_was o (place o rp l) (Live l) (Forked p (all_live ks)) t.root u.root replaced (place o rp s) m js w there in
-          kept.going j d n s m v.0 r h e v.1 ∙ sym (as_many_go o (place o rp l) (Live l) (Forked p (all_live ks)) t.root u.root replaced refl (place o rp s) m v.0 js w v.1 there)
-      on far false w = kept.going j d n s m js r h e (sym (same_aside o (place o rp l) (Live l) (Forked p (all_live ks)) t.root u.root replaced (place o rp s) w far) ∙ there)
+          kept.running_children j d n s m v.0 r h e v.1 ∙ sym (as_many_go o (place o rp l) (Live l) (Forked p (all_live ks)) t.root u.root replaced refl (place o rp s) m v.0 js w v.1 there)
+      on far false w = kept.running_children j d n s m js r h e (sym (same_aside o (place o rp l) (Live l) (Forked p (all_live ks)) t.root u.root replaced (place o rp s) w far) ∙ there)
 
-  going : (j d n : ℕ) (s m : S) (js : Nodes S) (r : Record) → Has states (map stands_of records) j d s (forks n) → slice_get records j ≡ Some r → at (place o rp s) u.root ≡ Some (Forked m js) → r.going ≡ going_of js
-  going j d n s m js r h e there = elim (has_forked.only j d s (forks n) h) [
+  running_children : (j d n : ℕ) (s m : S) (js : Nodes S) (r : Record) → Has states (map stands_of records) j d s (forks n) → slice_get records j ≡ Some r → at (place o rp s) u.root ≡ Some (Forked m js) → r.running_children ≡ running_of js
+  running_children j d n s m js r h e there = elim (has_forked.only j d s (forks n) h) [
     | inl w ↦
         let is : r ≡ its = some_same r its (sym e ∙ (ap (slice_get records) w.0 ∙ its_own)) in
         let now : at (place o rp s) u.root ≡ Some (Forked p (all_live ks)) = ap (λ z. at (place o rp z) u.root) w.1 ∙ (ap (λ z. at z u.root) same_place ∙ replaced.is) in
-        ap (λ (z : Record). z.going) is ∙ (forked.parent.going ∙ (sym ((counts_tell o).all_go ks) ∙ ap going_of (fork_parts o no_channel p m (all_live ks) js (sym now ∙ there)).1))
+        ap (λ (z : Record). z.running_children) is ∙ (forked.parent.running_children ∙ (sym ((counts_tell o).all_go ks) ∙ ap running_of (fork_parts o no_channel p m (all_live ks) js (sym now ∙ there)).1))
     | inr (inl w) ↦ lives_no_fork o n (forks n) w.3 refl
     | inr (inr w) ↦ fork_before j d n s m js r w.1 (sym (as_before j d s (forks n) w.1 w.0) ∙ e) there
   ]
@@ -212,10 +212,10 @@ module _ {S : Type 0} (o : Ops S) (law : LocalLaws o) (rp : Path) (t u : Tree S)
       let fit_was = fit j d s k q.0 h q.1 in
       record { path = sym (ap (λ (z : UncountedRecord). z.path) q.2) ∙ fit_was.path; near = fit_was.near; few = fit_was.few }
 
-  going_behind : (j d n : ℕ) (s m : S) (js : Nodes S) (r : Record) → Has states (map stands_of records) j d s (forks n) → slice_get behind.records j ≡ Some r → at (place o rp s) u.root ≡ Some (Forked m js) → r.going ≡ going_of js
+  going_behind : (j d n : ℕ) (s m : S) (js : Nodes S) (r : Record) → Has states (map stands_of records) j d s (forks n) → slice_get behind.records j ≡ Some r → at (place o rp s) u.root ≡ Some (Forked m js) → r.running_children ≡ running_of js
   going_behind j d n s m js r h e there =
       let q = was_record records behind.records j r rest e in
-      ap (λ (z : UncountedRecord). z.going) (sym q.2) ∙ going j d n s m js q.0 h q.1 there
+      ap (λ (z : UncountedRecord). z.running_children) (sym q.2) ∙ running_children j d n s m js q.0 h q.1 there
 
   -- ---- who shares a channel
 
@@ -227,7 +227,7 @@ module _ {S : Type 0} (o : Ops S) (law : LocalLaws o) (rp : Path) (t u : Tree S)
 
   known_before : (c : Channel) (j d n : ℕ) (s : S) (k : Sharing) (m : S) (js : Nodes S) → HasProcessState before j d s (forks n) → known_in c before.records j ≡ Some k → at (place o rp s) u.root ≡ Some (Forked m js) → Knows o c m js k
   known_before c j d n s k m js h e there = elim (aside_or_further (place o rp l) (place o rp s)) [
-    | inr w ↦ none_there o rp before.states (map stands_of before.records) t.root l n j d s w.0 kept.shows.agrees h (live_there o law rp before.states (map stands_of before.records) t x f l kept.shows has) w.1
+    | inr w ↦ none_there o rp before.states (map stands_of before.records) t.root l n j d s w.0 kept.represents.agrees h (live_there o law rp before.states (map stands_of before.records) t x f l kept.represents has) w.1
     | inl far ↦
         knows_aside o rp before t.root u.root kept x f l lives has (Live l) (Forked p (all_live ks)) replaced given c
         (λ out. acts_fewer o law (Live l) (record { node = Forked p (all_live ks); effects = nothing }) c (block.sound o law rp t before behind x g f l p ks kept has forked) (ap (act_live o l) stop ∙ ap (λ z. Some (record { node = parted z; effects = nothing })) parts) out) j d n s k m js h e far there
@@ -251,34 +251,34 @@ module _ {S : Type 0} (o : Ops S) (law : LocalLaws o) (rp : Path) (t u : Tree S)
       block_long g ks forked.born (slice_set before.states x p) (slice_set before.records x its) (sym forked.children.as_many) (length-set before.states x p ∙ (kept.beside ∙ sym (length-set before.records x its)))
       ∙ (sym (length-map records rest_of) ∙ (ap length (sym rest) ∙ length-map behind.records rest_of))
 
-  pub keeps : Keeps o rp (record { states = states; records = behind.records }) u.root
+  pub keeps : TableInvariant o rp (record { states = states; records = behind.records }) u.root
   keeps = record {
-    shows = subst (λ z. Shows o rp states z u.root) (sym same) shown;
+    represents = subst (λ z. Represents o rp states z u.root) (sym same) shown;
     linked = subst (λ z. AreLinked states z (up_in behind.records)) (sym same) (subst (AreLinked states (map stands_of records)) (sym (rest_ups records behind.records rest)) linked);
     few = subst (AreAtMost 4294967295 states) (sym same) few;
     ordered = kept_order records behind.records rest ordered;
     right = λ c. record {
       there = subst (λ z. HaveCounts o rp states z c (counts_in c behind.records) u.root) (sym same) (brought c).1;
       counts = subst (λ z. Tallied o rp states z c (counts_in c behind.records) u.root) (sym same) (brought c).0;
-      labels = subst (λ z. Labelled o rp states z c (counts_in c behind.records) (leasts_in c behind.records) u.root) (sym same) (labelled c);
+      labels = subst (λ z. Labelled o rp states z c (counts_in c behind.records) (min_labels_in c behind.records) u.root) (sym same) (labelled c);
     };
-    going = λ j d n s m js r h e there. going_behind j d n s m js r (subst (λ z. Has states z j d s (forks n)) same h) e there;
+    running_children = λ j d n s m js r h e there. going_behind j d n s m js r (subst (λ z. Has states z j d s (forks n)) same h) e there;
     known = λ c. subst (λ z. AreKnown o rp states z c (known_in c behind.records) u.root) (sym same) (known c);
     fit = λ j d s k r h e. fit_behind j d s k r (subst (λ z. Has states z j d s k) same h) e;
     beside = beside;
   }
 
-pub forks_move : {S : Type 0} (o : Ops S) → LocalLaws o → ForksMove o
-forks_move o law x g f l p ks before behind has stop parts forked rp t kept =
-    let next = can_step o law rp before.states (map stands_of before.records) t x f l kept.shows has (ap own_action_at stop) in (
+pub fork_preserves : {S : Type 0} (o : Ops S) → LocalLaws o → ForkPreserves o
+fork_preserves o law x g f l p ks before behind has stop parts forked rp t kept =
+    let next = can_step o law rp before.states (map stands_of before.records) t x f l kept.represents has (ap own_action_at stop) in (
       next.0,
       next.1,
-      subst (λ z. Keeps o rp (record { states = z; records = behind.records }) next.0.root) (sym forked.states) (keeps o law rp t next.0 before behind x g f l p ks kept has forked stop parts next.1),
+      subst (λ z. TableInvariant o rp (record { states = z; records = behind.records }) next.0.root) (sym forked.states) (keeps o law rp t next.0 before behind x g f l p ks kept has forked stop parts next.1),
     )
 
 -- what the states and records behind say
 pub forks_say : {S : Type 0} (o : Ops S) → LocalLaws o → (x g f : ℕ) (l p : S) (ks : List S) (before behind : TableView S) → HasProcessState before x f l lives → o.stop l ≡ AtFork → o.fork l ≡ Parted p ks → ForksAt o x g p ks before behind
-    → (rp : Path) (t : Tree S) → Keeps o rp before t.root → HasForked before.states behind.states (map stands_of before.records) (map stands_of behind.records) x g p ks
+    → (rp : Path) (t : Tree S) → TableInvariant o rp before t.root → HasForked before.states behind.states (map stands_of before.records) (map stands_of behind.records) x g p ks
 forks_say o law x g f l p ks before behind has stop parts forked rp t kept =
-    let next = can_step o law rp before.states (map stands_of before.records) t x f l kept.shows has (ap own_action_at stop) in
+    let next = can_step o law rp before.states (map stands_of before.records) t x f l kept.represents has (ap own_action_at stop) in
     says o law rp t next.0 before behind x g f l p ks kept has forked stop parts next.1

@@ -11,7 +11,7 @@ use Rattle.shim_semantics.specs.Trees.{Tree, Own, Steps, after, own_action_at}
 use Rattle.shim_semantics.proofs.Leading.{route_rest}
 use Rattle.shim_semantics.proofs.Replaced.{sound_at}
 use Rattle.shim_laws_table.specs.Seen.{lives, place}
-use Rattle.shim_laws_table.specs.Agrees.{RecordView, Has, Shows}
+use Rattle.shim_laws_table.specs.Agrees.{RecordView, Has, Represents}
 use Rattle.shim_laws_table.specs.Places.{IsReplaced}
 use Rattle.shim_laws_table.proofs.SameTrees.{seen_live}
 use Rattle.shim_laws_table.proofs.EventPlaces.{events_show}
@@ -21,20 +21,20 @@ some_of : {A : Type 0} (x : Option A) → x ≢ None → (y : A) × (x ≡ Some 
 some_of None h = absurd (h refl)
 some_of (Some y) h = (y, refl)
 
-module _ {S : Type 0} (o : Ops S) (law : LocalLaws o) (rp : Path) (states : List S) (stands : List RecordView) (t : Tree S) (x f : ℕ) (l : S) (shows : Shows o rp states stands t.root) (has : Has states stands x f l lives) where
+module _ {S : Type 0} (o : Ops S) (law : LocalLaws o) (rp : Path) (states : List S) (stands : List RecordView) (t : Tree S) (x f : ℕ) (l : S) (represents : Represents o rp states stands t.root) (has : Has states stands x f l lives) where
   pub live_there : at (place o rp l) t.root ≡ Some (Live l)
-  live_there = seen_live (at (place o rp l) t.root) l (shows.agrees.shown x f l lives has)
+  live_there = seen_live (at (place o rp l) t.root) l (represents.agrees.shown x f l lives has)
 
   pub is_sound : o.sound l
-  is_sound = sound_at o (place o rp l) t.root (Live l) shows.sound.below live_there
+  is_sound = sound_at o (place o rp l) t.root (Live l) represents.sound.below live_there
 
   pub can_step : own_action_at (o.stop l) ≡ Steps → (u : Tree S) × (after o (Own (o.path l)) t ≡ Some u)
-  can_step e = some_of (after o (Own (o.path l)) t) (((enabled_by_records o law).steps rp states stands t x f l shows has).1 e)
+  can_step e = some_of (after o (Own (o.path l)) t) (((enabled_by_records o law).steps rp states stands t x f l represents has).1 e)
 
   pub own_replaced : (u : Tree S) (a : Acted S) → after o (Own (o.path l)) t ≡ Some u → act_live o l (o.stop l) ≡ Some a → IsReplaced (place o rp l) (Live l) a.node t.root u.root
   own_replaced u a happens act =
       let h = (events_show o law).alone t u (o.path l) (Own (o.path l)) refl happens in
-      let r = route_rest rp (o.path l) h.place (ap (λ z. route z (o.path l)) (sym shows.root_path) ∙ h.leads) in
+      let r = route_rest rp (o.path l) h.place (ap (λ z. route z (o.path l)) (sym represents.root_path) ∙ h.leads) in
       let node : h.node ≡ Live l = some_same h.node (Live l) (sym h.replaced.was ∙ (ap (λ z. at z t.root) r.1 ∙ live_there)) in
       let same : h.acted ≡ a = some_same h.acted a (sym h.acts ∙ (ap (act_here o) node ∙ act)) in
       record {

@@ -8,17 +8,17 @@ use Rattle.shim_base.specs.PathLaws.{channel_ties}
 use Rattle.shim_base.proofs.Facts.{some_same, none_some}
 use Rattle.shim_base.proofs.SamePaths.{same_channel_is, same_channel_refl}
 use Rattle.shim_semantics.proofs.HowMany.{clash}
-use Rattle.shim_laws_table.specs.Counts.{Tally, Reading as Read, all_there}
+use Rattle.shim_laws_table.specs.Counts.{Tally, ChildStatus as Read, tally_ready}
 use Rattle.shim_records.specs.Members.{IsAmong}
-use Rattle.shim_records.specs.Pairs.{tally, chans_of, pair_of, tally_for, leasts_in, IsOrdered}
-use Rattle.shim_records.specs.AllWays.{AllUpdatedAbove, none_left as no_way, one_more as one_way}
+use Rattle.shim_records.specs.Pairs.{tally, chans_of, pair_of, tally_for, min_labels_in, IsOrdered}
+use Rattle.shim_records.specs.UpdatesAbove.{AllUpdatedAbove, none_left as no_way, one_more as one_way}
 use Rattle.shim_records.specs.declared.pair.Pair.{Pair}
 use Rattle.shim_records.specs.declared.record.Record.{Record}
 use Rattle.shim_laws_table_events.specs.forks.Forking.{ready_chans, EachUpdatedAbove, none_left, one_more}
 
 -- what is read of a process that shares a channel, and isn't ready on it, or is
-abbrev pub joining : Bool → Channel → Read
-joining b c = record { joining = true; readiness = b; failing = false }
+abbrev pub alive : Bool → Channel → Read
+alive b c = record { alive = true; ready_on = b; dead_on = false }
 
 -- none of these stands there twice
 abbrev pub Once : List Channel → Type 0
@@ -28,12 +28,12 @@ Once (c ∷ cs) = (IsAmong c cs → ⊥) × Once cs
 -- ---- the ways
 
 module _ (n x : ℕ) where
-  pub all_ways : {cs : List Channel} {rs behind : List Record} → Once cs → EachUpdatedAbove n x cs rs behind → AllUpdatedAbove (joining false) (joining true) n x cs rs behind
+  pub all_ways : {cs : List Channel} {rs behind : List Record} → Once cs → EachUpdatedAbove n x cs rs behind → AllUpdatedAbove (alive false) (alive true) n x cs rs behind
   all_ways once (none_left rs) = no_way rs
   all_ways once (one_more c cs was is before between behind u v way more) = one_way c cs was is before between behind once.0 u v way (all_ways once.1 more)
 
   -- no label has changed
-  pub labels_same : {cs : List Channel} {rs behind : List Record} (c : Channel) → EachUpdatedAbove n x cs rs behind → leasts_in c behind ≡ leasts_in c rs
+  pub labels_same : {cs : List Channel} {rs behind : List Record} (c : Channel) → EachUpdatedAbove n x cs rs behind → min_labels_in c behind ≡ min_labels_in c rs
   labels_same c (none_left rs) = refl
   labels_same c (one_more d cs was is before between behind u v way more) = labels_same c more ∙ (λ t i. way.1.labels c i t)
 
@@ -43,15 +43,15 @@ abbrev at_tail : Channel → Pair → List Pair → Bool → List Channel
 at_tail c p ps b = cond b (p.chan.channel ∷ ready_chans ps) (ready_chans ps)
 
 -- the pair of one of them
-pub ready_pair : (c : Channel) (ps : List Pair) → IsAmong c (ready_chans ps) → (i : ℕ) × (p : Pair) × (slice_get ps i ≡ Some p) × (p.chan.channel ≡ c) × (all_there (tally p) ≡ true)
+pub ready_pair : (c : Channel) (ps : List Pair) → IsAmong c (ready_chans ps) → (i : ℕ) × (p : Pair) × (slice_get ps i ≡ Some p) × (p.chan.channel ≡ c) × (tally_ready (tally p) ≡ true)
 ready_pair c [] (i, e) = none_some c e
-ready_pair c (p ∷ ps) (i, e) = on (all_there (tally p)) refl i e (λ h. ready_pair c ps h)
+ready_pair c (p ∷ ps) (i, e) = on (tally_ready (tally p)) refl i e (λ h. ready_pair c ps h)
   where
-    later : (j : ℕ) × (q : Pair) × (slice_get ps j ≡ Some q) × (q.chan.channel ≡ c) × (all_there (tally q) ≡ true) → (j : ℕ) × (q : Pair) × (slice_get (p ∷ ps) j ≡ Some q) × (q.chan.channel ≡ c) × (all_there (tally q) ≡ true)
+    later : (j : ℕ) × (q : Pair) × (slice_get ps j ≡ Some q) × (q.chan.channel ≡ c) × (tally_ready (tally q) ≡ true) → (j : ℕ) × (q : Pair) × (slice_get (p ∷ ps) j ≡ Some q) × (q.chan.channel ≡ c) × (tally_ready (tally q) ≡ true)
     later w = (suc w.0, w.1, w.2, w.3, w.4)
 
-    on : (b : Bool) → all_there (tally p) ≡ b → (i : ℕ) → slice_get (at_tail c p ps b) i ≡ Some c → (IsAmong c (ready_chans ps) → (j : ℕ) × (q : Pair) × (slice_get ps j ≡ Some q) × (q.chan.channel ≡ c) × (all_there (tally q) ≡ true))
-        → (j : ℕ) × (q : Pair) × (slice_get (p ∷ ps) j ≡ Some q) × (q.chan.channel ≡ c) × (all_there (tally q) ≡ true)
+    on : (b : Bool) → tally_ready (tally p) ≡ b → (i : ℕ) → slice_get (at_tail c p ps b) i ≡ Some c → (IsAmong c (ready_chans ps) → (j : ℕ) × (q : Pair) × (slice_get ps j ≡ Some q) × (q.chan.channel ≡ c) × (tally_ready (tally q) ≡ true))
+        → (j : ℕ) × (q : Pair) × (slice_get (p ∷ ps) j ≡ Some q) × (q.chan.channel ≡ c) × (tally_ready (tally q) ≡ true)
     on true w zero e h = (0, p, refl, some_same p.chan.channel c e, w)
     on true w (suc i) e h = later (h (i, e))
     on false w i e h = later (h (i, e))
@@ -80,7 +80,7 @@ found_pair c (q ∷ ps) (suc i) p h e is =
 
 pub ready_once : (ps : List Pair) → IsOrdered (chans_of ps) → Once (ready_chans ps)
 ready_once [] h = tt
-ready_once (p ∷ ps) h = on (all_there (tally p)) (ready_once ps (tail_order p.chan.channel (chans_of ps) h))
+ready_once (p ∷ ps) h = on (tally_ready (tally p)) (ready_once ps (tail_order p.chan.channel (chans_of ps) h))
   where
     not_behind : IsAmong p.chan.channel (ready_chans ps) → ⊥
     not_behind g =
@@ -92,16 +92,16 @@ ready_once (p ∷ ps) h = on (all_there (tally p)) (ready_once ps (tail_order p.
     on false once = once
 
 -- a channel is one of them where its pair says so
-pub is_ready : (c : Channel) (ps : List Pair) (y : Tally) → tally_for c ps ≡ Some y → all_there y ≡ true → IsAmong c (ready_chans ps)
+pub is_ready : (c : Channel) (ps : List Pair) (y : Tally) → tally_for c ps ≡ Some y → tally_ready y ≡ true → IsAmong c (ready_chans ps)
 is_ready c [] y e w = none_some y e
-is_ready c (p ∷ ps) y e w = on (same_channel p.chan.channel c) refl e (λ h. behind (all_there (tally p)) (is_ready c ps y h w))
+is_ready c (p ∷ ps) y e w = on (same_channel p.chan.channel c) refl e (λ h. behind (tally_ready (tally p)) (is_ready c ps y h w))
   where
     behind : (b : Bool) → IsAmong c (ready_chans ps) → IsAmong c (at_tail c p ps b)
     behind true g = (suc g.0, g.1)
     behind false g = g
 
-    on : (b : Bool) → same_channel p.chan.channel c ≡ b → option_map tally (cond b (Some p) (pair_of c ps)) ≡ Some y → (tally_for c ps ≡ Some y → IsAmong c (at_tail c p ps (all_there (tally p)))) → IsAmong c (at_tail c p ps (all_there (tally p)))
+    on : (b : Bool) → same_channel p.chan.channel c ≡ b → option_map tally (cond b (Some p) (pair_of c ps)) ≡ Some y → (tally_for c ps ≡ Some y → IsAmong c (at_tail c p ps (tally_ready (tally p)))) → IsAmong c (at_tail c p ps (tally_ready (tally p)))
     on true s f h =
-        let its : all_there (tally p) ≡ true = ap all_there (some_same (tally p) y f) ∙ w in
+        let its : tally_ready (tally p) ≡ true = ap tally_ready (some_same (tally p) y f) ∙ w in
         subst (λ b. IsAmong c (at_tail c p ps b)) (sym its) (0, ap Some (same_channel_is p.chan.channel c s))
     on false s f h = h f

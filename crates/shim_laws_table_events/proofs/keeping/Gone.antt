@@ -13,44 +13,44 @@ use Rattle.shim_semantics.proofs.HowMany.{clash}
 use Rattle.shim_semantics.proofs.Replaced.{sound_at}
 use Rattle.shim_semantics.proofs.ReplacedNodes.{put, put_child}
 use Rattle.shim_laws_table.specs.Seen.{ProcessStatus, lives, forks, process_status, is_leaf, place, IsAside}
-use Rattle.shim_laws_table.specs.Agrees.{RecordView, used, Has, Shows}
+use Rattle.shim_laws_table.specs.Agrees.{RecordView, used, Has, Represents}
 use Rattle.shim_laws_table.specs.Places.{IsReplaced}
 use Rattle.shim_laws_table.specs.Changes.{HasChanged}
-use Rattle.shim_laws_table.specs.Counts.{Reading as Read, going_of, bit}
+use Rattle.shim_laws_table.specs.Counts.{ChildStatus as Read, running_of, bit}
 use Rattle.shim_laws_table.specs.Tallied.{Tallied, OnTheWay, HaveCounts, is_above}
 use Rattle.shim_laws_table.specs.Updating.{AreLinked, AreAtMost}
-use Rattle.shim_laws_table.specs.Dooms.{least, least_among}
+use Rattle.shim_laws_table.specs.Dooms.{min_dead_label, min_dead_label_among}
 use Rattle.shim_laws_table.specs.LoweredLabels.{Labelled, LabelsOnTheWay, LoweredAbove}
 use Rattle.shim_laws_table.proofs.Aside.{at_split}
 use Rattle.shim_laws_table.proofs.SameTrees.{same_or_not, no_fork, aside_or_further, is_put}
 use Rattle.shim_laws_table.proofs.OneChange.{one_state, one_sort}
 use Rattle.shim_laws_table.proofs.Way.{Above, way_from, fork_above, with_split, leaf_no_fork}
 use Rattle.shim_laws_table.proofs.Begun.{counts_begin, fork_parts}
-use Rattle.shim_laws_table.proofs.Linked.{links_follow, going_follow}
+use Rattle.shim_laws_table.proofs.Linked.{links_follow, running_follow}
 use Rattle.shim_laws_table.proofs.Hanging.{tied, topmost, Below}
 use Rattle.shim_laws_table.proofs.LabelsBegun.{labels_begin}
-use Rattle.shim_laws_table.proofs.Leasts.{leasts_follow}
+use Rattle.shim_laws_table.proofs.MinLabels.{min_labels_follow}
 use Rattle.shim_laws_table.proofs.LabelsLowering.{labels_lowered, not_above_root}
 use Rattle.shim_laws_table.proofs.Suffices.{given_suffice}
-use Rattle.shim_records.specs.Pairs.{stands_of, up_in, up_at, counts_in, counts_at, leasts_in, least_at, known_in, rest_of, chans_of, IsOrdered, AreOrdered}
+use Rattle.shim_records.specs.Pairs.{stands_of, up_in, up_at, counts_in, counts_at, min_labels_in, min_label_at, known_in, rest_of, chans_of, IsOrdered, AreOrdered}
 use Rattle.shim_records.specs.Acted.{process_status_of}
-use Rattle.shim_records.specs.AllWays.{AllUpdatedAbove, none_left, one_more}
+use Rattle.shim_records.specs.UpdatesAbove.{AllUpdatedAbove, none_left, one_more}
 use Rattle.shim_records.specs.Died.{IsTaken}
-use Rattle.shim_records.specs.Leaving.{HasLeft, alone, lost, below}
+use Rattle.shim_records.specs.CountingOff.{HasCountedOff, alone, lost, below}
 use Rattle.shim_records.specs.declared.record.Record.{Record}
 use Rattle.shim_records.specs.declared.record.Status.{Status}
 use Rattle.shim_records.specs.declared.record.Status.TheVariants as code
 use Rattle.shim_records.proofs.Stepping.{set_there, set_elsewhere, map_set}
-use Rattle.shim_records.proofs.Showing.{map_get}
+use Rattle.shim_records.proofs.Representing.{map_get}
 use Rattle.shim_records.proofs.ReadOff.{same_stands}
-use Rattle.shim_records.proofs.WholeWay.{rest_ups}
-use Rattle.shim_records.proofs.ManyWays.{among_or_not}
+use Rattle.shim_records.proofs.FullPropagation.{rest_ups}
+use Rattle.shim_records.proofs.ManyPropagations.{among_or_not}
 use Rattle.shim_records.proofs.AllLowered as labels_above
-use Rattle.shim_records.proofs.Acting.{acted_brings}
+use Rattle.shim_records.proofs.Acting.{step_updates_counts}
 use Rattle.shim_records.proofs.SharingFound.{knowledge, same_known}
-use Rattle.shim_laws_table_events.specs.keeping.Tables.{IsFit, Keeps}
+use Rattle.shim_laws_table_events.specs.keeping.Tables.{IsFit, TableInvariant}
 use Rattle.shim_laws_table_events.specs.keeping.Knowing.{AreKnown}
-use Rattle.shim_laws_table_events.specs.keeping.Acting.{left_by, marked, TakesIn, Leaves, LeavesKeep}
+use Rattle.shim_laws_table_events.specs.keeping.Acting.{left_by, marked, TakesIn, Terminates, ExitPreserves}
 use Rattle.shim_laws_table_events.proofs.keeping.Forks.{Was, carried}
 use Rattle.shim_laws_table_events.proofs.keeping.Knowing.{known_on, acts_fewer}
 use Rattle.shim_laws_table_events.proofs.keeping.Moved.{map_length}
@@ -92,7 +92,7 @@ module _ {S : Type 0} (o : Ops S) (q : List ℕ) (m a old new : Node S) (rep : I
   ]
     where
       on : IsAside r q → (b : Bool) → is_above r q ≡ b → Was o q m a old new rep leaf F r l ks
-      on far false u = record { children = ks; there = sym ((leasts_follow o).aside old new m a q r rep u far) ∙ there; same = refl }
+      on far false u = record { children = ks; there = sym ((min_labels_follow o).aside old new m a q r rep u far) ∙ there; same = refl }
       on far true u =
           let y = way_from r q u in
           let v = fork_above r y.branch y.rest old m (ap (λ z. at z old) (sym y.is) ∙ rep.was) in
@@ -103,12 +103,12 @@ module _ {S : Type 0} (o : Ops S) (q : List ℕ) (m a old new : Node S) (rep : I
           record { children = v.children; there = was; same = stays v.children ks u was there }
 
 -- the ways up change no labels
-updated_labels : {was is : Channel → Read} {n x : ℕ} {cs : List Channel} {rs behind : List Record} (c : Channel) (i : ℕ) → AllUpdatedAbove was is n x cs rs behind → leasts_in c behind i ≡ leasts_in c rs i
+updated_labels : {was is : Channel → Read} {n x : ℕ} {cs : List Channel} {rs behind : List Record} (c : Channel) (i : ℕ) → AllUpdatedAbove was is n x cs rs behind → min_labels_in c behind i ≡ min_labels_in c rs i
 updated_labels c i (none_left rs) = refl
 updated_labels c i (one_more d cs read reads before between behind once v u way more) = updated_labels c i more ∙ way.1.labels c i
 
 module _ {S : Type 0} (o : Ops S) (law : LocalLaws o) (rp : Path) (states : List S) (rs behind : List Record) (old new : Node S) (l : S) (k : Status) (effects : Effects) (x f : ℕ)
-    (kept : Keeps o rp (record { states = states; records = rs }) old) (has : Has states (map stands_of rs) x f l lives) (leaves : Leaves o l k 4294967295 x rs behind) (gone : goes (left_by l k) ≡ false)
+    (kept : TableInvariant o rp (record { states = states; records = rs }) old) (has : Has states (map stands_of rs) x f l lives) (leaves : Terminates o l k 4294967295 x rs behind) (gone : goes (left_by l k) ≡ false)
     (acts : act_live o l (o.stop l) ≡ Some (record { node = left_by l k; effects = effects })) where
   abbrev a : Acted S
   a = record { node = left_by l k; effects = effects }
@@ -135,7 +135,7 @@ module _ {S : Type 0} (o : Ops S) (law : LocalLaws o) (rp : Path) (states : List
   change : HasChanged states states st st' x (state (left_by l k)) (process_status (left_by l k))
   change = marks.change o states rs behind l k x f has leaves gone
 
-  module _ (shown : Shows o rp states st' new) (rep : IsReplaced (place o rp l) (Live l) (left_by l k) old new) where
+  module _ (shown : Represents o rp states st' new) (rep : IsReplaced (place o rp l) (Live l) (left_by l k) old new) where
     -- a fork was one before
     was_fork : (j d n : ℕ) (t : S) → Has states st' j d t (forks n) → (j ≢ x) × Has states st j d t (forks n)
     was_fork j d n t h = elim (same_or_not j x) [
@@ -152,8 +152,8 @@ module _ {S : Type 0} (o : Ops S) (law : LocalLaws o) (rp : Path) (states : List
     marked_counts : (c : Channel) → counts_in c ms ≡ counts_in c rs
     marked_counts c = λ t i. at_set (counts_at c) rs x was (marked k was) leaves.there refl i t
 
-    marked_labels : (c : Channel) → leasts_in c ms ≡ leasts_in c rs
-    marked_labels c = λ t i. at_set (least_at c) rs x was (marked k was) leaves.there refl i t
+    marked_labels : (c : Channel) → min_labels_in c ms ≡ min_labels_in c rs
+    marked_labels c = λ t i. at_set (min_label_at c) rs x was (marked k was) leaves.there refl i t
 
     linked : AreLinked states st' (up_in ms)
     linked = subst (AreLinked states st') (sym marked_ups) ((links_follow o).changed states states st st' x (left_by l k) (up_in rs) (left_leaf l k) change kept.linked)
@@ -172,34 +172,34 @@ module _ {S : Type 0} (o : Ops S) (law : LocalLaws o) (rp : Path) (states : List
 
     -- ---- labels
 
-    labels_way : (c : Channel) → LabelsOnTheWay o rp states st' c (counts_in c ms) (leasts_in c ms) old new (place o rp l)
+    labels_way : (c : Channel) → LabelsOnTheWay o rp states st' c (counts_in c ms) (min_labels_in c ms) old new (place o rp l)
     labels_way c =
-        subst (λ z. LabelsOnTheWay o rp states st' c z (leasts_in c ms) old new (place o rp l)) (sym (marked_counts c))
+        subst (λ z. LabelsOnTheWay o rp states st' c z (min_labels_in c ms) old new (place o rp l)) (sym (marked_counts c))
         (subst (λ z. LabelsOnTheWay o rp states st' c (counts_in c rs) z old new (place o rp l)) (sym (marked_labels c))
-        ((labels_begin o).changed rp states states st st' c old new (Live l) (left_by l k) x (counts_in c rs) (leasts_in c rs) rep (left_leaf l k) change (kept.right c).labels))
+        ((labels_begin o).changed rp states states st st' c old new (Live l) (left_by l k) x (counts_in c rs) (min_labels_in c rs) rep (left_leaf l k) change (kept.right c).labels))
 
     -- an end leaves them
-    as_before : (c : Channel) → least o c (left_by l k) ≡ None → Labelled o rp states st' c (counts_in c ms) (leasts_in c ms) new
+    as_before : (c : Channel) → min_dead_label o c (left_by l k) ≡ None → Labelled o rp states st' c (counts_in c ms) (min_labels_in c ms) new
     as_before c none j d n t u ks fork counted now =
-        let w = carried o (place o rp l) (Live l) (left_by l k) old new rep (left_leaf l k) (least_among o c) (λ r v is js above was is'. (leasts_follow o).stays c old new (Live l) (left_by l k) (place o rp l) r v is js rep none above was is') (place o rp t) u ks now in
+        let w = carried o (place o rp l) (Live l) (left_by l k) old new rep (left_leaf l k) (min_dead_label_among o c) (λ r v is js above was is'. (min_labels_follow o).stays c old new (Live l) (left_by l k) (place o rp l) r v is js rep none above was is') (place o rp t) u ks now in
         ap (λ z. z j) (marked_labels c) ∙ ((kept.right c).labels j d n t u w.children (was_fork j d n t fork).1 (λ e. counted (ap (λ z. z j) (marked_counts c) ∙ e)) w.there ∙ sym w.same)
 
     -- a death brings its own, wherever it is shared
-    with_death : (c : Channel) (y : ℕ) → least o c (left_by l k) ≡ cond (o.shares l c) (Some y) None → IsTaken o l y 4294967295 x ms leaves.labelled → Labelled o rp states st' c (counts_in c ms) (leasts_in c leaves.labelled) new
+    with_death : (c : Channel) (y : ℕ) → min_dead_label o c (left_by l k) ≡ cond (o.shares l c) (Some y) None → IsTaken o l y 4294967295 x ms leaves.labelled → Labelled o rp states st' c (counts_in c ms) (min_labels_in c leaves.labelled) new
     with_death c y is taken = elim (among_or_not c taken.chans) [
       | inl g ↦
-          let label : Some y ≡ least o c (left_by l k) = sym (is ∙ ap (λ z. cond z (Some y) None) (taken.shared c g)) in
-          labels_lowered o law rp states st' (up_in ms) c old new (Live l) (left_by l k) 4294967295 x was.first l (process_status_of k) (counts_in c ms) (leasts_in c ms) (leasts_in c leaves.labelled) shown linked mine rep refl (taken.shared c g) (have c) near (labels_way c)
-          (subst (λ z. LoweredAbove (up_in ms) (counts_in c ms) z 4294967295 (leasts_in c ms) x (leasts_in c leaves.labelled)) label (labels_above.its_way y 4294967295 x c taken.is_lowered g).way)
+          let label : Some y ≡ min_dead_label o c (left_by l k) = sym (is ∙ ap (λ z. cond z (Some y) None) (taken.shared c g)) in
+          labels_lowered o law rp states st' (up_in ms) c old new (Live l) (left_by l k) 4294967295 x was.first l (process_status_of k) (counts_in c ms) (min_labels_in c ms) (min_labels_in c leaves.labelled) shown linked mine rep refl (taken.shared c g) (have c) near (labels_way c)
+          (subst (λ z. LoweredAbove (up_in ms) (counts_in c ms) z 4294967295 (min_labels_in c ms) x (min_labels_in c leaves.labelled)) label (labels_above.its_way y 4294967295 x c taken.is_lowered g).way)
       | inr out ↦ subst (λ z. Labelled o rp states st' c (counts_in c ms) z new) (sym (labels_above.others y 4294967295 x c taken.is_lowered out))
-          ((given_suffice o law).labels rp states st' c old new (Live l) a x was.first l (process_status_of k) (counts_in c ms) (leasts_in c ms) kept.shows.sound shown mine rep acts (λ given shares. out (taken.all c given shares)) (have c) (labels_way c))
+          ((given_suffice o law).labels rp states st' c old new (Live l) a x was.first l (process_status_of k) (counts_in c ms) (min_labels_in c ms) kept.represents.sound shown mine rep acts (λ given shares. out (taken.all c given shares)) (have c) (labels_way c))
     ]
 
     -- what was done to the labels, by what came of the process
     pub record HasTaken : Type 0 where
       pub rest : map rest_of leaves.labelled ≡ map rest_of ms
       pub counts : (c : Channel) → counts_in c leaves.labelled ≡ counts_in c ms
-      pub labels : (c : Channel) → Labelled o rp states st' c (counts_in c ms) (leasts_in c leaves.labelled) new
+      pub labels : (c : Channel) → Labelled o rp states st' c (counts_in c ms) (min_labels_in c leaves.labelled) new
 
     taken : HasTaken
     taken = on k refl leaves.takes
@@ -211,12 +211,12 @@ module _ {S : Type 0} (o : Ops S) (law : LocalLaws o) (rp : Path) (states : List
         on code.Ended e same = record {
           rest = ap (map rest_of) same;
           counts = λ c. ap (counts_in c) same;
-          labels = λ c. subst (λ z. Labelled o rp states st' c (counts_in c ms) (leasts_in c z) new) (sym same) (as_before c (ap (λ z. least o c (left_by l z)) (sym e)));
+          labels = λ c. subst (λ z. Labelled o rp states st' c (counts_in c ms) (min_labels_in c z) new) (sym same) (as_before c (ap (λ z. min_dead_label o c (left_by l z)) (sym e)));
         }
         on (code.Dead y) e t = record {
           rest = labels_above.rest_same y.label 4294967295 x t.is_lowered;
           counts = λ c i j. labels_above.counts_same y.label 4294967295 x c j t.is_lowered i;
-          labels = λ c. with_death c y.label (ap (λ z. least o c (left_by l z)) (sym e)) t;
+          labels = λ c. with_death c y.label (ap (λ z. min_dead_label o c (left_by l z)) (sym e)) t;
         }
         on code.Free e same = lives_still code.Free e refl
         on code.Live e same = lives_still code.Live e refl
@@ -233,7 +233,7 @@ module _ {S : Type 0} (o : Ops S) (law : LocalLaws o) (rp : Path) (states : List
     brought : (map rest_of leaves.counted ≡ map rest_of leaves.labelled)
         × ((c : Channel) → Tallied o rp states (map stands_of leaves.counted) c (counts_in c leaves.counted) new × HaveCounts o rp states (map stands_of leaves.counted) c (counts_in c leaves.counted) new)
     brought =
-        acted_brings o law rp states leaves.labelled leaves.counted old new (Live l) a 4294967295 x was.first l (process_status_of k) kept.shows.sound (subst (λ z. Shows o rp states z new) (sym stands_labelled) shown)
+        step_updates_counts o law rp states leaves.labelled leaves.counted old new (Live l) a 4294967295 x was.first l (process_status_of k) kept.represents.sound (subst (λ z. Represents o rp states z new) (sym stands_labelled) shown)
         (subst (λ z. AreLinked states z (up_in leaves.labelled)) (sym stands_labelled) (subst (AreLinked states st') (sym ups_labelled) linked)) (subst (AreAtMost 4294967295 states) (sym stands_labelled) few)
         (subst (λ z. Has states z x was.first l (process_status_of k)) (sym stands_labelled) mine) rep acts (left_leaf l k) near
         (λ c. subst (λ z. HaveCounts o rp states z c (counts_in c leaves.labelled) new) (sym stands_labelled) (subst (λ z. HaveCounts o rp states st' c z new) (sym (taken.counts c)) (have c)))
@@ -263,10 +263,10 @@ module _ {S : Type 0} (o : Ops S) (law : LocalLaws o) (rp : Path) (states : List
         subst (λ z. Tallied o rp states z c (counts_in c behind) new) (sym (left_stands x leaves.counted behind leaves.left))
         (subst (λ z. Tallied o rp states (map stands_of leaves.counted) c z new) (sym (left_counts x leaves.counted behind c leaves.left)) (brought.1 c).0)
 
-    labels_end : (c : Channel) (j : ℕ) → leasts_in c behind j ≡ leasts_in c leaves.labelled j
+    labels_end : (c : Channel) (j : ℕ) → min_labels_in c behind j ≡ min_labels_in c leaves.labelled j
     labels_end c j = ap (λ z. z j) (left_labels x leaves.counted behind c leaves.left) ∙ updated_labels c j leaves.updated.updated
 
-    labelled_end : (c : Channel) → Labelled o rp states (map stands_of behind) c (counts_in c behind) (leasts_in c behind) new
+    labelled_end : (c : Channel) → Labelled o rp states (map stands_of behind) c (counts_in c behind) (min_labels_in c behind) new
     labelled_end c j d n t u ks fork counted now =
         let fork' = subst (λ z. Has states z j d t (forks n)) stands_end fork in
         labels_end c j ∙ taken.labels c j d n t u ks fork' ((have c j d n t u ks fork' now).1 ((have_end c j d n t u ks fork now).0 counted)) now
@@ -281,8 +281,8 @@ module _ {S : Type 0} (o : Ops S) (law : LocalLaws o) (rp : Path) (states : List
         all_say x leaves.counted behind (λ r. chans_of r.pairs.items) (λ r. refl) leaves.left
         ∙ (same_rest (λ z. z.chans) leaves.labelled leaves.counted brought.0 ∙ (same_rest (λ z. z.chans) ms leaves.labelled taken.rest ∙ map_set (λ r. chans_of r.pairs.items) rs x was (marked k was) leaves.there refl))
 
-    goings : map (λ (r : Record). r.going) leaves.counted ≡ map (λ (r : Record). r.going) rs
-    goings = same_rest (λ z. z.going) leaves.labelled leaves.counted brought.0 ∙ (same_rest (λ z. z.going) ms leaves.labelled taken.rest ∙ map_set (λ r. r.going) rs x was (marked k was) leaves.there refl)
+    goings : map (λ (r : Record). r.running_children) leaves.counted ≡ map (λ (r : Record). r.running_children) rs
+    goings = same_rest (λ z. z.running_children) leaves.labelled leaves.counted brought.0 ∙ (same_rest (λ z. z.running_children) ms leaves.labelled taken.rest ∙ map_set (λ r. r.running_children) rs x was (marked k was) leaves.there refl)
 
     knowing : map knowledge behind ≡ map knowledge rs
     knowing =
@@ -295,7 +295,7 @@ module _ {S : Type 0} (o : Ops S) (law : LocalLaws o) (rp : Path) (states : List
         (λ j d n t h. (was_fork j d n t h).1) (λ j d n t h. same_known rs behind knowing c j)
       where
         sound : o.sound l
-        sound = sound_at o (place o rp l) old (Live l) kept.shows.sound.below rep.was
+        sound = sound_at o (place o rp l) old (Live l) kept.represents.sound.below rep.was
 
     ordered : AreOrdered behind
     ordered i r e = let w = found (λ (r : Record). chans_of r.pairs.items) rs behind i r chans e in subst IsOrdered w.2 (kept.ordered i w.0 w.1)
@@ -317,16 +317,16 @@ module _ {S : Type 0} (o : Ops S) (law : LocalLaws o) (rp : Path) (states : List
       it_was : Has states st j d t (forks n)
       it_was = (was_fork j d n t fork).1
 
-      stays_going : slice_get leaves.counted j ≡ Some r → ((is js : Nodes S) → is_above (place o rp t) (place o rp l) ≡ true → at (place o rp t) old ≡ Some (Forked u is) → at (place o rp t) new ≡ Some (Forked u js) → going_of js ≡ going_of is) → r.going ≡ going_of ks
+      stays_going : slice_get leaves.counted j ≡ Some r → ((is js : Nodes S) → is_above (place o rp t) (place o rp l) ≡ true → at (place o rp t) old ≡ Some (Forked u is) → at (place o rp t) new ≡ Some (Forked u js) → running_of js ≡ running_of is) → r.running_children ≡ running_of ks
       stays_going there as_many =
-          let w = found (λ (r : Record). r.going) rs leaves.counted j r goings there in
-          let b = carried_at o (place o rp l) (Live l) (left_by l k) old new rep (left_leaf l k) going_of (place o rp t) u ks as_many now in
-          sym w.2 ∙ (kept.going j d n t u b.children w.0 it_was w.1 b.there ∙ sym b.same)
+          let w = found (λ (r : Record). r.running_children) rs leaves.counted j r goings there in
+          let b = carried_at o (place o rp l) (Live l) (left_by l k) old new rep (left_leaf l k) running_of (place o rp t) u ks as_many now in
+          sym w.2 ∙ (kept.running_children j d n t u b.children w.0 it_was w.1 b.there ∙ sym b.same)
 
-      going : r.going ≡ going_of ks
-      going = on leaves.left
+      running_children : r.running_children ≡ running_of ks
+      running_children = on leaves.left
         where
-          on : HasLeft x leaves.counted behind → r.going ≡ going_of ks
+          on : HasCountedOff x leaves.counted behind → r.running_children ≡ running_of ks
           on (alone none same) =
               let top = topmost o rp states st' new shown (up_in ms) linked x was.first l (process_status_of k) mine (ap (λ z. z x) (sym ups_counted) ∙ none) in
               stays_going (ap (λ z. slice_get z j) (sym same) ∙ e)
@@ -342,47 +342,47 @@ module _ {S : Type 0} (o : Ops S) (law : LocalLaws o) (rp : Path) (states : List
                 | inr v ↦ stays_going (sym (set_elsewhere leaves.counted i j (less_going above_it) v) ∙ (ap (λ z. slice_get z j) (sym same) ∙ e)) (λ is js above was' is'. further b.0 (λ w. v (w ∙ b.1)) is js (way_from (place o rp t) (place o rp l) above) was' is')
               ]
             where
-              right_above : (b : Below o rp states st' new shown x was.first l (process_status_of k)) → b.number ≡ j → (i : ℕ) (above_it : Record) → j ≡ i → slice_get leaves.counted i ≡ Some above_it → behind ≡ slice_set leaves.counted i (less_going above_it) → r.going ≡ going_of ks
+              right_above : (b : Below o rp states st' new shown x was.first l (process_status_of k)) → b.number ≡ j → (i : ℕ) (above_it : Record) → j ≡ i → slice_get leaves.counted i ≡ Some above_it → behind ≡ slice_set leaves.counted i (less_going above_it) → r.running_children ≡ running_of ks
               right_above b at_j i above_it v there same =
-                  let w = found (λ (r : Record). r.going) rs leaves.counted i above_it goings there in
+                  let w = found (λ (r : Record). r.running_children) rs leaves.counted i above_it goings there in
                   let lessened : r ≡ less_going above_it = some_same r (less_going above_it) (sym e ∙ (ap (λ z. slice_get z j) same ∙ (ap (slice_get (slice_set leaves.counted i (less_going above_it))) v ∙ set_there leaves.counted i above_it (less_going above_it) there))) in
                   let parent : b.parent ≡ t = one_state states st' j b.first d b.parent t (forks b.many) (forks n) (subst (λ z. Has states st' z b.first b.parent (forks b.many)) at_j b.has) fork in
                   let its_place : place o rp l ≡ place o rp t ++ b.branch ∷ [] = b.is ∙ ap (λ z. place o rp z ++ b.branch ∷ []) parent in
                   let before = carried_at o (place o rp l) (Live l) (left_by l k) old new rep (left_leaf l k) (λ js. zero) (place o rp t) u ks (λ is js above was' is'. refl) now in
-                  one_less r.going above_it.going w.0.going (going_of before.children) (going_of ks) (bit (goes (left_by l k))) (ap (λ (z : Record). z.going) lessened) w.2
-                  (kept.going j d n t u before.children w.0 it_was (ap (slice_get rs) v ∙ w.1) before.there)
-                  ((going_follow o).right_above old new (Live l) (left_by l k) (place o rp t) b.branch u before.children ks (subst (λ z. IsReplaced z (Live l) (left_by l k) old new) its_place rep) before.there now)
+                  one_less r.running_children above_it.running_children w.0.running_children (running_of before.children) (running_of ks) (bit (goes (left_by l k))) (ap (λ (z : Record). z.running_children) lessened) w.2
+                  (kept.running_children j d n t u before.children w.0 it_was (ap (slice_get rs) v ∙ w.1) before.there)
+                  ((running_follow o).right_above old new (Live l) (left_by l k) (place o rp t) b.branch u before.children ks (subst (λ z. IsReplaced z (Live l) (left_by l k) old new) its_place rep) before.there now)
                   (ap bit gone)
 
-              further : (b : Below o rp states st' new shown x was.first l (process_status_of k)) → j ≢ b.number → (is js : Nodes S) → Above (place o rp t) (place o rp l) → at (place o rp t) old ≡ Some (Forked u is) → at (place o rp t) new ≡ Some (Forked u js) → going_of js ≡ going_of is
+              further : (b : Below o rp states st' new shown x was.first l (process_status_of k)) → j ≢ b.number → (is js : Nodes S) → Above (place o rp t) (place o rp l) → at (place o rp t) old ≡ Some (Forked u is) → at (place o rp t) new ≡ Some (Forked u js) → running_of js ≡ running_of is
               further b other is js y was' is' = by_rest y.rest y.is
                 where
-                  by_rest : (rest : List ℕ) → place o rp l ≡ place o rp t ++ y.branch ∷ rest → going_of js ≡ going_of is
+                  by_rest : (rest : List ℕ) → place o rp l ≡ place o rp t ++ y.branch ∷ rest → running_of js ≡ running_of is
                   by_rest [] at_it = absurd (other (shown.agrees.apart j b.number d b.first t b.parent (forks n) (forks b.many) fork b.has (snoc_same (place o rp t) (place o rp b.parent) y.branch b.branch (sym at_it ∙ b.is))))
-                  by_rest (i ∷ rest) at_it = (going_follow o).further_above old new (Live l) (left_by l k) (place o rp t) y.branch i rest u is js (subst (λ z. IsReplaced z (Live l) (left_by l k) old new) at_it rep) was' is'
+                  by_rest (i ∷ rest) at_it = (running_follow o).further_above old new (Live l) (left_by l k) (place o rp t) y.branch i rest u is js (subst (λ z. IsReplaced z (Live l) (left_by l k) old new) at_it rep) was' is'
 
-    pub kept_on : Keeps o rp (record { states = states; records = behind }) new
+    pub kept_on : TableInvariant o rp (record { states = states; records = behind }) new
     kept_on = record {
-      shows = subst (λ z. Shows o rp states z new) (sym stands_end) shown;
+      represents = subst (λ z. Represents o rp states z new) (sym stands_end) shown;
       linked = subst (λ z. AreLinked states z (up_in behind)) (sym stands_end) (subst (AreLinked states st') (sym ups_end) linked);
       few = subst (AreAtMost 4294967295 states) (sym stands_end) few;
       ordered = ordered;
       right = λ c. record { there = have_end c; counts = tallied_end c; labels = labelled_end c };
-      going = λ j d n t u ks r fork e now. going j d n t u ks r (subst (λ z. Has states z j d t (forks n)) stands_end fork) e now;
+      running_children = λ j d n t u ks r fork e now. running_children j d n t u ks r (subst (λ z. Has states z j d t (forks n)) stands_end fork) e now;
       known = λ c. subst (λ z. AreKnown o rp states z c (known_in c behind) new) (sym stands_end) (known c);
       fit = λ j d t h r p e. fit j d t h r (subst (λ z. Has states z j d t h) stands_end p) e;
       beside = kept.beside ∙ (sym (map_length (λ (r : Record). r.path) rs) ∙ (ap length (sym paths) ∙ map_length (λ (r : Record). r.path) behind));
     }
 
-pub leaves_keep : {S : Type 0} (o : Ops S) → LocalLaws o → LeavesKeep o
-leaves_keep {S} o law states rs behind x f l k effects has acts gone leaves rp t kept =
+pub exit_preserves : {S : Type 0} (o : Ops S) → LocalLaws o → ExitPreserves o
+exit_preserves {S} o law states rs behind x f l k effects has acts gone leaves rp t kept =
     let a : Acted S = record { node = left_by l k; effects = effects } in
     let st = map stands_of rs in
     let st' = map stands_of (slice_set rs x (marked k leaves.was)) in
     let now = marks.change o states rs behind l k x f has leaves gone in
-    let u = does.next o law rp states states st st' t x f l a kept.shows has acts (left_leaf l k) now in (
+    let u = does.next o law rp states states st st' t x f l a kept.represents has acts (left_leaf l k) now in (
       u.0,
       u.1,
-      kept_on o law rp states rs behind t.root u.0.root l k effects x f kept has leaves gone acts (does.shown o law rp states states st st' t x f l a kept.shows has acts (left_leaf l k) now)
-          (does.replaced o law rp states states st st' t x f l a kept.shows has acts (left_leaf l k) now),
+      kept_on o law rp states rs behind t.root u.0.root l k effects x f kept has leaves gone acts (does.shown o law rp states states st st' t x f l a kept.represents has acts (left_leaf l k) now)
+          (does.replaced o law rp states states st st' t x f l a kept.represents has acts (left_leaf l k) now),
     )

@@ -28,7 +28,7 @@ use Rattle.shim_records.specs.declared.pair.Pair.{Pair}
 use Rattle.shim_records.specs.declared.pair.Sharing.{Sharing}
 use Rattle.shim_records.specs.declared.record.Record.{Record}
 use Rattle.shim_records.proofs.SharingFound.{known_pair, pair_known}
-use Rattle.shim_laws_table_events.specs.keeping.Tables.{TableView, stands, HasProcessState, Keeps}
+use Rattle.shim_laws_table_events.specs.keeping.Tables.{TableView, stands, HasProcessState, TableInvariant}
 use Rattle.shim_laws_table_events.specs.keeping.Knowing.{Knows, AreKnown}
 
 no_channel : Channel
@@ -118,17 +118,17 @@ some_of None n = absurd (n refl)
 some_of (Some z) n = (z, refl)
 
 -- and shares it
-pub known_shares : {S : Type 0} (o : Ops S) (rp : Path) (v : TableView S) (root : Node S) (c : Channel) → Keeps o rp v root → (j d n : ℕ) (t : S) (k : Sharing) → HasProcessState v j d t (forks n) → known_in c v.records j ≡ Some k → o.shares t c ≡ true
+pub known_shares : {S : Type 0} (o : Ops S) (rp : Path) (v : TableView S) (root : Node S) (c : Channel) → TableInvariant o rp v root → (j d n : ℕ) (t : S) (k : Sharing) → HasProcessState v j d t (forks n) → known_in c v.records j ≡ Some k → o.shares t c ≡ true
 known_shares o rp v root c kept j d n t k fork e =
     let y = some_of (counts_in c v.records j) (known_counted c (slice_get v.records j) k e) in
-    counts_share o rp v.states (stands v) root kept.shows c (counts_in c v.records) (kept.right c).there j d n t y.0 fork y.1
+    counts_share o rp v.states (stands v) root kept.represents c (counts_in c v.records) (kept.right c).there j d n t y.0 fork y.1
 
-module _ {S : Type 0} (o : Ops S) (rp : Path) (v : TableView S) (old new : Node S) (kept : Keeps o rp v old) (x f : ℕ) (l : S) (h : ProcessStatus) (has : HasProcessState v x f l h)
+module _ {S : Type 0} (o : Ops S) (rp : Path) (v : TableView S) (old new : Node S) (kept : TableInvariant o rp v old) (x f : ℕ) (l : S) (h : ProcessStatus) (has : HasProcessState v x f l h)
     (m a : Node S) (rep : IsReplaced (place o rp l) m a old new) (given : o.given (state a) ≡ o.given (state m)) (c : Channel) (fewer : Elsewhere (o.path l) c → carriers o c a ≤ carriers o c m) where
   -- no fork that knows of a channel stands above its home
   above_elsewhere : (j d n : ℕ) (t : S) (k : Sharing) → HasProcessState v j d t (forks n) → known_in c v.records j ≡ Some k → is_above (place o rp t) (place o rp l) ≡ true → Elsewhere (o.path l) c
   above_elsewhere j d n t k fork e above r home =
-      none_above o rp v.states (stands v) old kept.shows c x f j d n l t h r has home fork above (known_shares o rp v old c kept j d n t k fork e)
+      none_above o rp v.states (stands v) old kept.represents c x f j d n l t h r has home fork above (known_shares o rp v old c kept j d n t k fork e)
 
   -- a fork aside knows what it knew
   pub knows_aside : (j d n : ℕ) (t : S) (k : Sharing) (u : S) (js : Nodes S) → HasProcessState v j d t (forks n) → known_in c v.records j ≡ Some k → IsAside (place o rp t) (place o rp l) → at (place o rp t) new ≡ Some (Forked u js) → Knows o c u js k

@@ -7,18 +7,18 @@ use Rattle.shim_semantics.specs.Nodes.{state, goes}
 use Rattle.shim_laws_table.specs.Seen.{lives, process_status, is_leaf}
 use Rattle.shim_laws_table.specs.Agrees.{used, Has}
 use Rattle.shim_laws_table.specs.Changes.{HasChanged}
-use Rattle.shim_laws_table.specs.Sufficing.{read_leaf}
+use Rattle.shim_laws_table.specs.Sufficing.{leaf_status}
 use Rattle.shim_records.specs.Pairs.{stands_of, rest_of}
 use Rattle.shim_records.specs.Acted.{process_status_of, acting}
 use Rattle.shim_records.specs.declared.record.Record.{Record}
 use Rattle.shim_records.specs.declared.record.Status.{Status}
 use Rattle.shim_records.specs.declared.record.Status.TheVariants as code
 use Rattle.shim_records.proofs.Stepping.{set_there, set_elsewhere}
-use Rattle.shim_records.proofs.Showing.{map_get}
+use Rattle.shim_records.proofs.Representing.{map_get}
 use Rattle.shim_records.proofs.ReadOff.{same_stands}
-use Rattle.shim_records.proofs.ManyWays as ways
+use Rattle.shim_records.proofs.ManyPropagations as ways
 use Rattle.shim_records.proofs.AllLowered as labels_above
-use Rattle.shim_laws_table_events.specs.keeping.Acting.{left_by, marked, TakesIn, Leaves}
+use Rattle.shim_laws_table_events.specs.keeping.Acting.{left_by, marked, TakesIn, Terminates}
 use Rattle.shim_laws_table_events.proofs.keeping.OneLess.{left_stands}
 
 pub left_state : {S : Type 0} (l : S) (k : Status) → state (left_by l k) ≡ l
@@ -57,7 +57,7 @@ rest_taken o s code.Free n x before behind h = ap (map rest_of) h
 rest_taken o s code.Live n x before behind h = ap (map rest_of) h
 rest_taken o s (code.Forked m) n x before behind h = ap (map rest_of) h
 
-module _ {S : Type 0} (o : Ops S) (states : List S) (rs behind : List Record) (l : S) (k : Status) (x f : ℕ) (has : Has states (map stands_of rs) x f l lives) (leaves : Leaves o l k 4294967295 x rs behind) (gone : goes (left_by l k) ≡ false) where
+module _ {S : Type 0} (o : Ops S) (states : List S) (rs behind : List Record) (l : S) (k : Status) (x f : ℕ) (has : Has states (map stands_of rs) x f l lives) (leaves : Terminates o l k 4294967295 x rs behind) (gone : goes (left_by l k) ≡ false) where
   abbrev was : Record
   was = leaves.was
 
@@ -87,7 +87,7 @@ module _ {S : Type 0} (o : Ops S) (states : List S) (rs behind : List Record) (l
   stands_end : map stands_of behind ≡ map stands_of ms
   stands_end =
       left_stands x leaves.counted behind leaves.left
-      ∙ (same_stands leaves.labelled leaves.counted (ways.rest_same (acting o l) (λ c. read_leaf o c l (process_status_of k)) 4294967295 x leaves.updated.updated)
+      ∙ (same_stands leaves.labelled leaves.counted (ways.rest_same (acting o l) (λ c. leaf_status o c l (process_status_of k)) 4294967295 x leaves.updated.updated)
       ∙ same_stands ms leaves.labelled (rest_taken o l k 4294967295 x ms leaves.labelled leaves.takes))
 
   pub changed_then : HasChanged states states (map stands_of rs) (map stands_of behind) x (state (left_by l k)) (process_status (left_by l k))

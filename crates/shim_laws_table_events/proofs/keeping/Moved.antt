@@ -13,13 +13,13 @@ use Rattle.shim_semantics.specs.Places.{at, branches}
 use Rattle.shim_semantics.specs.Sound.{carriers}
 use Rattle.shim_semantics.proofs.HowMany.{clash}
 use Rattle.shim_laws_table.specs.Seen.{ProcessStatus, lives, forks, place}
-use Rattle.shim_laws_table.specs.Agrees.{RecordView, used, Has, Shows}
+use Rattle.shim_laws_table.specs.Agrees.{RecordView, used, Has, Represents}
 use Rattle.shim_laws_table.specs.Places.{IsReplaced}
 use Rattle.shim_laws_table.specs.Changes.{HasChanged}
-use Rattle.shim_laws_table.specs.Counts.{Tally, Reading as Read, going_of}
+use Rattle.shim_laws_table.specs.Counts.{Tally, ChildStatus as Read, running_of}
 use Rattle.shim_laws_table.specs.Tallied.{Tallied, OnTheWay, HaveCounts, is_above}
 use Rattle.shim_laws_table.specs.Updating.{AreLinked, AreAtMost, UpdatedAbove, too_far, at_top, no_counts, stays, goes_on}
-use Rattle.shim_laws_table.specs.Dooms.{least_among}
+use Rattle.shim_laws_table.specs.Dooms.{min_dead_label_among}
 use Rattle.shim_laws_table.specs.LoweredLabels.{Labelled}
 use Rattle.shim_laws_table.proofs.SameTrees.{same_or_not, no_fork}
 use Rattle.shim_laws_table.proofs.OneChange.{one_state, one_sort}
@@ -28,16 +28,16 @@ use Rattle.shim_laws_table.proofs.Begun.{counts_begin}
 use Rattle.shim_laws_table.proofs.Brought.{counts_follow}
 use Rattle.shim_laws_table.proofs.Linked.{links_follow}
 use Rattle.shim_laws_table.proofs.Hanging.{tied, counts_share, none_above}
-use Rattle.shim_laws_table.proofs.Leasts.{leasts_follow}
-use Rattle.shim_records.specs.Pairs.{stands_of, up_in, counts_in, leasts_in, known_in, rest_of, reading_of, UncountedRecord}
+use Rattle.shim_laws_table.proofs.MinLabels.{min_labels_follow}
+use Rattle.shim_records.specs.Pairs.{stands_of, up_in, counts_in, min_labels_in, known_in, rest_of, child_status_of, UncountedRecord}
 use Rattle.shim_records.specs.declared.record.Record.{Record}
 use Rattle.shim_records.proofs.Stepping.{set_there, set_elsewhere}
-use Rattle.shim_records.proofs.Showing.{map_get}
+use Rattle.shim_records.proofs.Representing.{map_get}
 use Rattle.shim_records.proofs.ReadOff.{same_stands}
 use Rattle.shim_records.proofs.SharingFound.{rest_known}
-use Rattle.shim_records.proofs.WholeWay.{rest_ups, kept_order}
-use Rattle.shim_laws_table_events.specs.keeping.Tables.{IsFit, Keeps}
-use Rattle.shim_laws_table_events.specs.keeping.Arriving.{Arrives, nowhere, there}
+use Rattle.shim_records.proofs.FullPropagation.{rest_ups, kept_order}
+use Rattle.shim_laws_table_events.specs.keeping.Tables.{IsFit, TableInvariant}
+use Rattle.shim_laws_table_events.specs.keeping.Propagating.{PropagatesStop, nowhere, there}
 use Rattle.shim_laws_table_events.specs.keeping.Knowing.{AreKnown}
 use Rattle.shim_laws_table_events.proofs.keeping.Forks.{carried, as_many}
 use Rattle.shim_laws_table_events.proofs.keeping.Knowing.{Elsewhere, known_on}
@@ -67,9 +67,9 @@ pub was_record : (before behind : List Record) (i : ℕ) (r : Record) → map re
 was_record before behind i r h e = from_map rest_of (slice_get before i) (rest_of r) (sym (map_get rest_of before i) ∙ (ap (λ z. slice_get z i) (sym h) ∙ (map_get rest_of behind i ∙ ap (option_map rest_of) e)))
 
 module _ {S : Type 0} (o : Ops S) (law : LocalLaws o) (rp : Path) (states : List S) (rs behind : List Record) (old new : Node S) (l s : S) (x f : ℕ)
-    (kept : Keeps o rp (record { states = states; records = rs }) old) (has : Has states (map stands_of rs) x f l lives)
-    (shown : Shows o rp (slice_set states x s) (map stands_of rs) new) (rep : IsReplaced (place o rp l) (Live l) (Live s) old new) (stay : Stays o l s)
-    (unread : (c : Channel) → is_next (o.stop l) c ≡ false) (arrives : Arrives o s 4294967295 x rs behind) where
+    (kept : TableInvariant o rp (record { states = states; records = rs }) old) (has : Has states (map stands_of rs) x f l lives)
+    (shown : Represents o rp (slice_set states x s) (map stands_of rs) new) (rep : IsReplaced (place o rp l) (Live l) (Live s) old new) (stay : Stays o l s)
+    (unread : (c : Channel) → is_next (o.stop l) c ≡ false) (propagates : PropagatesStop o s 4294967295 x rs behind) where
   abbrev st : List RecordView
   st = map stands_of rs
 
@@ -104,17 +104,17 @@ module _ {S : Type 0} (o : Ops S) (law : LocalLaws o) (rp : Path) (states : List
   few j d n t h = kept.few j d n t (was_fork j d n t h).1
 
   rest : map rest_of behind ≡ map rest_of rs
-  rest = on arrives
+  rest = on propagates
     where
-      on : Arrives o s 4294967295 x rs behind → map rest_of behind ≡ map rest_of rs
+      on : PropagatesStop o s 4294967295 x rs behind → map rest_of behind ≡ map rest_of rs
       on (nowhere e same) = ap (map rest_of) same
       on (there d was is e u v updated) = updated.1.rest
 
-  labels_same : (c : Channel) → leasts_in c behind ≡ leasts_in c rs
-  labels_same c = on arrives
+  labels_same : (c : Channel) → min_labels_in c behind ≡ min_labels_in c rs
+  labels_same c = on propagates
     where
-      on : Arrives o s 4294967295 x rs behind → leasts_in c behind ≡ leasts_in c rs
-      on (nowhere e same) = ap (leasts_in c) same
+      on : PropagatesStop o s 4294967295 x rs behind → min_labels_in c behind ≡ min_labels_in c rs
+      on (nowhere e same) = ap (min_labels_in c) same
       on (there d was is e u v updated) = λ t i. updated.1.labels c i t
 
   module _ (c : Channel) where
@@ -142,7 +142,7 @@ module _ {S : Type 0} (o : Ops S) (law : LocalLaws o) (rp : Path) (states : List
       | inl w ↦ ((counts_follow o law).own rp states' st c old new x f s lives [] (counts_in c rs) shown mine (is_own w) begun.1 way, begun.1)
       | inr w ↦ (
         (counts_follow o law).alike rp states' st c old new (Live l) (Live s) (place o rp l) (counts_in c rs) rep
-            (λ i. let r : Read = record { joining = stay.shares c (is_far w) i; readiness = (unread c ∙ sym e) i; failing = false } in r) begun.0,
+            (λ i. let r : Read = record { alive = stay.shares c (is_far w) i; ready_on = (unread c ∙ sym e) i; dead_on = false } in r) begun.0,
         begun.1,
       )
     ]
@@ -164,23 +164,23 @@ module _ {S : Type 0} (o : Ops S) (law : LocalLaws o) (rp : Path) (states : List
 
     -- of the one at which it stands the way up was walked
     came : (after : ℕ → Option Tally) → is_next (o.stop s) c ≡ true → o.shares s c ≡ true → length (place o rp s) ≤ 4294967295
-        → UpdatedAbove (up_in rs) 4294967295 4294967295 (counts_in c rs) x (record { joining = true; readiness = false; failing = false }) (record { joining = true; readiness = true; failing = false }) after → Both after
+        → UpdatedAbove (up_in rs) 4294967295 4294967295 (counts_in c rs) x (record { alive = true; ready_on = false; dead_on = false }) (record { alive = true; ready_on = true; dead_on = false }) after → Both after
     came after e shares near updated = elim (true_or_false (same_path c.home (o.path l))) [
       | inl w ↦ subst Both (sym (nothing_done updated begun.1 [] (is_own w))) ((counts_follow o law).own rp states' st c old new x f s lives [] (counts_in c rs) shown mine (is_own w) begun.1 way, begun.1)
       | inr w ↦
-          (counts_follow o law).updated rp states' st (up_in rs) c old new (Live l) (Live s) 4294967295 4294967295 x f s lives (record { joining = true; readiness = false; failing = false }) (record { joining = true; readiness = true; failing = false })
+          (counts_follow o law).updated rp states' st (up_in rs) c old new (Live l) (Live s) 4294967295 4294967295 x f s lives (record { alive = true; ready_on = false; dead_on = false }) (record { alive = true; ready_on = true; dead_on = false })
           (counts_in c rs) after shown linked few mine rep'
-          (λ i. let r : Read = record { joining = (stay.shares c (is_far w) ∙ shares) i; readiness = unread c i; failing = false } in r)
-          (λ i. let r : Read = record { joining = shares i; readiness = e i; failing = false } in r) near shares begun.1 way updated
+          (λ i. let r : Read = record { alive = (stay.shares c (is_far w) ∙ shares) i; ready_on = unread c i; dead_on = false } in r)
+          (λ i. let r : Read = record { alive = shares i; ready_on = e i; dead_on = false } in r) near shares begun.1 way updated
     ]
 
   near : length (place o rp s) ≤ 4294967295
   near = let r = from_map stands_of (slice_get rs x) (used f lives) (sym (map_get stands_of rs x) ∙ has.stands_so) in subst (λ z. length z ≤ 4294967295) (sym same_place) (kept.fit x f l lives r.0 has r.1).near
 
   arrived : o.sound s → (c : Channel) → Both c (counts_in c behind)
-  arrived sound c = on arrives
+  arrived sound c = on propagates
     where
-      on : Arrives o s 4294967295 x rs behind → Both c (counts_in c behind)
+      on : PropagatesStop o s 4294967295 x rs behind → Both c (counts_in c behind)
       on (nowhere e same) = subst (λ z. Both c (counts_in c z)) (sym same) (still c (e c))
       on (there d was is e u v updated) = at_channel (same_channel d.channel c) refl
         where
@@ -192,20 +192,20 @@ module _ {S : Type 0} (o : Ops S) (law : LocalLaws o) (rp : Path) (states : List
           at_channel true w =
               let same = same_channel_is d.channel c w in
               came c (counts_in c behind) (ap (λ z. is_next z c) e ∙ w) (ap (o.shares s) (sym same) ∙ law.next_shares s d sound e) near
-              (subst (λ z. UpdatedAbove (up_in rs) 4294967295 4294967295 (counts_in z rs) x (record { joining = true; readiness = false; failing = false }) (record { joining = true; readiness = true; failing = false }) (counts_in z behind)) same
-              (subst (λ z. UpdatedAbove (up_in rs) 4294967295 4294967295 (counts_in d.channel rs) x (record { joining = true; readiness = false; failing = false }) z (counts_in d.channel behind)) v
-              (subst (λ z. UpdatedAbove (up_in rs) 4294967295 4294967295 (counts_in d.channel rs) x z (reading_of is) (counts_in d.channel behind)) u updated.0)))
+              (subst (λ z. UpdatedAbove (up_in rs) 4294967295 4294967295 (counts_in z rs) x (record { alive = true; ready_on = false; dead_on = false }) (record { alive = true; ready_on = true; dead_on = false }) (counts_in z behind)) same
+              (subst (λ z. UpdatedAbove (up_in rs) 4294967295 4294967295 (counts_in d.channel rs) x (record { alive = true; ready_on = false; dead_on = false }) z (counts_in d.channel behind)) v
+              (subst (λ z. UpdatedAbove (up_in rs) 4294967295 4294967295 (counts_in d.channel rs) x z (child_status_of is) (counts_in d.channel behind)) u updated.0)))
 
-  labelled : (c : Channel) → HaveCounts o rp states' st c (counts_in c behind) new → Labelled o rp states' st c (counts_in c behind) (leasts_in c behind) new
+  labelled : (c : Channel) → HaveCounts o rp states' st c (counts_in c behind) new → Labelled o rp states' st c (counts_in c behind) (min_labels_in c behind) new
   labelled c have j d n t u ks fork counted now =
-      let w = carried o (place o rp l) (Live l) (Live s) old new rep refl (least_among o c) (λ r v is js above was is'. (leasts_follow o).stays c old new (Live l) (Live s) (place o rp l) r v is js rep refl above was is') (place o rp t) u ks now in
+      let w = carried o (place o rp l) (Live l) (Live s) old new rep refl (min_dead_label_among o c) (λ r v is js above was is'. (min_labels_follow o).stays c old new (Live l) (Live s) (place o rp l) r v is js rep refl above was is') (place o rp t) u ks now in
       ap (λ z. z j) (labels_same c) ∙ ((kept.right c).labels j d n t u w.children (was_fork j d n t fork).1 (((begun c).1 j d n t u ks fork now).1 ((have j d n t u ks fork now).0 counted)) w.there ∙ sym w.same)
 
-  going : (j d n : ℕ) (t u : S) (ks : Nodes S) (r : Record) → Has states' st j d t (forks n) → slice_get behind j ≡ Some r → at (place o rp t) new ≡ Some (Forked u ks) → r.going ≡ going_of ks
-  going j d n t u ks r fork e now =
+  running_children : (j d n : ℕ) (t u : S) (ks : Nodes S) (r : Record) → Has states' st j d t (forks n) → slice_get behind j ≡ Some r → at (place o rp t) new ≡ Some (Forked u ks) → r.running_children ≡ running_of ks
+  running_children j d n t u ks r fork e now =
       let w = as_many o (place o rp l) (Live l) (Live s) old new rep refl refl (place o rp t) u ks now in
       let q = was_record rs behind j r rest e in
-      ap (λ (z : UncountedRecord). z.going) (sym q.2) ∙ (kept.going j d n t u w.children q.0 (was_fork j d n t fork).1 q.1 w.there ∙ sym w.same)
+      ap (λ (z : UncountedRecord). z.running_children) (sym q.2) ∙ (kept.running_children j d n t u w.children q.0 (was_fork j d n t fork).1 q.1 w.there ∙ sym w.same)
 
   fit : (j d : ℕ) (t : S) (k : ProcessStatus) (r : Record) → Has states' st j d t k → slice_get behind j ≡ Some r → IsFit o rp t r
   fit j d t k r h e =
@@ -224,21 +224,21 @@ module _ {S : Type 0} (o : Ops S) (law : LocalLaws o) (rp : Path) (states : List
       known_on o rp (record { states = states; records = rs }) old new kept x f l lives has (Live l) (Live s) rep stay.given c (stay.carries c) refl states' st (known_in c behind)
       (λ j d n t h. (was_fork j d n t h).1) (λ j d n t h. rest_known rs behind rest c j)
 
-  pub moved : o.sound s → Keeps o rp (record { states = states'; records = behind }) new
+  pub moved : o.sound s → TableInvariant o rp (record { states = states'; records = behind }) new
   moved sound =
       let same : map stands_of behind ≡ st = same_stands rs behind rest in
       let ups = rest_ups rs behind rest in
       record {
-        shows = subst (λ z. Shows o rp states' z new) (sym same) shown;
+        represents = subst (λ z. Represents o rp states' z new) (sym same) shown;
         linked = subst (λ z. AreLinked states' z (up_in behind)) (sym same) (subst (AreLinked states' st) (sym ups) linked);
         few = subst (AreAtMost 4294967295 states') (sym same) few;
         ordered = kept_order rs behind rest kept.ordered;
         right = λ c. record {
           there = subst (λ z. HaveCounts o rp states' z c (counts_in c behind) new) (sym same) (arrived sound c).1;
           counts = subst (λ z. Tallied o rp states' z c (counts_in c behind) new) (sym same) (arrived sound c).0;
-          labels = subst (λ z. Labelled o rp states' z c (counts_in c behind) (leasts_in c behind) new) (sym same) (labelled c (arrived sound c).1);
+          labels = subst (λ z. Labelled o rp states' z c (counts_in c behind) (min_labels_in c behind) new) (sym same) (labelled c (arrived sound c).1);
         };
-        going = λ j d n t u ks r fork e now. going j d n t u ks r (subst (λ z. Has states' z j d t (forks n)) same fork) e now;
+        running_children = λ j d n t u ks r fork e now. running_children j d n t u ks r (subst (λ z. Has states' z j d t (forks n)) same fork) e now;
         known = λ c. subst (λ z. AreKnown o rp states' z c (known_in c behind) new) (sym same) (known c);
         fit = λ j d t k r h e. fit j d t k r (subst (λ z. Has states' z j d t k) same h) e;
         beside = set_length states x s ∙ (kept.beside ∙ (sym (map_length rest_of rs) ∙ (ap length (sym rest) ∙ map_length rest_of behind)));

@@ -4,15 +4,15 @@ use Rattle.std.specs.Prelude.{slice_get}
 use Rattle.std.specs.Option.{option_map}
 use Rattle.shim_base.specs.Paths.{Channel}
 use Rattle.shim_laws_table.proofs.SameTrees.{same_or_not}
-use Rattle.shim_records.specs.Pairs.{up_in, counts_at, counts_in, least_at, leasts_in, up_at, stands_of, rest_of, UncountedRecord, known_at, known_in}
-use Rattle.shim_records.specs.Leaving.{HasLeft, alone, lost, below}
+use Rattle.shim_records.specs.Pairs.{up_in, counts_at, counts_in, min_label_at, min_labels_in, up_at, stands_of, rest_of, UncountedRecord, known_at, known_in}
+use Rattle.shim_records.specs.CountingOff.{HasCountedOff, alone, lost, below}
 use Rattle.shim_records.specs.declared.record.Record.{Record}
 use Rattle.shim_records.proofs.Stepping.{set_there, set_elsewhere, map_set}
-use Rattle.shim_records.proofs.Showing.{map_get}
+use Rattle.shim_records.proofs.Representing.{map_get}
 use Rattle.shim_laws_table_events.proofs.keeping.Moved.{from_map}
 
 abbrev pub less_going : Record → Record
-less_going r = record { status = r.status; first = r.first; parent = r.parent; path = r.path; going = r.going - 1; pairs = r.pairs }
+less_going r = record { status = r.status; first = r.first; parent = r.parent; path = r.path; running_children = r.running_children - 1; pairs = r.pairs }
 
 -- what is read of each place, where another record that says the same of it is put in one
 pub at_set : {X : Type 0} (G : Option Record → X) (rs : List Record) (x : ℕ) (r q : Record) → slice_get rs x ≡ Some r → G (Some q) ≡ G (Some r) → (i : ℕ) → G (slice_get (slice_set rs x q) i) ≡ G (slice_get rs i)
@@ -35,27 +35,27 @@ same_rest G before behind h = sym (by_rest G behind) ∙ (ap (map G) h ∙ by_re
 
 module _ (x : ℕ) (before behind : List Record) where
   -- what a record says beside how many go on
-  pub all_say : {X : Type 0} (F : Record → X) → ((r : Record) → F (less_going r) ≡ F r) → HasLeft x before behind → map F behind ≡ map F before
+  pub all_say : {X : Type 0} (F : Record → X) → ((r : Record) → F (less_going r) ≡ F r) → HasCountedOff x before behind → map F behind ≡ map F before
   all_say F same (alone e h) = ap (map F) h
   all_say F same (lost j e f h) = ap (map F) h
   all_say F same (below j r e f h) = ap (map F) h ∙ map_set F before j r (less_going r) f (same r)
 
-  each_says : {X : Type 0} (G : Option Record → X) → ((r : Record) → G (Some (less_going r)) ≡ G (Some r)) → HasLeft x before behind → (i : ℕ) → G (slice_get behind i) ≡ G (slice_get before i)
+  each_says : {X : Type 0} (G : Option Record → X) → ((r : Record) → G (Some (less_going r)) ≡ G (Some r)) → HasCountedOff x before behind → (i : ℕ) → G (slice_get behind i) ≡ G (slice_get before i)
   each_says G same (alone e h) i = ap (λ z. G (slice_get z i)) h
   each_says G same (lost j e f h) i = ap (λ z. G (slice_get z i)) h
   each_says G same (below j r e f h) i = ap (λ z. G (slice_get z i)) h ∙ at_set G before j r (less_going r) f (same r) i
 
-  pub left_counts : (c : Channel) → HasLeft x before behind → counts_in c behind ≡ counts_in c before
+  pub left_counts : (c : Channel) → HasCountedOff x before behind → counts_in c behind ≡ counts_in c before
   left_counts c h = λ t i. each_says (counts_at c) (λ r. refl) h i t
 
-  pub left_labels : (c : Channel) → HasLeft x before behind → leasts_in c behind ≡ leasts_in c before
-  left_labels c h = λ t i. each_says (least_at c) (λ r. refl) h i t
+  pub left_labels : (c : Channel) → HasCountedOff x before behind → min_labels_in c behind ≡ min_labels_in c before
+  left_labels c h = λ t i. each_says (min_label_at c) (λ r. refl) h i t
 
-  pub left_known : (c : Channel) → HasLeft x before behind → (i : ℕ) → known_in c behind i ≡ known_in c before i
+  pub left_known : (c : Channel) → HasCountedOff x before behind → (i : ℕ) → known_in c behind i ≡ known_in c before i
   left_known c h i = each_says (known_at c) (λ r. refl) h i
 
-  pub left_ups : HasLeft x before behind → up_in behind ≡ up_in before
+  pub left_ups : HasCountedOff x before behind → up_in behind ≡ up_in before
   left_ups h = λ t i. each_says up_at (λ r. refl) h i t
 
-  pub left_stands : HasLeft x before behind → map stands_of behind ≡ map stands_of before
+  pub left_stands : HasCountedOff x before behind → map stands_of behind ≡ map stands_of before
   left_stands h = all_say stands_of (λ r. refl) h

@@ -9,11 +9,11 @@ use Rattle.shim_semantics.specs.Places.{branches}
 use Rattle.shim_semantics.specs.Sound.{SharesItsOwn}
 use Rattle.shim_semantics.proofs.SoundEvents.{events_keep_sound}
 use Rattle.shim_laws_table.specs.Seen.{ProcessStatus, lives, forks}
-use Rattle.shim_laws_table.specs.Agrees.{used, Has, Shows}
-use Rattle.shim_laws_table.proofs.Shown.{start_shows}
+use Rattle.shim_laws_table.specs.Agrees.{used, Has, Represents}
+use Rattle.shim_laws_table.proofs.Shown.{start_represents}
 use Rattle.shim_records.specs.Pairs.{stands_of, chans_of, IsOrdered}
 use Rattle.shim_records.specs.declared.record.Record.{Record}
-use Rattle.shim_laws_table_events.specs.keeping.Tables.{IsFit, Keeps, IsOfRoot}
+use Rattle.shim_laws_table_events.specs.keeping.Tables.{IsFit, TableInvariant, IsOfRoot}
 
 sort_same : (f n : ℕ) → used f (forks n) ≡ used 0 lives → forks n ≡ lives
 sort_same f n e = cc
@@ -41,9 +41,9 @@ module _ {S : Type 0} (o : Ops S) (law : LocalLaws o) (root : S) (r : Record) (o
   ordered zero q e = subst (λ z. IsOrdered (chans_of z)) (sym of_root.no_pairs ∙ ap (λ (z : Record). z.pairs.items) (some_same r q e)) (record { order = λ i j a b less x y. none_some a x })
   ordered (suc i) q e = none_some q e
 
-  pub starts : Keeps o [] (record { states = root ∷ []; records = r ∷ [] }) (Live root)
+  pub starts : TableInvariant o [] (record { states = root ∷ []; records = r ∷ [] }) (Live root)
   starts = record {
-    shows = subst (λ z. Shows o [] (root ∷ []) (z ∷ []) (Live root)) (sym of_root.lives_on) (subst (λ z. Shows o z (root ∷ []) (used 0 lives ∷ []) (Live root)) at_root (start_shows o root ((events_keep_sound o law).starts root sound own)));
+    represents = subst (λ z. Represents o [] (root ∷ []) (z ∷ []) (Live root)) (sym of_root.lives_on) (subst (λ z. Represents o z (root ∷ []) (used 0 lives ∷ []) (Live root)) at_root (start_represents o root ((events_keep_sound o law).starts root sound own)));
     linked = record { parents = λ i f n s h b less. no_forks i f n s h; top = of_root.no_parent };
     few = λ i f n s h. no_forks i f n s h;
     ordered = ordered;
@@ -52,7 +52,7 @@ module _ {S : Type 0} (o : Ops S) (law : LocalLaws o) (root : S) (r : Record) (o
       counts = λ i f n s y l ks h e there. no_forks i f n s h;
       labels = λ i f n s l ks h counted there. no_forks i f n s h;
     };
-    going = λ i f n s l ks q h e there. no_forks i f n s h;
+    running_children = λ i f n s l ks q h e there. no_forks i f n s h;
     known = λ c i f n s k l ks h e there. no_forks i f n s h;
     fit = fit;
     beside = refl;

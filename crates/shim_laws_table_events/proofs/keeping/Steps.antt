@@ -19,19 +19,19 @@ use Rattle.shim_semantics.specs.Trees.{Tree, Own, after, own_action_at}
 use Rattle.shim_semantics.proofs.HowMany.{no_less, no_less_than, one_for_one}
 use Rattle.shim_semantics.proofs.Replaced.{sound_at}
 use Rattle.shim_laws_table.specs.Seen.{lives, place}
-use Rattle.shim_laws_table.specs.Agrees.{RecordView, Has, Shows}
+use Rattle.shim_laws_table.specs.Agrees.{RecordView, Has, Represents}
 use Rattle.shim_laws_table.specs.Places.{IsReplaced}
 use Rattle.shim_laws_table.specs.Changes.{HasChanged}
 use Rattle.shim_laws_table.proofs.SameTrees.{seen_live, put_replaces}
 use Rattle.shim_laws_table.proofs.OneTree.{one_tree}
-use Rattle.shim_laws_table.proofs.Shown.{events_are_shown, one_is_shown}
+use Rattle.shim_laws_table.proofs.Shown.{events_preserve, one_change_is_represented}
 use Rattle.shim_laws_table.proofs.CanHappen.{enabled_by_records}
 use Rattle.shim_semantics.proofs.ReplacedNodes.{put}
 use Rattle.shim_records.proofs.Stepping.{set_there, set_elsewhere}
 use Rattle.shim_records.specs.Pairs.{stands_of}
 use Rattle.shim_records.specs.declared.record.Record.{Record}
-use Rattle.shim_laws_table_events.specs.keeping.Tables.{Keeps}
-use Rattle.shim_laws_table_events.specs.keeping.Arriving.{Arrives}
+use Rattle.shim_laws_table_events.specs.keeping.Tables.{TableInvariant}
+use Rattle.shim_laws_table_events.specs.keeping.Propagating.{PropagatesStop}
 use Rattle.shim_laws_table_events.proofs.keeping.Knowing.{Elsewhere}
 use Rattle.shim_laws_table_events.proofs.keeping.Moved.{Stays, moved}
 
@@ -85,17 +85,17 @@ module _ {S : Type 0} (o : Ops S) (law : LocalLaws o) where
     }
 
     -- so many of them can be done in the tree that is shown
-    can_advance : (n x f : ℕ) (states : List S) (t : Tree S) (l last : S) (p : Path) → Shows o rp states stands t.root → Has states stands x f l lives → p ≡ o.path l → QuietSteps o n l last → (u : Tree S) × Advances o p n t u
-    can_advance zero x f states t l last p shows has is taken = (t, refl)
-    can_advance (suc n) x f states t l last p shows has is taken =
+    can_advance : (n x f : ℕ) (states : List S) (t : Tree S) (l last : S) (p : Path) → Represents o rp states stands t.root → Has states stands x f l lives → p ≡ o.path l → QuietSteps o n l last → (u : Tree S) × Advances o p n t u
+    can_advance zero x f states t l last p represents has is taken = (t, refl)
+    can_advance (suc n) x f states t l last p represents has is taken =
         let first = first_quiet o n l last taken in
-        let there : at (place o rp l) t.root ≡ Some (Live l) = seen_live (at (place o rp l) t.root) l (shows.agrees.shown x f l lives has) in
-        let sound = sound_at o (place o rp l) t.root (Live l) shows.sound.below there in
-        let can = ((enabled_by_records o law).steps rp states stands t x f l shows has).1 (ap own_action_at first.0) in
+        let there : at (place o rp l) t.root ≡ Some (Live l) = seen_live (at (place o rp l) t.root) l (represents.agrees.shown x f l lives has) in
+        let sound = sound_at o (place o rp l) t.root (Live l) represents.sound.below there in
+        let can = ((enabled_by_records o law).steps rp states stands t x f l represents has).1 (ap own_action_at first.0) in
         let next = some_of (after o (Own (o.path l)) t) can in
         let change = set_changed states x f l (o.quiet l) has in
         let does : act_live o l (o.stop l) ≡ Some (record { node = Live (o.quiet l); effects = nothing }) = ap (act_live o l) first.0 in
-        let shown = (events_are_shown o law).stepped rp states (slice_set states x (o.quiet l)) stands stands t next.0 (Own (o.path l)) x f l (record { node = Live (o.quiet l); effects = nothing }) shows has refl next.1 does refl change in
+        let shown = (events_preserve o law).stepped rp states (slice_set states x (o.quiet l)) stands stands t next.0 (Own (o.path l)) x f l (record { node = Live (o.quiet l); effects = nothing }) represents has refl next.1 does refl change in
         let more = can_advance n x f (slice_set states x (o.quiet l)) next.0 (o.quiet l) last p shown (has_set states x f l (o.quiet l) has) (is ∙ sym (law.moved_path l (o.quiet l) sound (by_quiet first.0 refl))) first.1 in
         (more.0, ap (on_some (run (after o) (replicate n (Own p)))) (ap (λ z. after o (Own z) t) is ∙ next.1) ∙ more.1)
 
@@ -103,17 +103,17 @@ module _ {S : Type 0} (o : Ops S) (law : LocalLaws o) where
   unread l e c = ap (λ z. is_next z c) e
 
   -- the process has done them, and came where it stands
-  pub advanced : (rp : Path) (t : Tree S) (states : List S) (rs behind : List Record) (n x f : ℕ) (l last : S) → Keeps o rp (record { states = states; records = rs }) t.root → Has states (map stands_of rs) x f l lives
-      → o.stop l ≡ AtQuiet → QuietSteps o n l last → Arrives o last 4294967295 x rs behind → (u : Tree S) × Advances o (o.path l) n t u × Keeps o rp (record { states = slice_set states x last; records = behind }) u.root
-  advanced rp t states rs behind n x f l last kept has stop taken arrives =
+  pub advanced : (rp : Path) (t : Tree S) (states : List S) (rs behind : List Record) (n x f : ℕ) (l last : S) → TableInvariant o rp (record { states = states; records = rs }) t.root → Has states (map stands_of rs) x f l lives
+      → o.stop l ≡ AtQuiet → QuietSteps o n l last → PropagatesStop o last 4294967295 x rs behind → (u : Tree S) × Advances o (o.path l) n t u × TableInvariant o rp (record { states = slice_set states x last; records = behind }) u.root
+  advanced rp t states rs behind n x f l last kept has stop taken propagates =
       let st = map stands_of rs in
-      let there : at (place o rp l) t.root ≡ Some (Live l) = seen_live (at (place o rp l) t.root) l (kept.shows.agrees.shown x f l lives has) in
-      let sound = sound_at o (place o rp l) t.root (Live l) kept.shows.sound.below there in
+      let there : at (place o rp l) t.root ≡ Some (Live l) = seen_live (at (place o rp l) t.root) l (kept.represents.agrees.shown x f l lives has) in
+      let sound = sound_at o (place o rp l) t.root (Live l) kept.represents.sound.below there in
       let stay = quiet_stays n l last sound taken in
-      let does = can_advance rp st n x f states t l last (o.path l) kept.shows has refl taken in
+      let does = can_advance rp st n x f states t l last (o.path l) kept.represents has refl taken in
       let change = set_changed rp st states x f l last has in
-      let shown = (events_are_shown o law).advanced rp states (slice_set states x last) st st t does.0 x f n l last kept.shows has taken does.1 change in
+      let shown = (events_preserve o law).advanced rp states (slice_set states x last) st st t does.0 x f n l last kept.represents has taken does.1 change in
       let rep = put_replaces (place o rp l) (Live l) (Live last) t.root there in
-      let agrees = one_is_shown o rp states (slice_set states x last) st st t.root (put (place o rp l) (Live last) t.root) (Live l) (Live last) x f kept.shows.agrees has refl refl stay.0.path rep change in
+      let agrees = one_change_is_represented o rp states (slice_set states x last) st st t.root (put (place o rp l) (Live last) t.root) (Live l) (Live last) x f kept.represents.agrees has refl refl stay.0.path rep change in
       let same = one_tree o rp (slice_set states x last) st (put (place o rp l) (Live last) t.root) does.0.root shown.rooted agrees shown.agrees in
-      (does.0, does.1, moved o law rp states rs behind t.root does.0.root l last x f kept has shown (subst (IsReplaced (place o rp l) (Live l) (Live last) t.root) same rep) stay.0 (unread l stop) arrives stay.1)
+      (does.0, does.1, moved o law rp states rs behind t.root does.0.root l last x f kept has shown (subst (IsReplaced (place o rp l) (Live l) (Live last) t.root) same rep) stay.0 (unread l stop) propagates stay.1)

@@ -11,7 +11,7 @@ use Rattle.shim_semantics.specs.Trees.{Tree, Meet, met, after}
 use Rattle.shim_semantics.proofs.Routes.{at_path}
 use Rattle.shim_laws_schedules.proofs.Homes.{all_wait_home, meets_all_wait}
 use Rattle.shim_laws_table.specs.Seen.{ProcessStatus, place}
-use Rattle.shim_laws_table.specs.Agrees.{RecordView, Has, Shows}
+use Rattle.shim_laws_table.specs.Agrees.{RecordView, Has, Represents}
 use Rattle.shim_laws_table.specs.Enabled.{Can}
 use Rattle.shim_laws_table.proofs.SameTrees.{seen_some}
 use Rattle.shim_laws_table.proofs.Hanging.{home_above}
@@ -24,7 +24,7 @@ branches_both : (p r : Path) → branches (p ++ r) ≡ branches p ++ branches r
 branches_both [] r = refl
 branches_both (x ∷ p) r = ap (λ z. x.1 ∷ z) (branches_both p r)
 
-module _ {S : Type 0} (o : Ops S) (rp : Path) (records : List S) (stands : List RecordView) (root : Node S) (s : Shows o rp records stands root) where
+module _ {S : Type 0} (o : Ops S) (rp : Path) (records : List S) (stands : List RecordView) (root : Node S) (s : Represents o rp records stands root) where
   -- the path of a node, behind that of the root
   path_at : (q : List ℕ) (n : Node S) → at q root ≡ Some n → (r : Path) × (o.path (state n) ≡ rp ++ r) × (branches r ≡ q)
   path_at q n e = let w = at_path o root n q s.sound.below e in (w.0, w.1 ∙ ap (λ z. z ++ w.0) s.root_path, w.2)

@@ -16,11 +16,11 @@ use Rattle.shim_laws_table.proofs.Hanging.{given_place, given_child}
 use Rattle.shim_records.specs.Pairs.{stands_of, known_in}
 use Rattle.shim_records.specs.declared.pair.Sharing.{Sharing}
 use Rattle.shim_laws_table_events.proofs.keeping.Knowing.{counted_known}
-use Rattle.shim_laws_table_events.specs.keeping.Tables.{TableView, HasProcessState, Keeps}
+use Rattle.shim_laws_table_events.specs.keeping.Tables.{TableView, HasProcessState, TableInvariant}
 use Rattle.shim_laws_table_events.proofs.meetings.AtHome.{node_at}
 use Rattle.shim_laws_table_events.proofs.meetings.Descents.{none_below, child_outside}
 
-module _ {S : Type 0} (o : Ops S) (law : LocalLaws o) (rp : Path) (v : TableView S) (root : Node S) (kept : Keeps o rp v root) where
+module _ {S : Type 0} (o : Ops S) (law : LocalLaws o) (rp : Path) (v : TableView S) (root : Node S) (kept : TableInvariant o rp v root) where
   -- the fork of a process at or above another one
   pub record ForkOver (i f : ℕ) (s : S) (k : ProcessStatus) (b : ℕ) : Type 0 where
     pub many : ℕ
@@ -39,17 +39,17 @@ module _ {S : Type 0} (o : Ops S) (law : LocalLaws o) (rp : Path) (v : TableView
 
   pub fork_over : (i f : ℕ) (s : S) (k : ProcessStatus) → HasProcessState v i f s k → (j g : ℕ) (t : S) (h : ProcessStatus) → HasProcessState v j g t h → (b : ℕ) (r : List ℕ) → place o rp t ≡ place o rp s ++ b ∷ r → ForkOver i f s k b
   fork_over i f s k has j g t h below b r is =
-      let m = node_at o rp v.states (map stands_of v.records) root kept.shows j g t h below in
+      let m = node_at o rp v.states (map stands_of v.records) root kept.represents j g t h below in
       let w = fork_above (place o rp s) b r root m.0 (ap (λ z. at z root) (sym is) ∙ m.1) in
-      let see : (w.state, forks (how_many_nodes w.children)) ≡ (s, k) = some_same _ _ (sym (ap seen w.there) ∙ kept.shows.agrees.shown i f s k has) in
+      let see : (w.state, forks (how_many_nodes w.children)) ≡ (s, k) = some_same _ _ (sym (ap seen w.there) ∙ kept.represents.agrees.shown i f s k has) in
       let is_s : w.state ≡ s = ap (λ z. z.0) see in
       let is_k : forks (how_many_nodes w.children) ≡ k = ap (λ z. z.1) see in
       let less = child_counted b r w.children m.0 w.child in
       let fork : HasProcessState v i f s (forks (how_many_nodes w.children)) = subst (HasProcessState v i f s) (sym is_k) has in
-      let z = kept.shows.agrees.below i f (how_many_nodes w.children) s fork b less in
+      let z = kept.represents.agrees.below i f (how_many_nodes w.children) s fork b less in
       let c = through b r w.children m.0 w.child in
       let here : at (place o rp s ++ b ∷ []) root ≡ Some c.0 = at_split (place o rp s) (b ∷ []) root (Forked w.state w.children) w.there ∙ c.1 in
-      let n = node_at o rp v.states (map stands_of v.records) root kept.shows (f + b) z.0 z.1 z.2 z.3 in
+      let n = node_at o rp v.states (map stands_of v.records) root kept.represents (f + b) z.0 z.1 z.2 z.3 in
       let same : state c.0 ≡ z.1 = ap state (some_same c.0 n.0 (sym here ∙ (ap (λ y. at y root) (sym z.4) ∙ n.1))) ∙ n.2 in
       record {
         many = how_many_nodes w.children;
@@ -84,7 +84,7 @@ module _ {S : Type 0} (o : Ops S) (law : LocalLaws o) (rp : Path) (v : TableView
     ]
 
     pub child_given : IsGiven o (state over.child) c
-    child_given = given_place o law root (place o rp s) b over.child c kept.shows.sound over.child_there (λ e. far [] (e ∙ sym (append-nil (o.path (state over.child))))) child_shares
+    child_given = given_place o law root (place o rp s) b over.child c kept.represents.sound over.child_there (λ e. far [] (e ∙ sym (append-nil (o.path (state over.child))))) child_shares
 
     -- so the fork knows of the channel
     pub fork_knows : known_in c v.records i ≢ None

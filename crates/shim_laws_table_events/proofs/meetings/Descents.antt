@@ -18,10 +18,10 @@ use Rattle.shim_laws_table.proofs.Aside.{at_split}
 use Rattle.shim_laws_table.proofs.SameTrees.{child_counted, seen_some, seen_fork}
 use Rattle.shim_laws_table.proofs.OneChange.{one_state}
 use Rattle.shim_laws_table.proofs.Way.{fork_above}
-use Rattle.shim_laws_table.proofs.Leasts.{child_sound, shared_not_below}
+use Rattle.shim_laws_table.proofs.MinLabels.{child_sound, shared_not_below}
 use Rattle.shim_records.specs.Members.{IsAmong}
 use Rattle.shim_records.specs.Pairs.{stands_of}
-use Rattle.shim_laws_table_events.specs.keeping.Tables.{TableView, HasProcessState, Keeps}
+use Rattle.shim_laws_table_events.specs.keeping.Tables.{TableView, HasProcessState, TableInvariant}
 use Rattle.shim_laws_table_events.specs.meetings.Sharers.{SharesFrom, Precedes, InOrder}
 use Rattle.shim_laws_table_events.specs.meetings.Descents.{children, numbers_of_length, Descends, at_end, passes, finds, DescentsFind}
 use Rattle.shim_laws_table_events.proofs.meetings.Among.{none_among, among_later, among_split}
@@ -145,7 +145,7 @@ module _ {S : Type 0} (o : Ops S) (c : Channel) where
 
 -- ---- what is found
 
-module _ {S : Type 0} (o : Ops S) (rp : Path) (v : TableView S) (c : Channel) (root : Node S) (kept : Keeps o rp v root) where
+module _ {S : Type 0} (o : Ops S) (rp : Path) (v : TableView S) (c : Channel) (root : Node S) (kept : TableInvariant o rp v root) where
   -- the record of a number stands in this place, and if its process doesn't share the channel nobody below does
   pub record Stands (i : ℕ) (q : List ℕ) : Type 0 where
     pub first : ℕ
@@ -171,14 +171,14 @@ module _ {S : Type 0} (o : Ops S) (rp : Path) (v : TableView S) (c : Channel) (r
 
   -- the node of a record
   node_at : (i f : ℕ) (s : S) (k : ProcessStatus) → HasProcessState v i f s k → (n : Node S) × (at (place o rp s) root ≡ Some n) × (state n ≡ s)
-  node_at i f s k has = let w = seen_some (at (place o rp s) root) s k (kept.shows.agrees.shown i f s k has) in (w.0, w.1, w.2)
+  node_at i f s k has = let w = seen_some (at (place o rp s) root) s k (kept.represents.agrees.shown i f s k has) in (w.0, w.1, w.2)
 
   -- below a process that doesn't share it nobody does
   pub none_below : (i f : ℕ) (s : S) (k : ProcessStatus) (j : ℕ) → HasProcessState v i f s k → o.shares s c ≡ false → Outside c (o.path s) → From (place o rp s) j → ⊥
   none_below i f s k j has lacks out from =
       let n = node_at i f s k has in
       let m = node_at j from.first from.state from.status from.has in
-      let sound = sound_at o (place o rp s) root n.0 kept.shows.sound.below n.1 in
+      let sound = sound_at o (place o rp s) root n.0 kept.represents.sound.below n.1 in
       let quiet = unshared_is_unshared o c n.0 sound (ap (λ z. o.shares z c) n.2 ∙ lacks) (λ r e. out r (e ∙ ap (λ z. o.path z ++ r) n.2)) in
       clash (o.shares from.state c) from.shares (ap (λ z. o.shares z c) (sym m.2) ∙ unshared_at o c from.further n.0 m.0 (sym (at_split (place o rp s) from.further root n.0 n.1) ∙ (ap (λ z. at z root) (sym from.is_there) ∙ m.1)) quiet)
 
@@ -189,16 +189,16 @@ module _ {S : Type 0} (o : Ops S) (rp : Path) (v : TableView S) (c : Channel) (r
 
     pub child_outside : (n b : ℕ) (g : ℕ) (t : S) (h : ProcessStatus) → HasProcessState v i f s (forks n) → HasProcessState v (f + b) g t h → place o rp t ≡ its_place ++ b ∷ [] → Outside c (o.path t)
     child_outside n b g t h fork child is r e =
-        let w = seen_fork (at its_place root) s n (kept.shows.agrees.shown i f s (forks n) fork) in
+        let w = seen_fork (at its_place root) s n (kept.represents.agrees.shown i f s (forks n) fork) in
         let m = node_at (f + b) g t h child in
-        let sound = sound_at o its_place root (Forked s w.0) kept.shows.sound.below w.1 in
+        let sound = sound_at o its_place root (Forked s w.0) kept.represents.sound.below w.1 in
         let y = child_sound o s sound.number 0 b w.0 m.0 sound.children (sym (at_split its_place (b ∷ []) root (Forked s w.0) w.1) ∙ (ap (λ z. at z root) (sym is) ∙ m.1)) in
-        shared_not_below o root its_place (Forked s w.0) c kept.shows.sound w.1 shares (sound.number, y.1) r (e ∙ (ap (λ z. o.path z ++ r) (sym m.2) ∙ y.2 r))
+        shared_not_below o root its_place (Forked s w.0) c kept.represents.sound w.1 shares (sound.number, y.1) r (e ∙ (ap (λ z. o.path z ++ r) (sym m.2) ∙ y.2 r))
 
     fork_children : (n b m : ℕ) → HasProcessState v i f s (forks n) → b + m ≡ n → AllStand (numbers_of_length (f + b) m) (places_from its_place b m)
     fork_children n b zero fork e = tt
     fork_children n b (suc m) fork e =
-        let z = kept.shows.agrees.below i f n s fork b (omega (arith, e)) in (
+        let z = kept.represents.agrees.below i f n s fork b (omega (arith, e)) in (
           record { first = z.0; state_is = z.1; status = z.2; has = z.3; is_there = z.4; outside = λ lacks. child_outside n b z.0 z.1 z.2 fork z.3 z.4 },
           subst (λ y. AllStand (numbers_of_length y m) (places_from its_place (suc b) m)) (next f b) (fork_children n (suc b) m fork (omega (arith, e))),
         )
@@ -223,7 +223,7 @@ module _ {S : Type 0} (o : Ops S) (rp : Path) (v : TableView S) (c : Channel) (r
     below_child j b r g t h there is =
         let m = node_at j g t h there in
         let w = fork_above its_place b r root m.0 (ap (λ z. at z root) (sym is) ∙ m.1) in
-        let see : (w.state, forks (how_many_nodes w.children)) ≡ (s, k) = some_same _ _ (sym (ap seen w.there) ∙ kept.shows.agrees.shown i f s k has) in
+        let see : (w.state, forks (how_many_nodes w.children)) ≡ (s, k) = some_same _ _ (sym (ap seen w.there) ∙ kept.represents.agrees.shown i f s k has) in
         subst (λ z. IsAmong (its_place ++ b ∷ []) (places_from its_place 0 (children z))) (ap (λ z. z.1) see) (each_child its_place (how_many_nodes w.children) b (child_counted b r w.children m.0 w.child))
 
   -- what is found stands at or below one of the places
@@ -281,7 +281,7 @@ module _ {S : Type 0} (o : Ops S) (rp : Path) (v : TableView S) (c : Channel) (r
       ]
     where
       on : ((ps : List (List ℕ)) → AllStand (numbers_of_length f (children k) ++ ahead) ps → (y : List ℕ) → IsAmong y ps → (j : ℕ) → From y j → IsAmong j found) → AllStand (numbers_of_length f (children k) ++ ahead) (places_from (place o rp s) 0 (children k) ++ qs) → (r : List ℕ) → place o rp from.state ≡ place o rp s ++ r → IsAmong j (i ∷ found)
-      on ih next [] is = (0, ap Some (kept.shows.agrees.apart i j f from.first s from.state k from.status has from.has (sym (is ∙ append-nil (place o rp s)))))
+      on ih next [] is = (0, ap Some (kept.represents.agrees.apart i j f from.first s from.state k from.status has from.has (sym (is ∙ append-nil (place o rp s)))))
       on ih next (b ∷ r) is =
           let child = below_child i f s k has shares j b r from.first from.state from.status from.has is in
           among_later j i found (ih (places_from (place o rp s) 0 (children k) ++ qs) next (place o rp s ++ b ∷ []) (among_left (place o rp s ++ b ∷ []) (places_from (place o rp s) 0 (children k)) qs child) j

@@ -18,7 +18,7 @@ use Rattle.shim_laws_table.proofs.Hanging.{tree_of}
 use Rattle.shim_laws_table.proofs.Sources.{sources_by_records}
 use Rattle.shim_records.specs.Pairs.{stands_of, known_in}
 use Rattle.shim_records.specs.declared.pair.Sharing.{Sharing}
-use Rattle.shim_laws_table_events.specs.keeping.Tables.{TableView, HasProcessState, Keeps}
+use Rattle.shim_laws_table_events.specs.keeping.Tables.{TableView, HasProcessState, TableInvariant}
 use Rattle.shim_laws_table_events.proofs.keeping.Knowing.{known_shares}
 use Rattle.shim_laws_table_events.specs.meetings.Meetings.{IsEnabled, Declares, HasValue}
 use Rattle.shim_laws_table_events.specs.meetings.Plans.{CarriedFrom, SourceChild, ValueAt, SourcesLead}
@@ -65,12 +65,12 @@ some_of : {A : Type 0} (x : Option A) → x ≢ None → (y : A) × (x ≡ Some 
 some_of None h = absurd (h refl)
 some_of (Some y) h = (y, refl)
 
-module _ {S : Type 0} (o : Ops S) (law : LocalLaws o) (rp : Path) (v : TableView S) (root : Node S) (kept : Keeps o rp v root) (c : Channel) where
+module _ {S : Type 0} (o : Ops S) (law : LocalLaws o) (rp : Path) (v : TableView S) (root : Node S) (kept : TableInvariant o rp v root) (c : Channel) where
   -- whoever carries the channel shares it
   carrier_shares : (j g : ℕ) (t : S) (h : ProcessStatus) → HasProcessState v j g t h → o.carries t c ≡ true → o.shares t c ≡ true
   carrier_shares j g t h has e =
-      let n = node_at o rp v.states (map stands_of v.records) root kept.shows j g t h has in
-      let sound = state_sound o n.0 (sound_at o (place o rp t) root n.0 kept.shows.sound.below n.1) in
+      let n = node_at o rp v.states (map stands_of v.records) root kept.represents j g t h has in
+      let sound = state_sound o n.0 (sound_at o (place o rp t) root n.0 kept.represents.sound.below n.1) in
       ap (λ z. o.shares z c) (sym n.2) ∙ law.carries_shares (state n.0) c sound (ap (λ z. o.carries z c) n.2 ∙ e)
 
   -- where it stands below a fork that knows this, the source is the child at or above it
@@ -78,23 +78,23 @@ module _ {S : Type 0} (o : Ops S) (law : LocalLaws o) (rp : Path) (v : TableView
   source_over i f s x k has knows j g t h mine e b r is =
       let over = fork_over o law rp v root kept i f s x has j g t h mine b r is in
       let knew = kept.known c i f over.many s k s over.children (subst (HasProcessState v i f s) over.forked has) knows over.there in
-      let n = node_at o rp v.states (map stands_of v.records) root kept.shows j g t h mine in
+      let n = node_at o rp v.states (map stands_of v.records) root kept.represents j g t h mine in
       let below : at r over.child ≡ Some n.0 = sym (at_split (place o rp s ++ b ∷ []) r root over.child over.child_there) ∙ (ap (λ z. at z root) (append_assoc (place o rp s) (b ∷ []) r ∙ sym is) ∙ n.1) in
       knew.handed_on b over.child over.is_child (some_at (λ z. o.carries z c) r over.child n.0 below (ap (λ z. o.carries z c) n.2 ∙ e))
 
   -- who stands in its place is its process
   same_place : (i f : ℕ) (s : S) (x : ProcessStatus) (j g : ℕ) (t : S) (h : ProcessStatus) → HasProcessState v i f s x → HasProcessState v j g t h → place o rp t ≡ place o rp s ++ [] → j ≡ i
-  same_place i f s x j g t h has mine is = kept.shows.agrees.apart j i g f t s h x mine has (is ∙ append-nil (place o rp s))
+  same_place i f s x j g t h has mine is = kept.represents.agrees.apart j i g f t s h x mine has (is ∙ append-nil (place o rp s))
 
   module _ (i f n : ℕ) (s : S) (k : Sharing) (has : HasProcessState v i f s (forks n)) (knows : known_in c v.records i ≡ Some k) (less : k.source < n) (shares : o.shares s c ≡ true) where
     child : (g : ℕ) × (t : S) × (h : ProcessStatus) × HasProcessState v (f + k.source) g t h × (place o rp t ≡ place o rp s ++ k.source ∷ [])
-    child = kept.shows.agrees.below i f n s has k.source less
+    child = kept.represents.agrees.below i f n s has k.source less
 
     carried_on : (j g : ℕ) (t : S) (h : ProcessStatus) → HasProcessState v j g t h → o.carries t c ≡ true → (r : List ℕ) → place o rp t ≡ place o rp s ++ r → (q : List ℕ) × (place o rp t ≡ place o rp child.1 ++ q) × (o.shares child.1 c ≡ true)
     carried_on j g t h mine e [] is =
         let same = same_place i f s (forks n) j g t h has mine is in
         let is_s : t ≡ s = one_state v.states (map stands_of v.records) j g f t s h (forks n) mine (subst (λ z. HasProcessState v z f s (forks n)) (sym same) has) in
-        let w = seen_fork (at (place o rp s) root) s n (kept.shows.agrees.shown i f s (forks n) has) in
+        let w = seen_fork (at (place o rp s) root) s n (kept.represents.agrees.shown i f s (forks n) has) in
         let knew = kept.known c i f n s k s w.0 has knows w.1 in
         too_far (how_many_nodes w.0) n k.source w.2 (knew.kept_own (ap (λ z. o.carries z c) (sym is_s) ∙ e)) less
     carried_on j g t h mine e (b ∷ r) is =
@@ -113,13 +113,13 @@ sources_lead {S} o law = record { begins = begins; goes_on = goes_on; value = va
     begins : (v : TableView S) (c : Channel) (i : ℕ) → Declares o v i c → IsEnabled o (Meet c) v → CarriedFrom o v c i
     begins v c i home enabled rp root kept =
         let stands = map stands_of v.records in
-        let shares = home_shares o rp v.states stands root kept.shows law c i home.first home.state home.status home.has home.its (can_meet o (tree_of o root) c (enabled rp (tree_of o root) kept)).0 in (
+        let shares = home_shares o rp v.states stands root kept.represents law c i home.first home.state home.status home.has home.its (can_meet o (tree_of o root) c (enabled rp (tree_of o root) kept)).0 in (
           home.first,
           home.state,
           home.status,
           home.has,
           (λ j g t h mine e.
-              let w = below_home o rp v.states stands root kept.shows c i j home.first g home.state t home.status h home.has home.its mine (carrier_shares o law rp v root kept c j g t h mine e) in
+              let w = below_home o rp v.states stands root kept.represents c i j home.first g home.state t home.status h home.has home.its mine (carrier_shares o law rp v root kept c j g t h mine e) in
               (w.0, w.1, shares)),
         )
 
@@ -139,7 +139,7 @@ sources_lead {S} o law = record { begins = begins; goes_on = goes_on; value = va
               carried_on o law rp v root kept c i way.0 way.1 way.2 way.3 way.4 knows way.6 shares m g t h mine e w.0 (w.1 ∙ ap (λ z. place o rp z ++ w.0) is_s)),
         )
 
-    ends : (v : TableView S) (c : Channel) (i : ℕ) → CarriedFrom o v c i → SourceChild v c i None → (rp : Path) (root : Node S) → Keeps o rp v root → (j g : ℕ) (t : S) (h : ProcessStatus) → HasProcessState v j g t h → o.carries t c ≡ true → j ≡ i
+    ends : (v : TableView S) (c : Channel) (i : ℕ) → CarriedFrom o v c i → SourceChild v c i None → (rp : Path) (root : Node S) → TableInvariant o rp v root → (j g : ℕ) (t : S) (h : ProcessStatus) → HasProcessState v j g t h → o.carries t c ≡ true → j ≡ i
     ends v c i from none rp root kept j g t h mine e =
         let a = from rp root kept in
         let w = a.4 j g t h mine e in
@@ -160,10 +160,10 @@ sources_lead {S} o law = record { begins = begins; goes_on = goes_on; value = va
         elim (true_or_false (o.carries a.1 c)) [
           | inl e ↦
               is a.1 a.3.state_is
-              ∙ (ap (λ b. cond b (o.value a.1 c) (pos 0)) e ∙ sym (ap (value_of o c) ((sources_by_records o).carrier rp v.states stands root c i a.0 a.1 a.2 kept.shows a.3 e)))
+              ∙ (ap (λ b. cond b (o.value a.1 c) (pos 0)) e ∙ sym (ap (value_of o c) ((sources_by_records o).carrier rp v.states stands root c i a.0 a.1 a.2 kept.represents a.3 e)))
           | inr lacks ↦
               is a.1 a.3.state_is
-              ∙ (ap (λ b. cond b (o.value a.1 c) (pos 0)) lacks ∙ sym (ap (value_of o c) ((sources_by_records o).none rp v.states stands root c kept.shows (λ j g t h mine. elim (true_or_false (o.carries t c)) [
+              ∙ (ap (λ b. cond b (o.value a.1 c) (pos 0)) lacks ∙ sym (ap (value_of o c) ((sources_by_records o).none rp v.states stands root c kept.represents (λ j g t h mine. elim (true_or_false (o.carries t c)) [
                 | inl e ↦
                     let same = ends v c i from none rp root kept j g t h mine e in
                     let is_s = one_state v.states stands j g a.0 t a.1 h a.2 mine (subst (λ z. HasProcessState v z a.0 a.1 a.2) (sym same) a.3) in

@@ -7,7 +7,7 @@ use Rattle.shim_laws_table.proofs.SameTrees.{same_or_not}
 use Rattle.shim_records.specs.Pairs.{rest_of, UncountedRecord}
 use Rattle.shim_records.specs.declared.record.Record.{Record}
 use Rattle.shim_records.proofs.Stepping.{set_there, set_elsewhere}
-use Rattle.shim_records.proofs.Showing.{map_get}
+use Rattle.shim_records.proofs.Representing.{map_get}
 use Rattle.shim_laws_table_events.proofs.keeping.Moved.{map_length, was_record}
 
 pub map_slice_set : {A B : Type 0} (f : A → B) (xs : List A) (i : ℕ) (x : A) → map f (slice_set xs i x) ≡ slice_set (map f xs) i (f x)
@@ -37,11 +37,11 @@ both_paths a b d f g i r e = let y = g i r e in let z = f i y.0 y.1 in (z.0, z.1
 -- how many children go on, by the record of a fork
 abbrev pub going_at : Option Record → ℕ
 going_at None = 0
-going_at (Some r) = r.going
+going_at (Some r) = r.running_children
 
 abbrev going_rest : Option UncountedRecord → ℕ
 going_rest None = 0
-going_rest (Some r) = r.going
+going_rest (Some r) = r.running_children
 
 by_rest : (x : Option Record) → going_at x ≡ going_rest (option_map rest_of x)
 by_rest None = refl

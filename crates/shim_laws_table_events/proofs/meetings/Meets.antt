@@ -12,24 +12,24 @@ use Rattle.shim_semantics.specs.Trees.{Tree, Meet, met, after}
 use Rattle.shim_semantics.proofs.Replaced.{sound_at}
 use Rattle.shim_laws_schedules.proofs.Unshared.{stands_shares}
 use Rattle.shim_laws_table.specs.Seen.{ProcessStatus, lives, forks, ends, dies, place}
-use Rattle.shim_laws_table.specs.Agrees.{RecordView, Shows}
+use Rattle.shim_laws_table.specs.Agrees.{RecordView, Represents}
 use Rattle.shim_laws_table.specs.Places.{got}
 use Rattle.shim_laws_table.specs.Changes.{HaveReceived}
 use Rattle.shim_laws_table.proofs.SameTrees.{same_or_not, seen_live}
 use Rattle.shim_laws_table.proofs.OneChange.{one_state, one_sort}
 use Rattle.shim_laws_table.proofs.OneTree.{one_tree}
-use Rattle.shim_laws_table.proofs.Shown.{events_are_shown}
+use Rattle.shim_laws_table.proofs.Shown.{events_preserve}
 use Rattle.shim_laws_table.proofs.Hanging.{tree_of}
 use Rattle.shim_records.specs.Members.{IsAmong}
 use Rattle.shim_records.specs.Pairs.{stands_of}
 use Rattle.shim_records.proofs.Stepping.{set_there, set_elsewhere}
 use Rattle.shim_records.proofs.ReadOff.{same_stands}
-use Rattle.shim_laws_table_events.specs.keeping.Tables.{TableView, HasProcessState, Keeps}
+use Rattle.shim_laws_table_events.specs.keeping.Tables.{TableView, HasProcessState, TableInvariant}
 use Rattle.shim_laws_table_events.specs.meetings.Sharers.{AreSharers, ListsSharers, AreReceivers, ListsReceivers}
-use Rattle.shim_laws_table_events.specs.meetings.Meetings.{ReceivesOne, stands_elsewhere, received, ReceiveAll, none_left, one_more, IsEnabled, Declares, HasValue, MeetingsMove, SharersReceive}
+use Rattle.shim_laws_table_events.specs.meetings.Meetings.{ReceivesOne, stands_elsewhere, received, ReceiveAll, none_left, one_more, IsEnabled, Declares, HasValue, MeetingPreserves, SharersReceive}
 use Rattle.shim_laws_table_events.proofs.meetings.Among.{none_among, among_later, among_split, among_or_not, AreDistinct, distinct}
 use Rattle.shim_laws_table_events.proofs.meetings.AtHome.{below_home, home_shares, can_meet}
-use Rattle.shim_laws_table_events.proofs.meetings.Receives.{received_keeps, moves_on_rest}
+use Rattle.shim_laws_table_events.proofs.meetings.Receives.{receive_preserves, moves_on_rest}
 
 module _ {S : Type 0} (o : Ops S) (law : LocalLaws o) (c : Channel) (v : ℤ) where
   abbrev stands : TableView S → List RecordView
@@ -41,11 +41,11 @@ module _ {S : Type 0} (o : Ops S) (law : LocalLaws o) (c : Channel) (v : ℤ) wh
   one_stands i before behind (stands_elsewhere none same) = ap stands same
   one_stands i before behind (received f l d has stop is states moves) = same_stands before.records behind.records (moves_on_rest moves)
 
-  pub one_keeps : (rp : Path) (i : ℕ) (before behind : TableView S) (root : Node S) → ReceivesOne o c v i before behind → Keeps o rp before root → (new : Node S) × Keeps o rp behind new
-  one_keeps rp i before behind root (stands_elsewhere none same) kept = (root, subst (λ z. Keeps o rp z root) (sym same) kept)
+  pub one_keeps : (rp : Path) (i : ℕ) (before behind : TableView S) (root : Node S) → ReceivesOne o c v i before behind → TableInvariant o rp before root → (new : Node S) × TableInvariant o rp behind new
+  one_keeps rp i before behind root (stands_elsewhere none same) kept = (root, subst (λ z. TableInvariant o rp z root) (sym same) kept)
   one_keeps rp i before behind root (received f l d has stop is states moves) kept =
-      let w = received_keeps o law rp root before.states before.records behind.records i f l d v kept has stop moves in
-      (w.0, subst (λ z. Keeps o rp (record { states = z; records = behind.records }) w.0) (sym states) w.2)
+      let w = receive_preserves o law rp root before.states before.records behind.records i f l d v kept has stop moves in
+      (w.0, subst (λ z. TableInvariant o rp (record { states = z; records = behind.records }) w.0) (sym states) w.2)
 
   one_untouched : (i j : ℕ) (before behind : TableView S) → ReceivesOne o c v i before behind → j ≢ i → slice_get behind.states j ≡ slice_get before.states j
   one_untouched i j before behind (stands_elsewhere none same) far = ap (λ z. slice_get z.states j) same
@@ -79,7 +79,7 @@ module _ {S : Type 0} (o : Ops S) (law : LocalLaws o) (c : Channel) (v : ℤ) wh
   all_stand (none_left w) = refl
   all_stand (one_more i is before between behind first more) = all_stand more ∙ one_stands i before between first
 
-  all_keep : {numbers : List ℕ} {before behind : TableView S} (rp : Path) (root : Node S) → ReceiveAll o c v numbers before behind → Keeps o rp before root → (new : Node S) × Keeps o rp behind new
+  all_keep : {numbers : List ℕ} {before behind : TableView S} (rp : Path) (root : Node S) → ReceiveAll o c v numbers before behind → TableInvariant o rp before root → (new : Node S) × TableInvariant o rp behind new
   all_keep rp root (none_left w) kept = (root, kept)
   all_keep rp root (one_more i is before between behind first more) kept = let w = one_keeps rp i before between root first kept in all_keep rp w.0 more w.1
 
@@ -105,18 +105,18 @@ module _ {S : Type 0} (o : Ops S) (law : LocalLaws o) (c : Channel) (v : ℤ) wh
 
 -- all that share the channel are receivers enough
 module _ {S : Type 0} (o : Ops S) (law : LocalLaws o) (v : TableView S) (c : Channel) (i : ℕ) (numbers : List ℕ) (home : Declares o v i c) (enabled : IsEnabled o (Meet c) v) (lists : ListsSharers o v c i numbers) (rp : Path) (root : Node S)
-    (kept : Keeps o rp v root) where
+    (kept : TableInvariant o rp v root) where
   sharing : AreSharers o rp v c (place o rp home.state) numbers
   sharing = lists rp root home.first home.state home.status kept home.has
-      (home_shares o rp v.states (map stands_of v.records) root kept.shows law c i home.first home.state home.status home.has home.its (can_meet o (tree_of o root) c (enabled rp (tree_of o root) kept)).0)
+      (home_shares o rp v.states (map stands_of v.records) root kept.represents law c i home.first home.state home.status home.has home.its (can_meet o (tree_of o root) c (enabled rp (tree_of o root) kept)).0)
 
   share_all : AreReceivers o v c numbers
   share_all = record {
     distinct = distinct o rp v c (place o rp home.state) numbers sharing;
     all = λ j f s has e.
-        let there = seen_live (at (place o rp s) root) s (kept.shows.agrees.shown j f s lives has) in
-        let shares = stands_shares o law c s (sound_at o (place o rp s) root (Live s) kept.shows.sound.below there) e in
-        let w = below_home o rp v.states (map stands_of v.records) root kept.shows c i j home.first f home.state s home.status lives home.has home.its has shares in
+        let there = seen_live (at (place o rp s) root) s (kept.represents.agrees.shown j f s lives has) in
+        let shares = stands_shares o law c s (sound_at o (place o rp s) root (Live s) kept.represents.sound.below there) e in
+        let w = below_home o rp v.states (map stands_of v.records) root kept.represents c i j home.first f home.state s home.status lives home.has home.its has shares in
         sharing.all j (record { first = f; state = s; status = lives; has = has; shares = shares; further = w.0; is_there = w.1 });
   }
 
@@ -124,7 +124,7 @@ pub sharers_receive : {S : Type 0} (o : Ops S) → LocalLaws o → SharersReceiv
 sharers_receive o law v c i numbers home enabled lists rp root kept = share_all o law v c i numbers home enabled lists rp root kept
 
 module _ {S : Type 0} (o : Ops S) (law : LocalLaws o) (before behind : TableView S) (c : Channel) (numbers : List ℕ) (x : ℤ) (enabled : IsEnabled o (Meet c) before) (lists : ListsReceivers o before c numbers)
-    (value : HasValue o before c x) (all : ReceiveAll o c x numbers before behind) (rp : Path) (t : Tree S) (kept : Keeps o rp before t.root) where
+    (value : HasValue o before c x) (all : ReceiveAll o c x numbers before behind) (rp : Path) (t : Tree S) (kept : TableInvariant o rp before t.root) where
   abbrev u : Tree S
   u = met o c (value_of o c (source o c t.root)) t
 
@@ -134,7 +134,7 @@ module _ {S : Type 0} (o : Ops S) (law : LocalLaws o) (before behind : TableView
   are : AreReceivers o before c numbers
   are = lists rp t.root kept
 
-  chain : (new : Node S) × Keeps o rp behind new
+  chain : (new : Node S) × TableInvariant o rp behind new
   chain = all_keep o law c x rp t.root all kept
 
   -- who isn't among them doesn't stand at the channel
@@ -153,17 +153,17 @@ module _ {S : Type 0} (o : Ops S) (law : LocalLaws o) (before behind : TableView
     had = λ j s e. all_had o law c x j s all e;
   }
 
-  shown : Shows o rp behind.states (map stands_of before.records) u.root
-  shown = (events_are_shown o law).met rp before.states behind.states (map stands_of before.records) t u c x kept.shows can.1 (value rp t.root kept) have
+  shown : Represents o rp behind.states (map stands_of before.records) u.root
+  shown = (events_preserve o law).met rp before.states behind.states (map stands_of before.records) t u c x kept.represents can.1 (value rp t.root kept) have
 
   same : chain.0 ≡ u.root
-  same = one_tree o rp behind.states (map stands_of before.records) chain.0 u.root shown.rooted (subst (λ z. Shows o rp behind.states z chain.0) (all_stand o law c x all) chain.1.shows).agrees shown.agrees
+  same = one_tree o rp behind.states (map stands_of before.records) chain.0 u.root shown.rooted (subst (λ z. Represents o rp behind.states z chain.0) (all_stand o law c x all) chain.1.represents).agrees shown.agrees
 
-  moved : (u : Tree S) × (after o (Meet c) t ≡ Some u) × Keeps o rp behind u.root
-  moved = (u, can.1, subst (Keeps o rp behind) same chain.1)
+  moved : (u : Tree S) × (after o (Meet c) t ≡ Some u) × TableInvariant o rp behind u.root
+  moved = (u, can.1, subst (TableInvariant o rp behind) same chain.1)
 
-pub meetings_move : {S : Type 0} (o : Ops S) → LocalLaws o → MeetingsMove o
-meetings_move o law before behind c numbers x enabled lists value all = (
+pub meeting_preserves : {S : Type 0} (o : Ops S) → LocalLaws o → MeetingPreserves o
+meeting_preserves o law before behind c numbers x enabled lists value all = (
   (λ rp t kept. moved o law before behind c numbers x enabled lists value all rp t kept),
   (λ rp root kept. (all_stand o law c x all, have o law before behind c numbers x enabled lists value all rp (tree_of o root) kept)),
 )

@@ -68,21 +68,21 @@ pub names_found : {S : Type 0} (o : Ops S) → LocalLaws o → NamesFound o
 names_found {S} o law v c i numbers x home enabled lists named rp root kept = ap (λ z. unwrap_or z 0) (sym (on (firsts o c rp v named are.ordered)))
   where
     are : AreSharers o rp v c (place o rp home.state) numbers
-    are = lists rp root home.first home.state home.status kept home.has (home_shares o rp v.states (map stands_of v.records) root kept.shows law c i home.first home.state home.status home.has home.its (can_meet o (tree_of o root) c (enabled rp (tree_of o root) kept)).0)
+    are = lists rp root home.first home.state home.status kept home.has (home_shares o rp v.states (map stands_of v.records) root kept.represents law c i home.first home.state home.status home.has home.its (can_meet o (tree_of o root) c (enabled rp (tree_of o root) kept)).0)
 
     -- whoever stands at the channel shares it, and so is among them
     stander_among : (j g : ℕ) (t : S) → HasProcessState v j g t lives → is_next (o.stop t) c ≡ true → IsAmong j numbers
     stander_among j g t has y =
-        let there = seen_live (at (place o rp t) root) t (kept.shows.agrees.shown j g t lives has) in
-        let shares = stands_shares o law c t (sound_at o (place o rp t) root (Live t) kept.shows.sound.below there) y in
-        let w = below_home o rp v.states (map stands_of v.records) root kept.shows c i j home.first g home.state t home.status lives home.has home.its has shares in
+        let there = seen_live (at (place o rp t) root) t (kept.represents.agrees.shown j g t lives has) in
+        let shares = stands_shares o law c t (sound_at o (place o rp t) root (Live t) kept.represents.sound.below there) y in
+        let w = below_home o rp v.states (map stands_of v.records) root kept.represents c i j home.first g home.state t home.status lives home.has home.its has shares in
         are.all j (record { first = g; state = t; status = lives; has = has; shares = shares; further = w.0; is_there = w.1 })
 
     on : Firsts o c rp v numbers x → first_name o c root ≡ x
     on (none_stands e none) = nobody_named o c root (λ p t there y.
-        let w = covered o rp v.states (map stands_of v.records) kept.shows.rooted root kept.shows.agrees p (Live t) there in
+        let w = covered o rp v.states (map stands_of v.records) kept.represents.rooted root kept.represents.agrees p (Live t) there in
         let same = some_same (w.state_is, w.status_is) (t, lives) w.is_seen in
         let has : HasProcessState v w.number w.first t lives = subst (λ z. HasProcessState v w.number w.first t z) (ap (λ z. z.1) same) (subst (λ z. HasProcessState v w.number w.first z w.status_is) (ap (λ z. z.0) same) w.has) in
         clash (is_next (o.stop t) c) y (none w.number w.first t (stander_among w.number w.first t has y) has)) ∙ sym e
     on (one_stands j f l d has stop its e before) =
-        (sources_by_records o).name rp v.states (map stands_of v.records) root c j f l d kept.shows has stop its (λ k g t status y. before k g t (stander_among k g t status y) status y) ∙ sym e
+        (sources_by_records o).name rp v.states (map stands_of v.records) root c j f l d kept.represents has stop its (λ k g t status y. before k g t (stander_among k g t status y) status y) ∙ sym e

@@ -19,11 +19,11 @@ use Rattle.shim_laws_table.proofs.Hanging.{tree_of}
 use Rattle.shim_records.specs.Members.{IsAmong}
 use Rattle.shim_records.specs.Pairs.{stands_of, known_in}
 use Rattle.shim_records.specs.declared.pair.Sharing.{Sharing}
-use Rattle.shim_laws_table_events.specs.keeping.Tables.{TableView, HasProcessState, Keeps}
+use Rattle.shim_laws_table_events.specs.keeping.Tables.{TableView, HasProcessState, TableInvariant}
 use Rattle.shim_laws_table_events.proofs.keeping.Knowing.{known_shares}
 use Rattle.shim_laws_table_events.specs.meetings.Descents.{numbers_of_length}
 use Rattle.shim_laws_table_events.specs.meetings.Sharers.{InOrder, AreDistinct}
-use Rattle.shim_laws_table_events.specs.meetings.Plans.{how_many_between, children_between, IsPassed, Plans, at_end, passes, finds, goes_below, PlansFind}
+use Rattle.shim_laws_table_events.specs.meetings.Plans.{how_many_between, children_between, IsSkipped, Plans, at_end, passes, finds, goes_below, PlansFind}
 use Rattle.shim_laws_table_events.proofs.meetings.Among.{none_among, among_later, among_split, not_before}
 use Rattle.shim_laws_table_events.proofs.meetings.AtHome.{below_home, home_shares, can_meet}
 use Rattle.shim_laws_table_events.proofs.meetings.Below.{ForkOver, fork_over, fork_knows, child_between}
@@ -38,7 +38,7 @@ count_fits last first m n e less = omega (arith, e, less)
 behind_first : (first b last : ℕ) → first ≤ b → b ≤ last → (d : ℕ) × (b ≡ first + d) × (d < (last + 1) - first)
 behind_first first b last low high = (b - first, omega (arith, low), omega (arith, low, high))
 
-module _ {S : Type 0} (o : Ops S) (law : LocalLaws o) (rp : Path) (v : TableView S) (c : Channel) (root : Node S) (kept : Keeps o rp v root) where
+module _ {S : Type 0} (o : Ops S) (law : LocalLaws o) (rp : Path) (v : TableView S) (c : Channel) (root : Node S) (kept : TableInvariant o rp v root) where
   -- the process with this number lives, and its place is q or further along
   pub record LivesFrom (q : List ℕ) (i : ℕ) : Type 0 where
     pub first : ℕ
@@ -65,7 +65,7 @@ module _ {S : Type 0} (o : Ops S) (law : LocalLaws o) (rp : Path) (v : TableView
     some_children : (b m : ℕ) → b + m ≤ n → AllStanding (numbers_of_length (f + b) m) (places_from (place o rp s) b m)
     some_children b zero inside = tt
     some_children b (suc m) inside =
-        let z = kept.shows.agrees.below i f n s has b (omega (arith, inside)) in (
+        let z = kept.represents.agrees.below i f n s has b (omega (arith, inside)) in (
           record { first = z.0; state_is = z.1; status = z.2; has = z.3; is_there = z.4; outside = λ lacks. child_outside o rp v c root kept i f s (forks n) has shares n b z.0 z.1 z.2 has z.3 z.4 },
           subst (λ y. AllStanding (numbers_of_length y m) (places_from (place o rp s) (suc b) m)) (next f b) (some_children (suc b) m (omega (arith, inside))),
         )
@@ -78,7 +78,7 @@ module _ {S : Type 0} (o : Ops S) (law : LocalLaws o) (rp : Path) (v : TableView
 
     within : k.last < n
     within =
-        let w = seen_fork (at (place o rp s) root) s n (kept.shows.agrees.shown i f s (forks n) has) in
+        let w = seen_fork (at (place o rp s) root) s n (kept.represents.agrees.shown i f s (forks n) has) in
         subst (λ z. k.last < z) w.2 (kept.known c i f n s k s w.0 has knows w.1).within
 
     children_stand : AllStanding (children_between f k) its_places
@@ -165,13 +165,13 @@ module _ {S : Type 0} (o : Ops S) (law : LocalLaws o) (rp : Path) (v : TableView
     pub shares_it : o.shares alive.state c ≡ true
 
   at_it : (i f : ℕ) (s : S) (k : ProcessStatus) (j : ℕ) → HasProcessState v i f s k → (w : LivesFrom (place o rp s) j) → w.further ≡ [] → j ≡ i
-  at_it i f s k j has w e = kept.shows.agrees.apart j i w.first f w.state s lives k w.has has (w.is_there ∙ (ap (λ z. place o rp s ++ z) e ∙ append-nil (place o rp s)))
+  at_it i f s k j has w e = kept.represents.agrees.apart j i w.first f w.state s lives k w.has has (w.is_there ∙ (ap (λ z. place o rp s ++ z) e ∙ append-nil (place o rp s)))
 
   over_it : (i f : ℕ) (s : S) (k : ProcessStatus) (j : ℕ) → HasProcessState v i f s k → (w : LivesFrom (place o rp s) j) (b : ℕ) (r : List ℕ) → w.further ≡ b ∷ r → ForkOver o law rp v root kept i f s k b
   over_it i f s k j has w b r e = fork_over o law rp v root kept i f s k has j w.first w.state lives w.has b r (w.is_there ∙ ap (λ z. place o rp s ++ z) e)
 
   -- nobody is at or below who was passed by
-  not_passed : (i f : ℕ) (s : S) (k : ProcessStatus) (j : ℕ) → HasProcessState v i f s k → IsPassed v c i → (o.shares s c ≡ false → Outside c (o.path s)) → SharesAlive (place o rp s) j → ⊥
+  not_passed : (i f : ℕ) (s : S) (k : ProcessStatus) (j : ℕ) → HasProcessState v i f s k → IsSkipped v c i → (o.shares s c ≡ false → Outside c (o.path s)) → SharesAlive (place o rp s) j → ⊥
   not_passed i f s k j has none outside w = on w.alive.further refl
     where
       on : (x : List ℕ) → w.alive.further ≡ x → ⊥
@@ -238,7 +238,7 @@ module _ {S : Type 0} (o : Ops S) (law : LocalLaws o) (rp : Path) (v : TableView
 pub plans_find : {S : Type 0} (o : Ops S) → LocalLaws o → PlansFind o
 plans_find {S} o law v c i found home enabled plans rp root kept =
     let stands = map stands_of v.records in
-    let shares : o.shares home.state c ≡ true = home_shares o rp v.states stands root kept.shows law c i home.first home.state home.status home.has home.its (can_meet o (tree_of o root) c (enabled rp (tree_of o root) kept)).0 in
+    let shares : o.shares home.state c ≡ true = home_shares o rp v.states stands root kept.represents law c i home.first home.state home.status home.has home.its (can_meet o (tree_of o root) c (enabled rp (tree_of o root) kept)).0 in
     let q = place o rp home.state in
     let stand : AllStand o rp v c root kept (i ∷ []) (q ∷ []) = (
       record { first = home.first; state_is = home.state; status = home.status; has = home.has; is_there = refl; outside = λ lacks. clash (o.shares home.state c) shares lacks },
@@ -247,8 +247,8 @@ plans_find {S} o law v c i found home enabled plans rp root kept =
     record {
       distinct = distinct_found o law rp v c root kept plans (q ∷ []) stand ((λ p g. none_among p g), tt);
       all = λ j f l has e.
-          let there = seen_live (at (place o rp l) root) l (kept.shows.agrees.shown j f l lives has) in
-          let its = stands_shares o law c l (sound_at o (place o rp l) root (Live l) kept.shows.sound.below there) e in
-          let w = below_home o rp v.states stands root kept.shows c i j home.first f home.state l home.status lives home.has home.its has its in
+          let there = seen_live (at (place o rp l) root) l (kept.represents.agrees.shown j f l lives has) in
+          let its = stands_shares o law c l (sound_at o (place o rp l) root (Live l) kept.represents.sound.below there) e in
+          let w = below_home o rp v.states stands root kept.represents c i j home.first f home.state l home.status lives home.has home.its has its in
           all_found o law rp v c root kept plans (q ∷ []) stand q (0, refl) j (record { alive = record { first = f; state = l; has = has; further = w.0; is_there = w.1 }; shares_it = its });
     }

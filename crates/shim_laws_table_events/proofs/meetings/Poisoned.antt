@@ -15,31 +15,31 @@ use Rattle.shim_laws_schedules.specs.Waiting.{has_sharer}
 use Rattle.shim_laws_schedules.proofs.Homes.{unshared_is_unshared, ready_has_sharer}
 use Rattle.shim_laws_schedules.proofs.Unshared.{is_unshared_still}
 use Rattle.shim_laws_table.specs.Seen.{ProcessStatus, lives, forks, ends, dies, place}
-use Rattle.shim_laws_table.specs.Agrees.{RecordView, free, used, Shows}
+use Rattle.shim_laws_table.specs.Agrees.{RecordView, free, used, Represents}
 use Rattle.shim_laws_table.specs.Places.{killed}
 use Rattle.shim_laws_table.specs.Changes.{HaveDied}
-use Rattle.shim_laws_table.specs.Dooms.{least_among, is_below}
+use Rattle.shim_laws_table.specs.Dooms.{min_dead_label_among, is_below}
 use Rattle.shim_laws_table.proofs.Aside.{at_split}
 use Rattle.shim_laws_table.proofs.SameTrees.{same_or_not, seen_fork}
 use Rattle.shim_laws_table.proofs.OneChange.{one_state}
 use Rattle.shim_laws_table.proofs.OneTree.{one_tree}
-use Rattle.shim_laws_table.proofs.Shown.{events_are_shown}
-use Rattle.shim_laws_table.proofs.Singles.{singles_are_shown}
-use Rattle.shim_laws_table.proofs.Leasts.{child_sound, shared_not_below}
+use Rattle.shim_laws_table.proofs.Shown.{events_preserve}
+use Rattle.shim_laws_table.proofs.Singles.{single_changes_are_represented}
+use Rattle.shim_laws_table.proofs.MinLabels.{child_sound, shared_not_below}
 use Rattle.shim_laws_table.proofs.CanHappen.{enabled_by_records}
 use Rattle.shim_laws_table.proofs.Hanging.{tree_of}
 use Rattle.shim_records.specs.Members.{IsAmong}
 use Rattle.shim_records.specs.Pairs.{stands_of}
 use Rattle.shim_records.proofs.Stepping.{set_there, set_elsewhere}
-use Rattle.shim_laws_table_events.specs.keeping.Tables.{TableView, HasProcessState, Keeps}
+use Rattle.shim_laws_table_events.specs.keeping.Tables.{TableView, HasProcessState, TableInvariant}
 use Rattle.shim_laws_table_events.proofs.keeping.Steps.{some_of}
 use Rattle.shim_laws_table_events.specs.meetings.Sharers.{AreSharers, ListsSharers}
 use Rattle.shim_laws_table_events.specs.meetings.Dying.{DiesAt}
-use Rattle.shim_laws_table_events.specs.meetings.Poisons.{DiesOne, survived, was_killed, AllDie, none_left, one_more, IsChildOf, PoisonsMove}
+use Rattle.shim_laws_table_events.specs.meetings.Poisons.{DiesOne, survived, was_killed, AllDie, none_left, one_more, IsChildOf, PoisonPreserves}
 use Rattle.shim_laws_table_events.specs.meetings.Meetings.{IsEnabled}
 use Rattle.shim_laws_table_events.proofs.meetings.Among.{none_among, among_later, among_split, AreDistinct, distinct}
 use Rattle.shim_laws_table_events.proofs.meetings.AtHome.{node_at}
-use Rattle.shim_laws_table_events.proofs.meetings.Dies.{died_keeps, stands_now}
+use Rattle.shim_laws_table_events.proofs.meetings.Dies.{death_preserves, stands_now}
 
 used_so : (f g : ℕ) (k h : ProcessStatus) → used f k ≡ used g h → (f ≡ g) × (k ≡ h)
 used_so f g k h e = (ap (first_of f) e, ap (status_is k) e)
@@ -121,11 +121,11 @@ module _ {S : Type 0} (o : Ops S) (label : ℕ) where
         no_more ends e = cc
         no_more (dies d) e = cc
 
-    pub one_keeps : LocalLaws o → (rp : Path) (root : Node S) → Keeps o rp before root → DiesOne o label i before behind → (new : Node S) × Keeps o rp behind new
-    one_keeps law rp root kept (survived none same) = (root, subst (λ z. Keeps o rp z root) (sym same) kept)
+    pub one_keeps : LocalLaws o → (rp : Path) (root : Node S) → TableInvariant o rp before root → DiesOne o label i before behind → (new : Node S) × TableInvariant o rp behind new
+    one_keeps law rp root kept (survived none same) = (root, subst (λ z. TableInvariant o rp z root) (sym same) kept)
     one_keeps law rp root kept (was_killed f l has low states is_killed) =
-        let w = died_keeps o law rp root before.states before.records behind.records i f label l kept has low is_killed in
-        (w.0, subst (λ z. Keeps o rp (record { states = z; records = behind.records }) w.0) (sym states) w.2)
+        let w = death_preserves o law rp root before.states before.records behind.records i f label l kept has low is_killed in
+        (w.0, subst (λ z. TableInvariant o rp (record { states = z; records = behind.records }) w.0) (sym states) w.2)
 
   -- ---- all of them
 
@@ -135,19 +135,19 @@ module _ {S : Type 0} (o : Ops S) (label : ℕ) where
   pub record AreKilled (rp : Path) (numbers : List ℕ) (before behind : TableView S) : Type 0 where
     pub states : behind.states ≡ before.states
     pub root : Node S
-    pub keeps : Keeps o rp behind root
+    pub keeps : TableInvariant o rp behind root
     pub untouched : (j : ℕ) → (IsAmong j numbers → ⊥) → slice_get (stands behind) j ≡ slice_get (stands before) j
     pub is_killed : (j f : ℕ) (s : S) (k : ProcessStatus) → HasProcessState before j f s k → IsAmong j numbers → slice_get (stands behind) j ≡ Some (used f (killed_to k))
     pub had : (j f : ℕ) (k : ProcessStatus) → slice_get (stands behind) j ≡ Some (used f k) → (h : ProcessStatus) × (slice_get (stands before) j ≡ Some (used f h))
 
-  all_die : {numbers : List ℕ} {before behind : TableView S} → LocalLaws o → (rp : Path) (root : Node S) → AllDie o label numbers before behind → AreDistinct numbers → Keeps o rp before root → AllLess before numbers → AreKilled rp numbers before behind
+  all_die : {numbers : List ℕ} {before behind : TableView S} → LocalLaws o → (rp : Path) (root : Node S) → AllDie o label numbers before behind → AreDistinct numbers → TableInvariant o rp before root → AllLess before numbers → AreKilled rp numbers before behind
   all_die law rp root (none_left w) apart kept less = record { states = refl; root = root; keeps = kept; untouched = λ j out. refl; is_killed = λ j f s k has g. none_among j g; had = λ j f k e. (k, e) }
   all_die law rp root (one_more i is before between behind first more) apart kept less = joined (all_die law rp next.0 more apart.1 next.1 (λ j g f l has. less j (among_later j i is g) f l (one_lived i before between here j f l first has)))
     where
       here : (f : ℕ) (l : S) → HasProcessState before i f l lives → label < o.base l
       here f l has = less i (0, refl) f l has
 
-      next : (new : Node S) × Keeps o rp between new
+      next : (new : Node S) × TableInvariant o rp between new
       next = one_keeps i before between law rp root kept first
 
       joined : AreKilled rp is between behind → AreKilled rp (i ∷ is) before behind
@@ -167,12 +167,12 @@ module _ {S : Type 0} (o : Ops S) (label : ℕ) where
       }
 
 module _ {S : Type 0} (o : Ops S) (law : LocalLaws o) (before behind : TableView S) (c : Channel) (i label : ℕ) (k l : S) (numbers : List ℕ) (child : IsChildOf before i k l) (is_label : label ≡ o.handlers l - 1) (enabled : IsEnabled o (Poison (o.path k) c) before)
-    (lists : ListsSharers o before c i numbers) (all : AllDie o label numbers before behind) (rp : Path) (t : Tree S) (kept : Keeps o rp before t.root) where
+    (lists : ListsSharers o before c i numbers) (all : AllDie o label numbers before behind) (rp : Path) (t : Tree S) (kept : TableInvariant o rp before t.root) where
   can : (u : Tree S) × (after o (Poison (o.path k) c) t ≡ Some u)
   can = some_of (after o (Poison (o.path k) c) t) (enabled rp t kept)
 
   fork : (ks : Nodes S) × (at (place o rp l) t.root ≡ Some (Forked l ks))
-  fork = let w = seen_fork (at (place o rp l) t.root) l child.many (kept.shows.agrees.shown child.parent child.first l (forks child.many) child.fork) in (w.0, w.1)
+  fork = let w = seen_fork (at (place o rp l) t.root) l child.many (kept.represents.agrees.shown child.parent child.first l (forks child.many) child.fork) in (w.0, w.1)
 
   its : HasProcessState before (child.first + child.branch) child.own_first k child.status
   its = subst (λ z. HasProcessState before z child.own_first k child.status) child.mine child.has
@@ -180,25 +180,25 @@ module _ {S : Type 0} (o : Ops S) (law : LocalLaws o) (before behind : TableView
   -- its place
   its_place : place o rp k ≡ place o rp l ++ child.branch ∷ []
   its_place =
-      let z = kept.shows.agrees.below child.parent child.first child.many l child.fork child.branch child.within in
+      let z = kept.represents.agrees.below child.parent child.first child.many l child.fork child.branch child.within in
       ap (place o rp) (one_state before.states (map stands_of before.records) (child.first + child.branch) child.own_first z.0 k z.1 child.status z.2 its z.3) ∙ z.4
 
   node : (n : Node S) × (at (place o rp k) t.root ≡ Some n) × (state n ≡ k)
-  node = node_at o rp before.states (map stands_of before.records) t.root kept.shows i child.own_first k child.status child.has
+  node = node_at o rp before.states (map stands_of before.records) t.root kept.represents i child.own_first k child.status child.has
 
   at_branch : child_at child.branch [] fork.0 ≡ Some node.0
   at_branch = sym (at_split (place o rp l) (child.branch ∷ []) t.root (Forked l fork.0) fork.1) ∙ (ap (λ z. at z t.root) (sym its_place) ∙ node.1)
 
-  told : (o.shares l c ≡ true) × (ready o c node.0 ≡ true) × (is_below (least_among o c fork.0) (o.handlers l) ≡ true)
-  told = ((enabled_by_records o law).poisons rp before.states (map stands_of before.records) t c child.parent child.first child.many child.branch child.own_first l k child.status fork.0 node.0 kept.shows child.fork its child.within fork.1 at_branch).0 (enabled rp t kept)
+  told : (o.shares l c ≡ true) × (ready o c node.0 ≡ true) × (is_below (min_dead_label_among o c fork.0) (o.handlers l) ≡ true)
+  told = ((enabled_by_records o law).poisons rp before.states (map stands_of before.records) t c child.parent child.first child.many child.branch child.own_first l k child.status fork.0 node.0 kept.represents child.fork its child.within fork.1 at_branch).0 (enabled rp t kept)
 
   shares : o.shares k c ≡ true
   shares = elim (true_or_false (o.shares k c)) [
     | inl e ↦ e
     | inr e ↦
-        let sound = sound_at o (place o rp l) t.root (Forked l fork.0) kept.shows.sound.below fork.1 in
+        let sound = sound_at o (place o rp l) t.root (Forked l fork.0) kept.represents.sound.below fork.1 in
         let w = child_sound o l sound.number 0 child.branch fork.0 node.0 sound.children at_branch in
-        let quiet = unshared_is_unshared o c node.0 w.0 (ap (λ z. o.shares z c) node.2 ∙ e) (λ r h. shared_not_below o t.root (place o rp l) (Forked l fork.0) c kept.shows.sound fork.1 told.0 (sound.number, w.1) r (h ∙ w.2 r)) in
+        let quiet = unshared_is_unshared o c node.0 w.0 (ap (λ z. o.shares z c) node.2 ∙ e) (λ r h. shared_not_below o t.root (place o rp l) (Forked l fork.0) c kept.represents.sound fork.1 told.0 (sound.number, w.1) r (h ∙ w.2 r)) in
         clash (has_sharer o c node.0) (ready_has_sharer o law c node.0 w.0 told.1) (is_unshared_still o c node.0 quiet)
   ]
 
@@ -209,11 +209,11 @@ module _ {S : Type 0} (o : Ops S) (law : LocalLaws o) (before behind : TableView
   below_base : (j : ℕ) → IsAmong j numbers → (f : ℕ) (s : S) → HasProcessState before j f s lives → label < o.base s
   below_base j g f s has =
       let from = are.only j g in
-      let m = node_at o rp before.states (map stands_of before.records) t.root kept.shows j f s lives has in
+      let m = node_at o rp before.states (map stands_of before.records) t.root kept.represents j f s lives has in
       let same : from.state ≡ s = one_state before.states (map stands_of before.records) j from.first f from.state s from.status lives from.has has in
       let there : at (place o rp l ++ child.branch ∷ from.further) t.root ≡ Some m.0 = ap (λ z. at z t.root) (sym (append_assoc (place o rp l) (child.branch ∷ []) from.further) ∙ (ap (λ z. z ++ from.further) (sym its_place) ∙ (sym from.is_there ∙ ap (place o rp) same))) ∙ m.1 in
-      let handled = (singles_are_shown o law).handled t.root m.0 (place o rp l) l fork.0 child.branch from.further kept.shows.sound fork.1 (sym (at_split (place o rp l) (child.branch ∷ from.further) t.root (Forked l fork.0) fork.1) ∙ there) in
-      let sound = sound_at o (place o rp l) t.root (Forked l fork.0) kept.shows.sound.below fork.1 in
+      let handled = (single_changes_are_represented o law).handled t.root m.0 (place o rp l) l fork.0 child.branch from.further kept.represents.sound fork.1 (sym (at_split (place o rp l) (child.branch ∷ from.further) t.root (Forked l fork.0) fork.1) ∙ there) in
+      let sound = sound_at o (place o rp l) t.root (Forked l fork.0) kept.represents.sound.below fork.1 in
       less_than label (o.handlers l) (o.base l) (o.base s) is_label (law.base_least l sound.sound) (law.base_most l sound.sound) (subst (λ z. o.handlers l ≤ o.base z) m.2 handled)
     where
       less_than : (x h b y : ℕ) → x ≡ h - 1 → 1 ≤ b → b ≤ h → h ≤ y → x < y
@@ -249,15 +249,15 @@ module _ {S : Type 0} (o : Ops S) (law : LocalLaws o) (before behind : TableView
     had = as_dead.had;
   }
 
-  shown : Shows o rp before.states (map stands_of behind.records) can.0.root
-  shown = (events_are_shown o law).poisoned rp before.states (map stands_of before.records) (map stands_of behind.records) t can.0 c child.parent child.own_first child.first child.branch child.many l k child.status kept.shows child.fork child.within its can.1
+  shown : Represents o rp before.states (map stands_of behind.records) can.0.root
+  shown = (events_preserve o law).poisoned rp before.states (map stands_of before.records) (map stands_of behind.records) t can.0 c child.parent child.own_first child.first child.branch child.many l k child.status kept.represents child.fork child.within its can.1
       (subst (λ z. HaveDied o rp (place o rp k) c (death z) before.states (map stands_of before.records) (map stands_of behind.records)) is_label have)
 
   same : as_dead.root ≡ can.0.root
-  same = one_tree o rp before.states (map stands_of behind.records) as_dead.root can.0.root shown.rooted (subst (λ z. Shows o rp z (map stands_of behind.records) as_dead.root) as_dead.states as_dead.keeps.shows).agrees shown.agrees
+  same = one_tree o rp before.states (map stands_of behind.records) as_dead.root can.0.root shown.rooted (subst (λ z. Represents o rp z (map stands_of behind.records) as_dead.root) as_dead.states as_dead.keeps.represents).agrees shown.agrees
 
-  moved : (u : Tree S) × (after o (Poison (o.path k) c) t ≡ Some u) × Keeps o rp behind u.root
-  moved = (can.0, can.1, subst (Keeps o rp behind) same as_dead.keeps)
+  moved : (u : Tree S) × (after o (Poison (o.path k) c) t ≡ Some u) × TableInvariant o rp behind u.root
+  moved = (can.0, can.1, subst (TableInvariant o rp behind) same as_dead.keeps)
 
   died_so : (f : ℕ) (s : S) (x : ProcessStatus) → HasProcessState before i f s x → (behind.states ≡ before.states) × HaveDied o rp (place o rp s) c (death label) before.states (map stands_of before.records) (map stands_of behind.records)
   died_so f s x has = (
@@ -265,8 +265,8 @@ module _ {S : Type 0} (o : Ops S) (law : LocalLaws o) (before behind : TableView
     subst (λ z. HaveDied o rp (place o rp z) c (death label) before.states (map stands_of before.records) (map stands_of behind.records)) (one_state before.states (map stands_of before.records) i child.own_first f k s child.status x child.has has) have,
   )
 
-pub poisons_move : {S : Type 0} (o : Ops S) → LocalLaws o → PoisonsMove o
-poisons_move o law before behind c i label k l numbers child is_label enabled lists all = (
+pub poison_preserves : {S : Type 0} (o : Ops S) → LocalLaws o → PoisonPreserves o
+poison_preserves o law before behind c i label k l numbers child is_label enabled lists all = (
   (λ rp t kept. moved o law before behind c i label k l numbers child is_label enabled lists all rp t kept),
   (λ rp root f s x kept has. died_so o law before behind c i label k l numbers child is_label enabled lists all rp (tree_of o root) kept f s x has),
 )

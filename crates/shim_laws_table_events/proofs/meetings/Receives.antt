@@ -13,23 +13,23 @@ use Rattle.shim_semantics.proofs.CallStays.{call_carries_less}
 use Rattle.shim_semantics.proofs.HowMany.{clash, one_for_one}
 use Rattle.shim_semantics.proofs.ReplacedNodes.{put}
 use Rattle.shim_laws_table.specs.Seen.{lives, place}
-use Rattle.shim_laws_table.specs.Agrees.{Has, Shows}
+use Rattle.shim_laws_table.specs.Agrees.{Has, Represents}
 use Rattle.shim_laws_table.specs.Places.{IsReplaced}
 use Rattle.shim_laws_table.specs.Changes.{HasChanged}
-use Rattle.shim_laws_table.specs.Counts.{Tally, Reading as Read, live_reading, reading}
+use Rattle.shim_laws_table.specs.Counts.{Tally, ChildStatus as Read, live_child_status, child_status}
 use Rattle.shim_laws_table.specs.Updating.{UpdatedAbove}
 use Rattle.shim_laws_table.proofs.SameTrees.{seen_live, put_replaces}
-use Rattle.shim_laws_table.proofs.Singles.{singles_are_shown}
-use Rattle.shim_records.specs.Pairs.{stands_of, up_in, counts_in, leasts_in, rest_of, reading_of, UncountedRecord}
+use Rattle.shim_laws_table.proofs.Singles.{single_changes_are_represented}
+use Rattle.shim_records.specs.Pairs.{stands_of, up_in, counts_in, min_labels_in, rest_of, child_status_of, UncountedRecord}
 use Rattle.shim_records.specs.declared.record.Record.{Record}
 use Rattle.shim_records.proofs.Stepping.{set_there, set_elsewhere}
 use Rattle.shim_records.proofs.ReadOff.{same_stands}
-use Rattle.shim_records.proofs.WholeWay.{rest_ups, kept_order}
+use Rattle.shim_records.proofs.FullPropagation.{rest_ups, kept_order}
 use Rattle.shim_records.proofs.SharingFound.{rest_known}
-use Rattle.shim_laws_table_events.specs.keeping.Tables.{GoRight, Keeps}
+use Rattle.shim_laws_table_events.specs.keeping.Tables.{GoRight, TableInvariant}
 use Rattle.shim_laws_table_events.proofs.keeping.Forks.{as_many}
 use Rattle.shim_laws_table_events.specs.meetings.Receiving.{UpdatesOtherNext, no_other, other, MovesOn}
-use Rattle.shim_laws_table_events.specs.meetings.Laws.{ReceivedKeeps}
+use Rattle.shim_laws_table_events.specs.meetings.Laws.{ReceivePreserves}
 use Rattle.shim_laws_table.specs.LoweredLabels.{Labelled}
 use Rattle.shim_laws_table_events.proofs.keeping.Moved.{set_length, was_record}
 use Rattle.shim_laws_table_events.proofs.meetings.Lists.{same_length, rest_paths}
@@ -44,7 +44,7 @@ moves_on_rest {o = o} {s = s} {c = c} {n = n} {x = x} {behind = behind} on = cam
     came_rest (other e was is g far u w updated) = updated.1.rest
 
 module _ {S : Type 0} (o : Ops S) (law : LocalLaws o) (rp : Path) (root : Node S) (states : List S) (rs behind : List Record) (x f : ℕ) (l : S) (d : NamedChannel) (v : ℤ)
-    (kept : Keeps o rp (record { states = states; records = rs }) root) (has : Has states (map stands_of rs) x f l lives) (stop : o.stop l ≡ AtNext d) (on : MovesOn o (o.receive l v) d.channel 4294967295 x rs behind) where
+    (kept : TableInvariant o rp (record { states = states; records = rs }) root) (has : Has states (map stands_of rs) x f l lives) (stop : o.stop l ≡ AtNext d) (on : MovesOn o (o.receive l v) d.channel 4294967295 x rs behind) where
   abbrev s : S
   s = o.receive l v
 
@@ -52,7 +52,7 @@ module _ {S : Type 0} (o : Ops S) (law : LocalLaws o) (rp : Path) (root : Node S
   states' = slice_set states x s
 
   there : at (place o rp l) root ≡ Some (Live l)
-  there = seen_live (at (place o rp l) root) l (kept.shows.agrees.shown x f l lives has)
+  there = seen_live (at (place o rp l) root) l (kept.represents.agrees.shown x f l lives has)
 
   abbrev new : Node S
   new = put (place o rp l) (Live s) root
@@ -61,7 +61,7 @@ module _ {S : Type 0} (o : Ops S) (law : LocalLaws o) (rp : Path) (root : Node S
   rep = put_replaces (place o rp l) (Live l) (Live s) root there
 
   sound : o.sound l
-  sound = sound_at o (place o rp l) root (Live l) kept.shows.sound.below there
+  sound = sound_at o (place o rp l) root (Live l) kept.represents.sound.below there
 
   rest : map rest_of behind ≡ map rest_of rs
   rest = moves_on_rest on
@@ -80,8 +80,8 @@ module _ {S : Type 0} (o : Ops S) (law : LocalLaws o) (rp : Path) (root : Node S
     only = λ j g t k n h. record { state_is = sym (set_elsewhere states x j s n) ∙ h.state_is; stands_so = sym (ap (λ z. slice_get z j) same) ∙ h.stands_so };
   }
 
-  shown : Shows o rp states' (map stands_of behind) new
-  shown = (singles_are_shown o law).received rp states states' (map stands_of rs) (map stands_of behind) root new x f l d v kept.shows has stop rep changed
+  shown : Represents o rp states' (map stands_of behind) new
+  shown = (single_changes_are_represented o law).received rp states states' (map stands_of rs) (map stands_of behind) root new x f l d v kept.represents has stop rep changed
 
   path : o.path s ≡ o.path l
   path = law.moved_path l s sound (by_call (by_receive d v stop refl))
@@ -101,11 +101,11 @@ module _ {S : Type 0} (o : Ops S) (law : LocalLaws o) (rp : Path) (root : Node S
   ups_between : up_in on.between ≡ up_in rs
   ups_between = rest_ups rs on.between on.left.1.rest
 
-  labels_same : (c : Channel) → leasts_in c behind ≡ leasts_in c rs
+  labels_same : (c : Channel) → min_labels_in c behind ≡ min_labels_in c rs
   labels_same c = on_came on.came ∙ (λ t i. on.left.1.labels c i t)
     where
-      on_came : UpdatesOtherNext o s d.channel 4294967295 x on.between behind → leasts_in c behind ≡ leasts_in c on.between
-      on_came (no_other e is) = ap (leasts_in c) is
+      on_came : UpdatesOtherNext o s d.channel 4294967295 x on.between behind → min_labels_in c behind ≡ min_labels_in c on.between
+      on_came (no_other e is) = ap (min_labels_in c) is
       on_came (other e was is g far u w updated) = λ t i. updated.1.labels c i t
 
   module _ (c : Channel) where
@@ -115,17 +115,17 @@ module _ {S : Type 0} (o : Ops S) (law : LocalLaws o) (rp : Path) (root : Node S
     -- a channel at which it neither stood nor stands
     still : same_channel d.channel c ≡ false → is_next (o.stop s) c ≡ false → B (counts_in c rs)
     still far e = unread o law rp states states' rs behind root new l (Live s) x f kept has changed refl path given rep shown ups c
-        (λ i. let r : Read = record { joining = sym (shares c) i; readiness = (ap (λ z. is_next z c) stop ∙ (far ∙ sym e)) i; failing = false } in r)
+        (λ i. let r : Read = record { alive = sym (shares c) i; ready_on = (ap (λ z. is_next z c) stop ∙ (far ∙ sym e)) i; dead_on = false } in r)
 
-    counts_above : (was is : Read) (after : ℕ → Option Tally) → reading o c (Live l) ≡ was → reading o c (Live s) ≡ is → o.shares s c ≡ true → UpdatedAbove (up_in rs) 4294967295 4294967295 (counts_in c rs) x was is after → B after
+    counts_above : (was is : Read) (after : ℕ → Option Tally) → child_status o c (Live l) ≡ was → child_status o c (Live s) ≡ is → o.shares s c ≡ true → UpdatedAbove (up_in rs) 4294967295 4294967295 (counts_in c rs) x was is after → B after
     counts_above was is after e g h updated = walked o law rp states states' rs behind root new l (Live s) x f kept has changed refl path given rep shown ups c was is after e g h
         (subst (λ z. UpdatedAbove z 4294967295 4294967295 (counts_in c rs) x was is after) (sym ups) updated)
 
     -- the one at which it stood
     stood : same_channel d.channel c ≡ true → B (counts_in c behind)
-    stood w = subst B (sym (kept_counts on.came)) (counts_above (live_reading true) (live_reading (is_next (o.stop s) c)) (counts_in c on.between)
-        (λ i. let r : Read = record { joining = shared i; readiness = (ap (λ z. is_next z c) stop ∙ w) i; failing = false } in r)
-        (λ i. let r : Read = record { joining = (shares c ∙ shared) i; readiness = is_next (o.stop s) c; failing = false } in r)
+    stood w = subst B (sym (kept_counts on.came)) (counts_above (live_child_status true) (live_child_status (is_next (o.stop s) c)) (counts_in c on.between)
+        (λ i. let r : Read = record { alive = shared i; ready_on = (ap (λ z. is_next z c) stop ∙ w) i; dead_on = false } in r)
+        (λ i. let r : Read = record { alive = (shares c ∙ shared) i; ready_on = is_next (o.stop s) c; dead_on = false } in r)
         (shares c ∙ shared) way)
       where
         is : d.channel ≡ c
@@ -134,10 +134,10 @@ module _ {S : Type 0} (o : Ops S) (law : LocalLaws o) (rp : Path) (root : Node S
         shared : o.shares l c ≡ true
         shared = ap (o.shares l) (sym is) ∙ law.next_shares l d sound stop
 
-        way : UpdatedAbove (up_in rs) 4294967295 4294967295 (counts_in c rs) x (live_reading true) (live_reading (is_next (o.stop s) c)) (counts_in c on.between)
-        way = subst (λ z. UpdatedAbove (up_in rs) 4294967295 4294967295 (counts_in z rs) x (live_reading true) (live_reading (is_next (o.stop s) z)) (counts_in z on.between)) is
-            (subst (λ z. UpdatedAbove (up_in rs) 4294967295 4294967295 (counts_in d.channel rs) x (live_reading true) z (counts_in d.channel on.between)) on.stands
-            (subst (λ z. UpdatedAbove (up_in rs) 4294967295 4294967295 (counts_in d.channel rs) x z (reading_of on.is) (counts_in d.channel on.between)) on.stood on.left.0))
+        way : UpdatedAbove (up_in rs) 4294967295 4294967295 (counts_in c rs) x (live_child_status true) (live_child_status (is_next (o.stop s) c)) (counts_in c on.between)
+        way = subst (λ z. UpdatedAbove (up_in rs) 4294967295 4294967295 (counts_in z rs) x (live_child_status true) (live_child_status (is_next (o.stop s) z)) (counts_in z on.between)) is
+            (subst (λ z. UpdatedAbove (up_in rs) 4294967295 4294967295 (counts_in d.channel rs) x (live_child_status true) z (counts_in d.channel on.between)) on.stands
+            (subst (λ z. UpdatedAbove (up_in rs) 4294967295 4294967295 (counts_in d.channel rs) x z (child_status_of on.is) (counts_in d.channel on.between)) on.stood on.left.0))
 
         kept_counts : UpdatesOtherNext o s d.channel 4294967295 x on.between behind → counts_in c behind ≡ counts_in c on.between
         kept_counts (no_other e b) = ap (counts_in c) b
@@ -165,26 +165,26 @@ module _ {S : Type 0} (o : Ops S) (law : LocalLaws o) (rp : Path) (root : Node S
             at_channel true w =
                 let is' = same_channel_is e.channel c w in
                 let shared : o.shares s c ≡ true = ap (o.shares s) (sym is') ∙ law.next_shares s e sound' g in
-                counts_above (live_reading false) (live_reading true) (counts_in c behind)
-                (λ i. let r : Read = record { joining = (sym (shares c) ∙ shared) i; readiness = (ap (λ z. is_next z c) stop ∙ far) i; failing = false } in r)
-                (λ i. let r : Read = record { joining = shared i; readiness = (ap (λ z. is_next z c) g ∙ w) i; failing = false } in r)
+                counts_above (live_child_status false) (live_child_status true) (counts_in c behind)
+                (λ i. let r : Read = record { alive = (sym (shares c) ∙ shared) i; ready_on = (ap (λ z. is_next z c) stop ∙ far) i; dead_on = false } in r)
+                (λ i. let r : Read = record { alive = shared i; ready_on = (ap (λ z. is_next z c) g ∙ w) i; dead_on = false } in r)
                 shared
-                (subst (λ z. UpdatedAbove z 4294967295 4294967295 (counts_in c rs) x (live_reading false) (live_reading true) (counts_in c behind)) ups_between
-                (subst (λ z. UpdatedAbove (up_in on.between) 4294967295 4294967295 z x (live_reading false) (live_reading true) (counts_in c behind)) between_same
-                (subst (λ z. UpdatedAbove (up_in on.between) 4294967295 4294967295 (counts_in z on.between) x (live_reading false) (live_reading true) (counts_in z behind)) is'
-                (subst (λ z. UpdatedAbove (up_in on.between) 4294967295 4294967295 (counts_in e.channel on.between) x (live_reading false) z (counts_in e.channel behind)) y
-                (subst (λ z. UpdatedAbove (up_in on.between) 4294967295 4294967295 (counts_in e.channel on.between) x z (reading_of is) (counts_in e.channel behind)) u updated.0)))))
+                (subst (λ z. UpdatedAbove z 4294967295 4294967295 (counts_in c rs) x (live_child_status false) (live_child_status true) (counts_in c behind)) ups_between
+                (subst (λ z. UpdatedAbove (up_in on.between) 4294967295 4294967295 z x (live_child_status false) (live_child_status true) (counts_in c behind)) between_same
+                (subst (λ z. UpdatedAbove (up_in on.between) 4294967295 4294967295 (counts_in z on.between) x (live_child_status false) (live_child_status true) (counts_in z behind)) is'
+                (subst (λ z. UpdatedAbove (up_in on.between) 4294967295 4294967295 (counts_in e.channel on.between) x (live_child_status false) z (counts_in e.channel behind)) y
+                (subst (λ z. UpdatedAbove (up_in on.between) 4294967295 4294967295 (counts_in e.channel on.between) x z (child_status_of is) (counts_in e.channel behind)) u updated.0)))))
 
     counted : B (counts_in c behind)
     counted = elim (true_or_false (same_channel d.channel c)) [ inl w ↦ stood w | inr w ↦ elsewhere w ]
 
-  going : GoRight o rp (record { states = states'; records = behind }) new
-  going j g n t u ks r fork e now =
+  running_children : GoRight o rp (record { states = states'; records = behind }) new
+  running_children j g n t u ks r fork e now =
       let w = as_many o (place o rp l) (Live l) (Live s) root new rep refl refl (place o rp t) u ks now in
       let q = was_record rs behind j r rest e in
-      ap (λ (z : UncountedRecord). z.going) (sym q.2) ∙ (kept.going j g n t u w.children q.0 (was_fork o law rp states states' rs behind root new l (Live s) x f kept has changed refl path given rep shown ups j g n t fork).1 q.1 w.there ∙ sym w.same)
+      ap (λ (z : UncountedRecord). z.running_children) (sym q.2) ∙ (kept.running_children j g n t u w.children q.0 (was_fork o law rp states states' rs behind root new l (Live s) x f kept has changed refl path given rep shown ups j g n t fork).1 q.1 w.there ∙ sym w.same)
 
-  pub received : (new : Node S) × IsReplaced (place o rp l) (Live l) (Live s) root new × Keeps o rp (record { states = states'; records = behind }) new
+  pub received : (new : Node S) × IsReplaced (place o rp l) (Live l) (Live s) root new × TableInvariant o rp (record { states = states'; records = behind }) new
   received = (
     new,
     rep,
@@ -198,8 +198,8 @@ module _ {S : Type 0} (o : Ops S) (law : LocalLaws o) (rp : Path) (root : Node S
           labels = subst (λ z. Labelled o rp states' (map stands_of behind) c (counts_in c behind) z new) (sym (labels_same c))
               (unlabelled o law rp states states' rs behind root new l (Live s) x f kept has changed refl path given rep shown ups c (counts_in c behind) (counted c).1 refl);
         })
-        going,
+        running_children,
   )
 
-pub received_keeps : {S : Type 0} (o : Ops S) → LocalLaws o → ReceivedKeeps o
-received_keeps o law rp root states rs behind x f l d v kept has stop on = received o law rp root states rs behind x f l d v kept has stop on
+pub receive_preserves : {S : Type 0} (o : Ops S) → LocalLaws o → ReceivePreserves o
+receive_preserves o law rp root states rs behind x f l d v kept has stop on = received o law rp root states rs behind x f l d v kept has stop on

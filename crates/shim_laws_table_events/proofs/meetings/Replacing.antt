@@ -8,13 +8,13 @@ use Rattle.shim_semantics.specs.Nodes.{Node, Live, state}
 use Rattle.shim_semantics.specs.Places.{branches}
 use Rattle.shim_semantics.specs.Sound.{carriers}
 use Rattle.shim_laws_table.specs.Seen.{ProcessStatus, lives, forks, process_status, is_leaf, place}
-use Rattle.shim_laws_table.specs.Agrees.{RecordView, used, Has, Shows}
+use Rattle.shim_laws_table.specs.Agrees.{RecordView, used, Has, Represents}
 use Rattle.shim_laws_table.specs.Places.{IsReplaced}
 use Rattle.shim_laws_table.specs.Changes.{HasChanged}
-use Rattle.shim_laws_table.specs.Counts.{Tally, Reading as Read, reading}
+use Rattle.shim_laws_table.specs.Counts.{Tally, ChildStatus as Read, child_status}
 use Rattle.shim_laws_table.specs.Tallied.{Tallied, OnTheWay, HaveCounts}
 use Rattle.shim_laws_table.specs.Updating.{AreLinked, AreAtMost, UpdatedAbove}
-use Rattle.shim_laws_table.specs.Dooms.{least, least_among}
+use Rattle.shim_laws_table.specs.Dooms.{min_dead_label, min_dead_label_among}
 use Rattle.shim_laws_table.specs.LoweredLabels.{Labelled, LabelsOnTheWay}
 use Rattle.shim_laws_table.proofs.SameTrees.{same_or_not, no_fork}
 use Rattle.shim_laws_table.proofs.OneChange.{one_state, one_sort}
@@ -22,21 +22,21 @@ use Rattle.shim_laws_table.proofs.Begun.{counts_begin}
 use Rattle.shim_laws_table.proofs.LabelsBegun.{labels_begin}
 use Rattle.shim_laws_table.proofs.Brought.{counts_follow}
 use Rattle.shim_laws_table.proofs.Linked.{links_follow}
-use Rattle.shim_laws_table.proofs.Leasts.{leasts_follow}
-use Rattle.shim_records.specs.Pairs.{stands_of, up_in, counts_in, leasts_in, known_in, AreOrdered}
+use Rattle.shim_laws_table.proofs.MinLabels.{min_labels_follow}
+use Rattle.shim_records.specs.Pairs.{stands_of, up_in, counts_in, min_labels_in, known_in, AreOrdered}
 use Rattle.shim_records.specs.declared.record.Record.{Record}
-use Rattle.shim_records.proofs.Showing.{map_get}
-use Rattle.shim_laws_table_events.specs.keeping.Tables.{IsRight, IsFit, GoRight, Keeps}
+use Rattle.shim_records.proofs.Representing.{map_get}
+use Rattle.shim_laws_table_events.specs.keeping.Tables.{IsRight, IsFit, GoRight, TableInvariant}
 use Rattle.shim_laws_table_events.proofs.keeping.Forks.{carried}
 use Rattle.shim_laws_table_events.proofs.keeping.Knowing.{known_on}
 use Rattle.shim_laws_table_events.proofs.keeping.Moved.{from_map}
 use Rattle.shim_laws_table_events.proofs.meetings.Lists.{SamePaths}
 
 module _ {S : Type 0} (o : Ops S) (law : LocalLaws o) (rp : Path) (states states' : List S) (rs behind : List Record) (old new : Node S) (l : S) (a : Node S) (x f : ℕ)
-    (kept : Keeps o rp (record { states = states; records = rs }) old) (has : Has states (map stands_of rs) x f l lives)
+    (kept : TableInvariant o rp (record { states = states; records = rs }) old) (has : Has states (map stands_of rs) x f l lives)
     (changed : HasChanged states states' (map stands_of rs) (map stands_of behind) x (state a) (process_status a)) (leaf : is_leaf a ≡ true)
     (path : o.path (state a) ≡ o.path l) (given : o.given (state a) ≡ o.given l) (rep : IsReplaced (place o rp l) (Live l) a old new)
-    (shown : Shows o rp states' (map stands_of behind) new) (ups : up_in behind ≡ up_in rs) where
+    (shown : Represents o rp states' (map stands_of behind) new) (ups : up_in behind ≡ up_in rs) where
   abbrev st : List RecordView
   st = map stands_of rs
 
@@ -79,7 +79,7 @@ module _ {S : Type 0} (o : Ops S) (law : LocalLaws o) (rp : Path) (states states
     way = subst (OnTheWay o rp states' st' c (counts_in c rs) old new) (sym same_place) begun.0
 
     -- for a channel of which the same is read of it nothing is to be done
-    pub unread : reading o c (Live l) ≡ reading o c a → Both (counts_in c rs)
+    pub unread : child_status o c (Live l) ≡ child_status o c a → Both (counts_in c rs)
     unread e = ((counts_follow o law).alike rp states' st' c old new (Live l) a (place o rp l) (counts_in c rs) rep e begun.0, begun.1)
 
     -- nor for one of its own
@@ -87,20 +87,20 @@ module _ {S : Type 0} (o : Ops S) (law : LocalLaws o) (rp : Path) (states states
     its_own r home = ((counts_follow o law).own rp states' st' c old new x changed.first (state a) (process_status a) r (counts_in c rs) shown changed.mine home begun.1 way, begun.1)
 
     -- for others the way up was walked
-    pub walked : (was is : Read) (after : ℕ → Option Tally) → reading o c (Live l) ≡ was → reading o c a ≡ is → o.shares (state a) c ≡ true → UpdatedAbove (up_in behind) 4294967295 4294967295 (counts_in c rs) x was is after → Both after
+    pub walked : (was is : Read) (after : ℕ → Option Tally) → child_status o c (Live l) ≡ was → child_status o c a ≡ is → o.shares (state a) c ≡ true → UpdatedAbove (up_in behind) 4294967295 4294967295 (counts_in c rs) x was is after → Both after
     walked was is after e g shares updated = (counts_follow o law).updated rp states' st' (up_in behind) c old new (Live l) a 4294967295 4294967295 x changed.first (state a) (process_status a) was is (counts_in c rs) after shown linked few changed.mine rep' e g near shares begun.1 way updated
 
-    pub labels_begun : LabelsOnTheWay o rp states' st' c (counts_in c rs) (leasts_in c rs) old new (place o rp (state a))
-    labels_begun = subst (LabelsOnTheWay o rp states' st' c (counts_in c rs) (leasts_in c rs) old new) (sym same_place)
-        ((labels_begin o).changed rp states states' st st' c old new (Live l) a x (counts_in c rs) (leasts_in c rs) rep leaf changed (kept.right c).labels)
+    pub labels_begun : LabelsOnTheWay o rp states' st' c (counts_in c rs) (min_labels_in c rs) old new (place o rp (state a))
+    labels_begun = subst (LabelsOnTheWay o rp states' st' c (counts_in c rs) (min_labels_in c rs) old new) (sym same_place)
+        ((labels_begin o).changed rp states states' st st' c old new (Live l) a x (counts_in c rs) (min_labels_in c rs) rep leaf changed (kept.right c).labels)
 
     pub have_begun : HaveCounts o rp states' st' c (counts_in c rs) new
     have_begun = begun.1
 
     -- where it brings no label, each is as it was
-    pub unlabelled : (counts : ℕ → Option Tally) → HaveCounts o rp states' st' c counts new → least o c a ≡ None → Labelled o rp states' st' c counts (leasts_in c rs) new
+    pub unlabelled : (counts : ℕ → Option Tally) → HaveCounts o rp states' st' c counts new → min_dead_label o c a ≡ None → Labelled o rp states' st' c counts (min_labels_in c rs) new
     unlabelled counts have none j d n t u ks fork counted now =
-        let w = carried o (place o rp l) (Live l) a old new rep leaf (least_among o c) (λ r v is js above was is'. (leasts_follow o).stays c old new (Live l) a (place o rp l) r v is js rep none above was is') (place o rp t) u ks now in
+        let w = carried o (place o rp l) (Live l) a old new rep leaf (min_dead_label_among o c) (λ r v is js above was is'. (min_labels_follow o).stays c old new (Live l) a (place o rp l) r v is js rep none above was is') (place o rp t) u ks now in
         (kept.right c).labels j d n t u w.children (was_fork j d n t fork).1 ((begun.1 j d n t u ks fork now).1 ((have j d n t u ks fork now).0 counted)) w.there ∙ sym w.same
 
   fit : SamePaths rs behind → (j d : ℕ) (t : S) (k : ProcessStatus) (r : Record) → Has states' st' j d t k → slice_get behind j ≡ Some r → IsFit o rp t r
@@ -115,5 +115,5 @@ module _ {S : Type 0} (o : Ops S) (law : LocalLaws o) (rp : Path) (states states
       ]
 
   pub keeps : AreOrdered behind → SamePaths rs behind → length states' ≡ length behind → ((c : Channel) (j : ℕ) → known_in c behind j ≡ known_in c rs j) → ((c : Channel) → carriers o c a ≤ carriers o c (Live l)) → ((c : Channel) → IsRight o rp (record { states = states'; records = behind }) new c) → GoRight o rp (record { states = states'; records = behind }) new
-      → Keeps o rp (record { states = states'; records = behind }) new
-  keeps ordered paths beside same fewer right going = record { shows = shown; linked = linked; few = few; ordered = ordered; right = right; going = going; known = λ c. known_on o rp (record { states = states; records = rs }) old new kept x f l lives has (Live l) a rep given c (λ far. fewer c) leaf states' st' (known_in c behind) (λ j d n t h. (was_fork j d n t h).1) (λ j d n t h. same c j); fit = fit paths; beside = beside }
+      → TableInvariant o rp (record { states = states'; records = behind }) new
+  keeps ordered paths beside same fewer right running_children = record { represents = shown; linked = linked; few = few; ordered = ordered; right = right; running_children = running_children; known = λ c. known_on o rp (record { states = states; records = rs }) old new kept x f l lives has (Live l) a rep given c (λ far. fewer c) leaf states' st' (known_in c behind) (λ j d n t h. (was_fork j d n t h).1) (λ j d n t h. same c j); fit = fit paths; beside = beside }

@@ -8,7 +8,7 @@ use Rattle.shim_laws_table.specs.Seen.{ProcessStatus, lives, forks, ends, dies}
 use Rattle.shim_laws_table.specs.Agrees.{used}
 use Rattle.shim_records.specs.Members.{IsAmong}
 use Rattle.shim_records.specs.Blocks.{IsFreed}
-use Rattle.shim_records.specs.Leaving.{HasLeft}
+use Rattle.shim_records.specs.CountingOff.{HasCountedOff}
 use Rattle.shim_records.specs.Pairs.{stands_of}
 use Rattle.shim_records.specs.Recounting.{IsRecounted}
 use Rattle.shim_records.specs.declared.pair.Pair.{Pair}
@@ -19,12 +19,12 @@ pub record RecordWithoutStatus : Type 0 where
   pub first : ℕ
   pub parent : Option ℕ
   pub path : Path
-  pub going : ℕ
+  pub running_children : ℕ
   pub pairs : List Pair
 
 -- what this record says beside that
 abbrev pub without_status : Record → RecordWithoutStatus
-without_status r = record { first = r.first; parent = r.parent; path = r.path; going = r.going; pairs = r.pairs.items }
+without_status r = record { first = r.first; parent = r.parent; path = r.path; running_children = r.running_children; pairs = r.pairs.items }
 
 -- from the number g on n records are free, and nothing else has changed
 pub record AreFreed (g n : ℕ) (before behind : List Record) : Type 0 where
@@ -40,25 +40,25 @@ pub record HasCome (before behind : Record) (k : ProcessStatus) : Type 0 where
   pub no_pairs : behind.pairs.items ≡ []
 
 -- if this status is an end or a death, the record of the parent counts one child less that goes on
-abbrev pub LeavesIf : ProcessStatus → ℕ → List Record → List Record → Type 0
-LeavesIf lives x before behind = behind ≡ before
-LeavesIf (forks n) x before behind = behind ≡ before
-LeavesIf ends x before behind = HasLeft x before behind
-LeavesIf (dies d) x before behind = HasLeft x before behind
+abbrev pub CountsOffIfOver : ProcessStatus → ℕ → List Record → List Record → Type 0
+CountsOffIfOver lives x before behind = behind ≡ before
+CountsOffIfOver (forks n) x before behind = behind ≡ before
+CountsOffIfOver ends x before behind = HasCountedOff x before behind
+CountsOffIfOver (dies d) x before behind = HasCountedOff x before behind
 
 -- For each of these channels the labels above the record x were read off again.
 pub data AllRecounted {S : Type 0} (o : Ops S) (states : List S) (n x : ℕ) : List Channel → List Record → List Record → Type 0 where
   none_left : (rs : List Record) → AllRecounted o states n x [] rs rs
   one_more : (c : Channel) (cs : List Channel) (before between behind : List Record) → IsRecounted o c states n x before between → AllRecounted o states n x cs between behind → AllRecounted o states n x (c ∷ cs) before behind
 
--- for all that the process s was given and shares
+-- so it is for all channels that the process s was given and shares
 pub record GivenRecounted {S : Type 0} (o : Ops S) (states : List S) (s : S) (n x : ℕ) (before behind : List Record) : Type 0 where
   pub chans : List Channel
   pub recounted : AllRecounted o states n x chans before behind
   pub all : (c : Channel) → IsGiven o s c → o.shares s c ≡ true → IsAmong c chans
   pub shared : (c : Channel) → IsAmong c chans → o.shares s c ≡ true
 
--- where a child of it died
+-- so it is where a child of it died; else no record has changed
 abbrev pub RecountedIf : {S : Type 0} → Option Death → Ops S → List S → S → ℕ → ℕ → List Record → List Record → Type 0
 RecountedIf None o states s n x before behind = behind ≡ before
 RecountedIf (Some d) o states s n x before behind = GivenRecounted o states s n x before behind

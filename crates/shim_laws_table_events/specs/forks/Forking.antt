@@ -5,16 +5,16 @@ use Rattle.shim_local.specs.Process.{Ops, AtFork, Parted, Trapped}
 use Rattle.shim_semantics.specs.Trees.{Own}
 use Rattle.shim_laws_table.specs.Seen.{ProcessStatus, lives, forks}
 use Rattle.shim_laws_table.specs.Agrees.{used}
-use Rattle.shim_laws_table.specs.Counts.{live_reading, all_there}
-use Rattle.shim_records.specs.Pairs.{tally, reading_of, stands_of}
+use Rattle.shim_laws_table.specs.Counts.{live_child_status, tally_ready}
+use Rattle.shim_records.specs.Pairs.{tally, child_status_of, stands_of}
 use Rattle.shim_records.specs.Ways.{IsUpdatedAbove}
 use Rattle.shim_records.specs.Fresh.{FreshPairs}
 use Rattle.shim_records.specs.Blocks.{with_block}
 use Rattle.shim_records.specs.declared.pair.Pair.{Pair}
-use Rattle.shim_records.specs.declared.pair.Reading.{Reading}
+use Rattle.shim_records.specs.declared.pair.ChildStatus.{ChildStatus}
 use Rattle.shim_records.specs.declared.record.Record.{Record}
 use Rattle.shim_laws_table_events.specs.keeping.Tables.{TableView, HasProcessState}
-use Rattle.shim_laws_table_events.specs.keeping.Moves.{MovesBy}
+use Rattle.shim_laws_table_events.specs.keeping.Moves.{Performs}
 
 -- the record of a child that has done nothing yet, made by the process with the number x
 pub record IsOfChild {S : Type 0} (o : Ops S) (x : ℕ) (k : S) (r : Record) : Type 0 where
@@ -39,19 +39,19 @@ pub record IsOfFork {S : Type 0} (o : Ops S) (g : ℕ) (p : S) (ks : List S) (be
   pub forked : stands_of r ≡ used g (forks (length ks))
   pub parent : r.parent ≡ before.parent
   pub path : r.path ≡ before.path
-  pub going : r.going ≡ length ks
+  pub running_children : r.running_children ≡ length ks
   pub pairs : FreshPairs o p ks r.pairs.items
 
 -- the channels on which a fork with these pairs is ready
 abbrev pub ready_chans : List Pair → List Channel
 ready_chans [] = []
-ready_chans (p ∷ ps) = cond (all_there (tally p)) (p.chan.channel ∷ ready_chans ps) (ready_chans ps)
+ready_chans (p ∷ ps) = cond (tally_ready (tally p)) (p.chan.channel ∷ ready_chans ps) (ready_chans ps)
 
--- For each of these channels the way up was walked from the record x, of a process that wasn't ready on it and is.
+-- For each of these channels the counts above the record x were updated, of a process that wasn't ready on it and is.
 pub data EachUpdatedAbove (n x : ℕ) : List Channel → List Record → List Record → Type 0 where
   none_left : (rs : List Record) → EachUpdatedAbove n x [] rs rs
-  one_more : (c : Channel) (cs : List Channel) (was is : Reading) (before between behind : List Record)
-      → reading_of was ≡ live_reading false → reading_of is ≡ live_reading true
+  one_more : (c : Channel) (cs : List Channel) (was is : ChildStatus) (before between behind : List Record)
+      → child_status_of was ≡ live_child_status false → child_status_of is ≡ live_child_status true
       → IsUpdatedAbove c n x was is before between → EachUpdatedAbove n x cs between behind → EachUpdatedAbove n x (c ∷ cs) before behind
 
 -- The process with the number x forked and stands as p: its children's states and records were put together from the number g on, in place of free ones or behind all others, and the counts above follow.
@@ -69,11 +69,11 @@ pub record ForksAt {S : Type 0} (o : Ops S) (x g : ℕ) (p : S) (ks : List S) (b
   pub records : EachUpdatedAbove 4294967295 x (ready_chans is.pairs.items) (with_block g born (slice_set before.records x is)) behind.records
 
 -- so the tree moves by the process's own step
-abbrev pub ForksMove : {S : Type 0} → Ops S → Type 0
-ForksMove {S} o = (x g f : ℕ) (l p : S) (ks : List S) (before behind : TableView S) → HasProcessState before x f l lives → o.stop l ≡ AtFork → o.fork l ≡ Parted p ks → ForksAt o x g p ks before behind
-    → MovesBy o (Own (o.path l)) before behind
+abbrev pub ForkPreserves : {S : Type 0} → Ops S → Type 0
+ForkPreserves {S} o = (x g f : ℕ) (l p : S) (ks : List S) (before behind : TableView S) → HasProcessState before x f l lives → o.stop l ≡ AtFork → o.fork l ≡ Parted p ks → ForksAt o x g p ks before behind
+    → Performs o (Own (o.path l)) before behind
 
 -- So it does where the fork trapped: the process lives on, and no record changes.
-abbrev pub TrapsMove : {S : Type 0} → Ops S → Type 0
-TrapsMove {S} o = (x f : ℕ) (l m : S) (before : TableView S) → HasProcessState before x f l lives → o.stop l ≡ AtFork → o.fork l ≡ Trapped m
-    → MovesBy o (Own (o.path l)) before (record { states = slice_set before.states x m; records = before.records })
+abbrev pub ForkTrapPreserves : {S : Type 0} → Ops S → Type 0
+ForkTrapPreserves {S} o = (x f : ℕ) (l m : S) (before : TableView S) → HasProcessState before x f l lives → o.stop l ≡ AtFork → o.fork l ≡ Trapped m
+    → Performs o (Own (o.path l)) before (record { states = slice_set before.states x m; records = before.records })

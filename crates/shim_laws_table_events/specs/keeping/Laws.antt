@@ -9,14 +9,14 @@ use Rattle.shim_semantics.specs.Sound.{SharesItsOwn}
 use Rattle.shim_semantics.specs.Trees.{Tree}
 use Rattle.shim_laws_table.specs.Seen.{lives}
 use Rattle.shim_records.specs.declared.record.Record.{Record}
-use Rattle.shim_laws_table_events.specs.keeping.Tables.{TableView, HasProcessState, Keeps, IsOfRoot}
-use Rattle.shim_laws_table_events.specs.keeping.Arriving.{Arrives}
+use Rattle.shim_laws_table_events.specs.keeping.Tables.{TableView, HasProcessState, TableInvariant, IsOfRoot}
+use Rattle.shim_laws_table_events.specs.keeping.Propagating.{PropagatesStop}
 
--- one record of a root shows the tree in which it lives
-abbrev pub StartKeeps : {S : Type 0} → Ops S → Type 0
-StartKeeps {S} o = (root : S) (r : Record) → IsOfRoot o root r → o.sound root → o.path root ≡ [] → SharesItsOwn o root → Keeps o [] (record { states = root ∷ []; records = r ∷ [] }) (Live root)
+-- one record of a root represents the tree in which the root lives
+abbrev pub StartEstablishes : {S : Type 0} → Ops S → Type 0
+StartEstablishes {S} o = (root : S) (r : Record) → IsOfRoot o root r → o.sound root → o.path root ≡ [] → SharesItsOwn o root → TableInvariant o [] (record { states = root ∷ []; records = r ∷ [] }) (Live root)
 
--- Where a live process stands before a quiet step, it can do so many as lead on from its state; and where its state is the last one, and the way up was walked for the channel to which it came, the tree behind them is shown.
-abbrev pub AdvancesKeep : {S : Type 0} → Ops S → Type 0
-AdvancesKeep {S} o = (rp : Path) (t : Tree S) (states : List S) (rs behind : List Record) (n x f : ℕ) (l last : S) → Keeps o rp (record { states = states; records = rs }) t.root → HasProcessState (record { states = states; records = rs }) x f l lives
-    → o.stop l ≡ AtQuiet → QuietSteps o n l last → Arrives o last 4294967295 x rs behind → (u : Tree S) × Advances o (o.path l) n t u × Keeps o rp (record { states = slice_set states x last; records = behind }) u.root
+-- Where a live process stands before a quiet step, it can do so many as lead on from its state; and where its state is the last one, and the counts above were updated for the channel to which it came, the records represent the tree behind them.
+abbrev pub QuietStepsPreserve : {S : Type 0} → Ops S → Type 0
+QuietStepsPreserve {S} o = (rp : Path) (t : Tree S) (states : List S) (rs behind : List Record) (n x f : ℕ) (l last : S) → TableInvariant o rp (record { states = states; records = rs }) t.root → HasProcessState (record { states = states; records = rs }) x f l lives
+    → o.stop l ≡ AtQuiet → QuietSteps o n l last → PropagatesStop o last 4294967295 x rs behind → (u : Tree S) × Advances o (o.path l) n t u × TableInvariant o rp (record { states = slice_set states x last; records = behind }) u.root

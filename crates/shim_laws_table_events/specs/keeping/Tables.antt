@@ -5,12 +5,12 @@ use Rattle.shim_local.specs.Process.{Ops}
 use Rattle.shim_semantics.specs.Nodes.{Node, Nodes, Forked}
 use Rattle.shim_semantics.specs.Places.{at}
 use Rattle.shim_laws_table.specs.Seen.{ProcessStatus, lives, forks, place}
-use Rattle.shim_laws_table.specs.Agrees.{RecordView, used, Has, Shows}
-use Rattle.shim_laws_table.specs.Counts.{going_of}
+use Rattle.shim_laws_table.specs.Agrees.{RecordView, used, Has, Represents}
+use Rattle.shim_laws_table.specs.Counts.{running_of}
 use Rattle.shim_laws_table.specs.Tallied.{Tallied, HaveCounts}
 use Rattle.shim_laws_table.specs.Updating.{AreLinked, AreAtMost}
 use Rattle.shim_laws_table.specs.LoweredLabels.{Labelled}
-use Rattle.shim_records.specs.Pairs.{stands_of, up_in, counts_in, leasts_in, known_in, AreOrdered}
+use Rattle.shim_records.specs.Pairs.{stands_of, up_in, counts_in, min_labels_in, known_in, AreOrdered}
 use Rattle.shim_records.specs.declared.record.Record.{Record}
 use Rattle.shim_laws_table_events.specs.keeping.Knowing.{AreKnown}
 
@@ -23,7 +23,7 @@ pub record TableView (S : Type 0) : Type 0 where
 abbrev pub stands : {S : Type 0} → TableView S → List RecordView
 stands v = map stands_of v.records
 
--- The process with this number stands so: the number of its first child, its state, and what came of it.
+-- The record with this number is in use, with this first child, state and status.
 abbrev pub HasProcessState : {S : Type 0} → TableView S → ℕ → ℕ → S → ProcessStatus → Type 0
 HasProcessState v i first s k = Has v.states (stands v) i first s k
 
@@ -31,11 +31,11 @@ HasProcessState v i first s k = Has v.states (stands v) i first s k
 pub record IsRight {S : Type 0} (o : Ops S) (rp : Path) (v : TableView S) (root : Node S) (c : Channel) : Type 0 where
   pub there : HaveCounts o rp v.states (stands v) c (counts_in c v.records) root
   pub counts : Tallied o rp v.states (stands v) c (counts_in c v.records) root
-  pub labels : Labelled o rp v.states (stands v) c (counts_in c v.records) (leasts_in c v.records) root
+  pub labels : Labelled o rp v.states (stands v) c (counts_in c v.records) (min_labels_in c v.records) root
 
 -- of each fork as many children go on as its record says
 abbrev pub GoRight : {S : Type 0} → Ops S → Path → TableView S → Node S → Type 0
-GoRight {S} o rp v root = (i f n : ℕ) (s l : S) (ks : Nodes S) (r : Record) → HasProcessState v i f s (forks n) → slice_get v.records i ≡ Some r → at (place o rp s) root ≡ Some (Forked l ks) → r.going ≡ going_of ks
+GoRight {S} o rp v root = (i f n : ℕ) (s l : S) (ks : Nodes S) (r : Record) → HasProcessState v i f s (forks n) → slice_get v.records i ≡ Some r → at (place o rp s) root ≡ Some (Forked l ks) → r.running_children ≡ running_of ks
 
 -- a record in use has the path of its process, which isn't too far from the root, and wasn't given too many channels
 pub record IsFit {S : Type 0} (o : Ops S) (rp : Path) (s : S) (r : Record) : Type 0 where
@@ -44,20 +44,20 @@ pub record IsFit {S : Type 0} (o : Ops S) (rp : Path) (s : S) (r : Record) : Typ
   pub few : length (o.given s) ≤ 18446744073709551615
 
 -- The records show a sound tree, and all that they say beside that is as it is there. The root's path is rp.
-pub record Keeps {S : Type 0} (o : Ops S) (rp : Path) (v : TableView S) (root : Node S) : Type 0 where
-  pub shows : Shows o rp v.states (stands v) root
+pub record TableInvariant {S : Type 0} (o : Ops S) (rp : Path) (v : TableView S) (root : Node S) : Type 0 where
+  pub represents : Represents o rp v.states (stands v) root
   pub linked : AreLinked v.states (stands v) (up_in v.records)
   pub few : AreAtMost 4294967295 v.states (stands v)
   pub ordered : AreOrdered v.records
   pub right : (c : Channel) → IsRight o rp v root c
-  pub going : GoRight o rp v root
+  pub running_children : GoRight o rp v root
   pub known : (c : Channel) → AreKnown o rp v.states (stands v) c (known_in c v.records) root
   pub fit : (i f : ℕ) (s : S) (k : ProcessStatus) (r : Record) → HasProcessState v i f s k → slice_get v.records i ≡ Some r → IsFit o rp s r
   pub beside : length v.states ≡ length v.records
 
 -- there is a tree that they show so
-abbrev pub IsKept : {S : Type 0} → Ops S → TableView S → Type 0
-IsKept {S} o v = (rp : Path) × (root : Node S) × Keeps o rp v root
+abbrev pub HasTableInvariant : {S : Type 0} → Ops S → TableView S → Type 0
+HasTableInvariant {S} o v = (rp : Path) × (root : Node S) × TableInvariant o rp v root
 
 -- the record of a root that lives
 pub record IsOfRoot {S : Type 0} (o : Ops S) (root : S) (r : Record) : Type 0 where

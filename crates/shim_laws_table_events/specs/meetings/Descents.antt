@@ -6,7 +6,7 @@ use Rattle.shim_laws_table.specs.Seen.{ProcessStatus, lives, forks, ends, dies}
 use Rattle.shim_laws_table_events.specs.keeping.Tables.{TableView, HasProcessState}
 use Rattle.shim_laws_table_events.specs.meetings.Sharers.{ListsSharers}
 
--- how many children a process has of which this came
+-- how many children a process with this status has
 abbrev pub children : ProcessStatus → ℕ
 children lives = 0
 children (forks n) = n

@@ -4,15 +4,15 @@ use Rattle.shim_local.specs.Process.{Ops}
 use Rattle.shim_semantics.specs.Nodes.{death}
 use Rattle.shim_records.specs.Killed.{IsKilled}
 use Rattle.shim_records.specs.Died.{IsTaken}
-use Rattle.shim_records.specs.Leaving.{HasLeft}
+use Rattle.shim_records.specs.CountingOff.{HasCountedOff}
 use Rattle.shim_records.specs.declared.record.Record.{Record}
 use Rattle.shim_records.specs.declared.record.Status.TheVariants.{Dead}
 
 -- the record of a process that died of an exception with this label
 abbrev pub dead_record : Record → ℕ → Record
-dead_record r label = record { status = Dead (death label); first = r.first; parent = r.parent; path = r.path; going = r.going; pairs = r.pairs }
+dead_record r label = record { status = Dead (death label); first = r.first; parent = r.parent; path = r.path; running_children = r.running_children; pairs = r.pairs }
 
--- the record x says so, the ways up were walked and the label taken in through at most n forks, and its fork has one child less that goes on
+-- the record x says so, the counts above were updated and the label taken in through at most n forks, and its fork has one child less that goes on
 pub record DiesAt {S : Type 0} (o : Ops S) (s : S) (label n x : ℕ) (before behind : List Record) : Type 0 where
   pub stood : Record
   pub there : slice_get before x ≡ Some stood
@@ -20,4 +20,4 @@ pub record DiesAt {S : Type 0} (o : Ops S) (s : S) (label n x : ℕ) (before beh
   pub labelled : List Record
   pub killed : IsKilled o s n x (slice_set before x (dead_record stood label)) counted
   pub taken : IsTaken o s label n x counted labelled
-  pub left : HasLeft x labelled behind
+  pub left : HasCountedOff x labelled behind

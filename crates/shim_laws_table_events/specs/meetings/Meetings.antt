@@ -7,8 +7,8 @@ use Rattle.shim_semantics.specs.Trees.{Tree, Event, Meet}
 use Rattle.shim_laws_table.specs.Seen.{ProcessStatus, lives}
 use Rattle.shim_laws_table.specs.Changes.{HaveReceived}
 use Rattle.shim_laws_table.specs.Enabled.{Can}
-use Rattle.shim_laws_table_events.specs.keeping.Tables.{TableView, stands, HasProcessState, Keeps}
-use Rattle.shim_laws_table_events.specs.keeping.Moves.{MovesBy}
+use Rattle.shim_laws_table_events.specs.keeping.Tables.{TableView, stands, HasProcessState, TableInvariant}
+use Rattle.shim_laws_table_events.specs.keeping.Moves.{Performs}
 use Rattle.shim_laws_table_events.specs.meetings.Receiving.{MovesOn}
 use Rattle.shim_laws_table_events.specs.meetings.Sharers.{ListsSharers, ListsReceivers}
 
@@ -25,7 +25,7 @@ pub data ReceiveAll {S : Type 0} (o : Ops S) (c : Channel) (v : ℤ) : List ℕ 
 
 -- in the tree that is shown the event is enabled
 abbrev pub IsEnabled : {S : Type 0} → Ops S → Event → TableView S → Type 0
-IsEnabled {S} o e v = (rp : Path) (t : Tree S) → Keeps o rp v t.root → Can o t e
+IsEnabled {S} o e v = (rp : Path) (t : Tree S) → TableInvariant o rp v t.root → Can o t e
 
 -- the process with this number declared the channel
 pub record Declares {S : Type 0} (o : Ops S) (v : TableView S) (i : ℕ) (c : Channel) : Type 0 where
@@ -37,16 +37,16 @@ pub record Declares {S : Type 0} (o : Ops S) (v : TableView S) (i : ℕ) (c : Ch
 
 -- the channel's source has this value, or there is none and it is 0
 abbrev pub HasValue : {S : Type 0} → Ops S → TableView S → Channel → ℤ → Type 0
-HasValue {S} o v c x = (rp : Path) (root : Node S) → Keeps o rp v root → x ≡ value_of o c (source o c root)
+HasValue {S} o v c x = (rp : Path) (root : Node S) → TableInvariant o rp v root → x ≡ value_of o c (source o c root)
 
 -- each live process that stood at the channel has received the value, and nothing else has changed of what is shown
 abbrev pub AllReceived : {S : Type 0} → Ops S → Channel → ℤ → TableView S → TableView S → Type 0
-AllReceived {S} o c x before behind = (rp : Path) (root : Node S) → Keeps o rp before root → (stands behind ≡ stands before) × HaveReceived o c x (stands before) before.states behind.states
+AllReceived {S} o c x before behind = (rp : Path) (root : Node S) → TableInvariant o rp before root → (stands behind ≡ stands before) × HaveReceived o c x (stands before) before.states behind.states
 
 -- Where a meeting is enabled, and all that stand at the channel receive the value of its source one after the other, the tree moves by the meeting.
-abbrev pub MeetingsMove : {S : Type 0} → Ops S → Type 0
-MeetingsMove {S} o = (before behind : TableView S) (c : Channel) (numbers : List ℕ) (x : ℤ) → IsEnabled o (Meet c) before → ListsReceivers o before c numbers → HasValue o before c x → ReceiveAll o c x numbers before behind
-    → MovesBy o (Meet c) before behind × AllReceived o c x before behind
+abbrev pub MeetingPreserves : {S : Type 0} → Ops S → Type 0
+MeetingPreserves {S} o = (before behind : TableView S) (c : Channel) (numbers : List ℕ) (x : ℤ) → IsEnabled o (Meet c) before → ListsReceivers o before c numbers → HasValue o before c x → ReceiveAll o c x numbers before behind
+    → Performs o (Meet c) before behind × AllReceived o c x before behind
 
 -- Where a meeting is enabled, all that share the channel at and below its home are receivers enough.
 abbrev pub SharersReceive : {S : Type 0} → Ops S → Type 0

@@ -5,11 +5,11 @@ use Rattle.shim_local.specs.Process.{Ops, AtNext}
 use Rattle.shim_semantics.specs.Nodes.{Node, is_next, first_name}
 use Rattle.shim_semantics.specs.Trees.{Meet}
 use Rattle.shim_laws_table.specs.Seen.{lives}
-use Rattle.shim_laws_table_events.specs.keeping.Tables.{TableView, HasProcessState, Keeps}
+use Rattle.shim_laws_table_events.specs.keeping.Tables.{TableView, HasProcessState, TableInvariant}
 use Rattle.shim_laws_table_events.specs.meetings.Sharers.{ListsSharers}
 use Rattle.shim_laws_table_events.specs.meetings.Meetings.{IsEnabled, Declares}
 
--- it is the name that the first of these has for the channel which lives and stands at it; or none of them does
+-- the first of these that lives and stands at the channel has this name for it; or none of them lives and stands there
 pub data IsFirstName {S : Type 0} (o : Ops S) (v : TableView S) (c : Channel) : List ℕ → Option ℕ → Type 0 where
   nobody : IsFirstName o v c [] None
   later : (i : ℕ) (is : List ℕ) (x : Option ℕ) → ((f : ℕ) (l : S) → HasProcessState v i f l lives → is_next (o.stop l) c ≡ false) → IsFirstName o v c is x → IsFirstName o v c (i ∷ is) x
@@ -17,7 +17,7 @@ pub data IsFirstName {S : Type 0} (o : Ops S) (v : TableView S) (c : Channel) : 
 
 -- a meeting of the channel brings this name, if it is the first one
 abbrev pub HasName : {S : Type 0} → Ops S → TableView S → Channel → ℕ → Type 0
-HasName {S} o v c n = (rp : Path) (root : Node S) → Keeps o rp v root → n ≡ unwrap_or (first_name o c root) 0
+HasName {S} o v c n = (rp : Path) (root : Node S) → TableInvariant o rp v root → n ≡ unwrap_or (first_name o c root) 0
 
 -- Where a meeting is enabled, the first name among all that share the channel at and below its home is the one that it brings.
 abbrev pub NamesFound : {S : Type 0} → Ops S → Type 0

@@ -7,7 +7,7 @@ use Rattle.shim_semantics.specs.Trees.{Meet}
 use Rattle.shim_laws_table.specs.Seen.{ProcessStatus, lives, forks, place}
 use Rattle.shim_records.specs.Pairs.{known_in}
 use Rattle.shim_records.specs.declared.pair.Sharing.{Sharing}
-use Rattle.shim_laws_table_events.specs.keeping.Tables.{TableView, HasProcessState, Keeps}
+use Rattle.shim_laws_table_events.specs.keeping.Tables.{TableView, HasProcessState, TableInvariant}
 use Rattle.shim_laws_table_events.specs.meetings.Descents.{numbers_of_length}
 use Rattle.shim_laws_table_events.specs.meetings.Sharers.{ListsReceivers}
 use Rattle.shim_laws_table_events.specs.meetings.Meetings.{IsEnabled, Declares, HasValue}
@@ -21,14 +21,14 @@ abbrev pub children_between : ℕ → Sharing → List ℕ
 children_between f k = numbers_of_length (f + k.first) (how_many_between k)
 
 -- the process with this number doesn't live, and knows nothing of the channel if it has forked
-pub record IsPassed {S : Type 0} (v : TableView S) (c : Channel) (i : ℕ) : Type 0 where
+pub record IsSkipped {S : Type 0} (v : TableView S) (c : Channel) (i : ℕ) : Type 0 where
   pub not_live : (f : ℕ) (s : S) → HasProcessState v i f s lives → ⊥
   pub unknown : (f n : ℕ) (s : S) → HasProcessState v i f s (forks n) → known_in c v.records i ≡ None
 
--- From the numbers that are still to be looked at, the first of them first, to those that are found: who lives is found; of a fork that knows of the channel the children are looked at that may share it; and all others are passed by.
+-- From the numbers that are still to be looked at, the first of them first, to those that are found: who lives is found; of a fork that knows of the channel the children are looked at that may share it; and all others are skipped.
 pub data Plans {S : Type 0} (v : TableView S) (c : Channel) : List ℕ → List ℕ → Type 0 where
   at_end : Plans v c [] []
-  passes : (i : ℕ) (ahead found : List ℕ) → IsPassed v c i → Plans v c ahead found → Plans v c (i ∷ ahead) found
+  passes : (i : ℕ) (ahead found : List ℕ) → IsSkipped v c i → Plans v c ahead found → Plans v c (i ∷ ahead) found
   finds : (i f : ℕ) (s : S) (ahead found : List ℕ) → HasProcessState v i f s lives → Plans v c ahead found → Plans v c (i ∷ ahead) (i ∷ found)
   goes_below : (i f n : ℕ) (s : S) (k : Sharing) (ahead found : List ℕ) → HasProcessState v i f s (forks n) → known_in c v.records i ≡ Some k → Plans v c (children_between f k ++ ahead) found → Plans v c (i ∷ ahead) found
 
@@ -38,7 +38,7 @@ PlansFind {S} o = (v : TableView S) (c : Channel) (i : ℕ) (found : List ℕ) �
 
 -- whoever carries the channel stands at or below the process with this number, which shares it then
 abbrev pub CarriedFrom : {S : Type 0} → Ops S → TableView S → Channel → ℕ → Type 0
-CarriedFrom {S} o v c i = (rp : Path) (root : Node S) → Keeps o rp v root → (f : ℕ) × (s : S) × (k : ProcessStatus) × HasProcessState v i f s k
+CarriedFrom {S} o v c i = (rp : Path) (root : Node S) → TableInvariant o rp v root → (f : ℕ) × (s : S) × (k : ProcessStatus) × HasProcessState v i f s k
     × ((j g : ℕ) (t : S) (h : ProcessStatus) → HasProcessState v j g t h → o.carries t c ≡ true → (r : List ℕ) × (place o rp t ≡ place o rp s ++ r) × (o.shares s c ≡ true))
 
 -- the number of the child that took the channel's own variable, as the process with this number knows it; or none, if it hasn't forked or knows of none

@@ -6,8 +6,8 @@ use Rattle.shim_semantics.specs.Nodes.{Node, death}
 use Rattle.shim_semantics.specs.Trees.{Poison}
 use Rattle.shim_laws_table.specs.Seen.{ProcessStatus, lives, forks, place}
 use Rattle.shim_laws_table.specs.Changes.{HaveDied}
-use Rattle.shim_laws_table_events.specs.keeping.Tables.{TableView, stands, HasProcessState, Keeps}
-use Rattle.shim_laws_table_events.specs.keeping.Moves.{MovesBy}
+use Rattle.shim_laws_table_events.specs.keeping.Tables.{TableView, stands, HasProcessState, TableInvariant}
+use Rattle.shim_laws_table_events.specs.keeping.Moves.{Performs}
 use Rattle.shim_laws_table_events.specs.meetings.Dying.{DiesAt}
 use Rattle.shim_laws_table_events.specs.meetings.Sharers.{ListsSharers}
 use Rattle.shim_laws_table_events.specs.meetings.Meetings.{IsEnabled}
@@ -37,10 +37,10 @@ pub record IsChildOf {S : Type 0} (v : TableView S) (i : ℕ) (k l : S) : Type 0
 
 -- each live process that shared the channel at or below the one with this number has died so, and nothing else has changed of what is shown
 abbrev pub AllDied : {S : Type 0} → Ops S → Channel → ℕ → ℕ → TableView S → TableView S → Type 0
-AllDied {S} o c label i before behind = (rp : Path) (root : Node S) (f : ℕ) (k : S) (x : ProcessStatus) → Keeps o rp before root → HasProcessState before i f k x
+AllDied {S} o c label i before behind = (rp : Path) (root : Node S) (f : ℕ) (k : S) (x : ProcessStatus) → TableInvariant o rp before root → HasProcessState before i f k x
     → (behind.states ≡ before.states) × HaveDied o rp (place o rp k) c (death label) before.states (stands before) (stands behind)
 
 -- Where a child's poison is enabled, and all that live and share the channel at and below it die one after the other of the innermost label in force at its fork, the tree moves by the poison.
-abbrev pub PoisonsMove : {S : Type 0} → Ops S → Type 0
-PoisonsMove {S} o = (before behind : TableView S) (c : Channel) (i label : ℕ) (k l : S) (numbers : List ℕ) → IsChildOf before i k l → label ≡ o.handlers l - 1 → IsEnabled o (Poison (o.path k) c) before → ListsSharers o before c i numbers → AllDie o label numbers before behind
-    → MovesBy o (Poison (o.path k) c) before behind × AllDied o c label i before behind
+abbrev pub PoisonPreserves : {S : Type 0} → Ops S → Type 0
+PoisonPreserves {S} o = (before behind : TableView S) (c : Channel) (i label : ℕ) (k l : S) (numbers : List ℕ) → IsChildOf before i k l → label ≡ o.handlers l - 1 → IsEnabled o (Poison (o.path k) c) before → ListsSharers o before c i numbers → AllDie o label numbers before behind
+    → Performs o (Poison (o.path k) c) before behind × AllDied o c label i before behind

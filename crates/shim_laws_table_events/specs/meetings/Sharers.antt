@@ -6,7 +6,7 @@ use Rattle.shim_semantics.specs.Nodes.{Node, is_next}
 use Rattle.shim_laws_table.specs.Seen.{ProcessStatus, lives, place}
 use Rattle.shim_laws_table.specs.Sources.{is_before}
 use Rattle.shim_records.specs.Members.{IsAmong}
-use Rattle.shim_laws_table_events.specs.keeping.Tables.{TableView, HasProcessState, Keeps}
+use Rattle.shim_laws_table_events.specs.keeping.Tables.{TableView, HasProcessState, TableInvariant}
 
 -- the process with this number shares the channel, and its place is q or further along
 pub record SharesFrom {S : Type 0} (o : Ops S) (rp : Path) (v : TableView S) (c : Channel) (q : List ℕ) (i : ℕ) : Type 0 where
@@ -39,7 +39,7 @@ pub record AreSharers {S : Type 0} (o : Ops S) (rp : Path) (v : TableView S) (c 
 
 -- they are those at and below the process with this number, if it shares the channel
 abbrev pub ListsSharers : {S : Type 0} → Ops S → TableView S → Channel → ℕ → List ℕ → Type 0
-ListsSharers {S} o v c i numbers = (rp : Path) (root : Node S) (f : ℕ) (s : S) (k : ProcessStatus) → Keeps o rp v root → HasProcessState v i f s k → o.shares s c ≡ true → AreSharers o rp v c (place o rp s) numbers
+ListsSharers {S} o v c i numbers = (rp : Path) (root : Node S) (f : ℕ) (s : S) (k : ProcessStatus) → TableInvariant o rp v root → HasProcessState v i f s k → o.shares s c ≡ true → AreSharers o rp v c (place o rp s) numbers
 
 -- each live process that stands at the channel is among these, and none stands there twice
 pub record AreReceivers {S : Type 0} (o : Ops S) (v : TableView S) (c : Channel) (numbers : List ℕ) : Type 0 where
@@ -48,4 +48,4 @@ pub record AreReceivers {S : Type 0} (o : Ops S) (v : TableView S) (c : Channel)
 
 -- so it is in the tree that is shown
 abbrev pub ListsReceivers : {S : Type 0} → Ops S → TableView S → Channel → List ℕ → Type 0
-ListsReceivers {S} o v c numbers = (rp : Path) (root : Node S) → Keeps o rp v root → AreReceivers o v c numbers
+ListsReceivers {S} o v c numbers = (rp : Path) (root : Node S) → TableInvariant o rp v root → AreReceivers o v c numbers

@@ -1,9 +1,9 @@
 use Rattle.std.proofs.Common.{refl, arith}
 use Rattle.std.proofs.lemmas.Option.{slice_get_read}
-use Rattle.shim_laws_table.specs.Sufficing.{read_leaf}
+use Rattle.shim_laws_table.specs.Sufficing.{leaf_status}
 use Rattle.shim_records.specs.Acted.{process_status_of, acting}
-use Rattle.shim_records.proofs.ManyWays.{rest_same}
-use Rattle.shim_records.proofs.WholeWay.{kept_order}
+use Rattle.shim_records.proofs.ManyPropagations.{rest_same}
+use Rattle.shim_records.proofs.FullPropagation.{kept_order}
 use Rattle.shim_process_table.proofs.ClosingParts.{settled_order}
 use Rattle.shim_process_table.proofs.Touching.{touches_more}
 use Rattle.shim_process_table.proofs.TouchingCloses.{record_closes}
@@ -12,17 +12,17 @@ use Rattle.shim_process_table.proofs.closing.close_record.Goals as goal
 
 pub update_all_counts-counted-requires-clause-ordered : goal.update_all_counts-counted-requires-clause-ordered
 update_all_counts-counted-requires-clause-ordered g c κs within =
-    settled_order c.args.records.now.items c.leave_if.new.records.items c.args.at c.come_to.new.parent (process_status_of c.args.status) c.requires.ordered c.come_to.ensures.no_pairs c.leave_if.ensures
+    settled_order c.args.records.now.items c.count_off_if_over.new.records.items c.args.at c.come_to.new.parent (process_status_of c.args.status) c.requires.ordered c.come_to.ensures.no_pairs c.count_off_if_over.ensures
 
 pub update_all_counts-counted-requires-clause-few : goal.update_all_counts-counted-requires-clause-few
 update_all_counts-counted-requires-clause-few g c κs within = c.requires.few c.index-states-at.result (slice_get_read c.args.states.now _ c.args.at c.index-states-at.result refl c.requires.of_state c.index-states-at.is)
 
-pub recount_if-labelled-requires-clause-ordered : goal.recount_if-labelled-requires-clause-ordered
-recount_if-labelled-requires-clause-ordered g c κs within =
+pub recompute_if-labelled-requires-clause-ordered : goal.recompute_if-labelled-requires-clause-ordered
+recompute_if-labelled-requires-clause-ordered g c κs within =
     let o = g.L.Local.ops in
     let s = c.index-states-at.result in
-    kept_order c.leave_if.new.records.items c.update_all_counts-counted.new.records.items (rest_same (acting o s) (λ d. read_leaf o d s (process_status_of c.args.status)) 4294967295 c.args.at c.update_all_counts-counted.ensures.counts.updated)
-    (settled_order c.args.records.now.items c.leave_if.new.records.items c.args.at c.come_to.new.parent (process_status_of c.args.status) c.requires.ordered c.come_to.ensures.no_pairs c.leave_if.ensures)
+    kept_order c.count_off_if_over.new.records.items c.update_all_counts-counted.new.records.items (rest_same (acting o s) (λ d. leaf_status o d s (process_status_of c.args.status)) 4294967295 c.args.at c.update_all_counts-counted.ensures.counts.updated)
+    (settled_order c.args.records.now.items c.count_off_if_over.new.records.items c.args.at c.come_to.new.parent (process_status_of c.args.status) c.requires.ordered c.come_to.ensures.no_pairs c.count_off_if_over.ensures)
 
 pub returns-clause-closes : goal.returns-clause-closes
 returns-clause-closes g c =
@@ -32,27 +32,27 @@ returns-clause-closes g c =
       process = s;
       was = c.index_mut.result.now;
       is = c.come_to.new.parent;
-      left = c.leave_if.new.records.items;
+      left = c.count_off_if_over.new.records.items;
       between = c.update_all_counts-counted.new.records.items;
       state_is = there;
       there = slice_get_read c.args.records.now.items _ c.args.at c.index_mut.result.now refl c.requires.of_record c.index_mut.ensures.value;
       come = c.come_to.ensures;
-      leaves = c.leave_if.ensures;
+      leaves = c.count_off_if_over.ensures;
       walked = c.update_all_counts-counted.ensures.counts;
-      again = c.recount_if-labelled.ensures.recounts s there;
+      again = c.recompute_if-labelled.ensures.recounts s there;
     }
 
 pub returns-clause-touches : goal.returns-clause-touches
 returns-clause-touches g c =
     let at = c.args.at in
     let k = process_status_of c.args.status in
-    let left = c.leave_if.new.records.items in
+    let left = c.count_off_if_over.new.records.items in
     let counts = c.update_all_counts-counted in
-    let labels = c.recount_if-labelled in
+    let labels = c.recompute_if-labelled in
     let one = c.max.ensures in
     let two = c.max-2.ensures in
     record_closes c.max-2.result at k c.index_mut.result.now c.come_to.new.parent c.args.records.now.items left counts.new.records.items labels.new.records.items
-    (slice_get_read c.args.records.now.items _ at c.index_mut.result.now refl c.requires.of_record c.index_mut.ensures.value) c.come_to.ensures c.leave_if.ensures
+    (slice_get_read c.args.records.now.items _ at c.index_mut.result.now refl c.requires.of_record c.index_mut.ensures.value) c.come_to.ensures c.count_off_if_over.ensures
     (touches_more counts.result c.max-2.result at left counts.new.records.items (omega (arith, one, two))
     (all_reach g.L.Local.ops c.index-states-at.result k counts.result 4294967295 at left counts.new.records.items counts.ensures.counts counts.ensures.reaches))
     (touches_more labels.result c.max-2.result at counts.new.records.items labels.new.records.items (omega (arith, one, two)) labels.ensures.touches) (omega (arith, two))

@@ -1,5 +1,5 @@
 use Rattle.std.proofs.Common.{sym}
-use Rattle.shim_laws_table_events.specs.waking.Looks.{is_quiet, waits}
+use Rattle.shim_laws_table_events.specs.queues.RecordDecisions.{is_quiet, waits}
 use Rattle.shim_process_table.proofs.due.due_alone.Goals as goal
 
 pub returns-in-Quiet : goal.returns-in-Quiet

@@ -6,7 +6,7 @@ use Rattle.shim_records.specs.Fresh.{channels, FreshPairs}
 use Rattle.shim_laws_table_events.specs.forks.Forking.{AreOfChildren, EachUpdatedAbove, ready_chans}
 use Rattle.shim_process_table.specs.Forking.{IsFreeBlock}
 use Rattle.shim_laws_table_events.proofs.forks.Orders.{put_ordered}
-use Rattle.shim_process_table.specs.Touching.{TouchesRecords}
+use Rattle.shim_process_table.specs.Touching.{ChangesOnlyRecords}
 use Rattle.shim_process_table.proofs.ForkPut.{put, its_record}
 use Rattle.shim_process_table.proofs.TouchingForks.{forks_touch}
 use Rattle.shim_process_table.proofs.forking.put_fork.Goals as goal
@@ -30,7 +30,7 @@ returns-clause-ok g c =
     let walked : EachUpdatedAbove 4294967295 c.args.fork.number (channels c.in_ok-chans.chans.items) c.put_block-2.new.items.items c.update_ready-forks.new.records.items = search rules in
     put o c.args.fork.number c.in_ok-first.first c.in_ok-count.count c.args.fork.parent c.args.fork.children.items c.args.states.now.items _ c.args.records.now.items c.put_block-2.new.items.items c.update_ready-forks.new.records.items
     c.index_mut-2.result.now c.note_fork.new.parent c.in_ok-born.born.items c.in_ok-chans.chans.items had block many few children
-    (its_record o c.in_ok-first.first c.in_ok-count.count c.args.fork.parent c.args.fork.children.items c.index_mut-2.result.now c.note_fork.new.parent c.in_ok-pairs.pairs.items many c.note_fork.ensures.forked c.note_fork.ensures.parent c.note_fork.ensures.path c.note_fork.ensures.going c.note_fork.ensures.pairs fresh)
+    (its_record o c.in_ok-first.first c.in_ok-count.count c.args.fork.parent c.args.fork.children.items c.index_mut-2.result.now c.note_fork.new.parent c.in_ok-pairs.pairs.items many c.note_fork.ensures.forked c.note_fork.ensures.parent c.note_fork.ensures.path c.note_fork.ensures.running_children c.note_fork.ensures.pairs fresh)
     put_in ready records walked
 
 pub returns-clause-touches : goal.returns-clause-touches
@@ -42,7 +42,7 @@ returns-clause-touches g c =
     let put_in : c.put_block.new.items.items ≡ with_block c.in_ok-first.first c.args.fork.children.items (slice_set c.args.states.now.items x c.args.fork.parent) = search rules in
     let records : c.put_block-2.new.items.items ≡ with_block c.in_ok-first.first c.in_ok-born.born.items (slice_set c.args.records.now.items x c.note_fork.new.parent) = search rules in
     let behind = c.update_ready-forks.new.records.items in
-    let touched = subst (λ z. TouchesRecords c.update_ready-forks.result x z behind) records c.update_ready-forks.ensures.touches in
+    let touched = subst (λ z. ChangesOnlyRecords c.update_ready-forks.result x z behind) records c.update_ready-forks.ensures.touches in
     forks_touch o c.update_ready-forks.result x c.in_ok-first.first c.args.fork.parent c.args.fork.children.items c.note_fork.new.parent c.in_ok-born.born.items (record { states = c.args.states.now.items; records = c.args.records.now.items })
     (record { states = c.put_block.new.items.items; records = behind }) c.requires.beside block.inside children put_in touched
 

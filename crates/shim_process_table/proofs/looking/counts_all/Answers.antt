@@ -16,4 +16,4 @@ returns-in-None c = none_by_place c.args.c.now.channel c.args.fork.now.pairs.ite
 
 pub returns-in-Some : goal.returns-in-Some
 returns-in-Some c =
-    c.has_all.ensures ∙ all_by_place c.args.c.now.channel c.args.fork.now.pairs.items c.in-Some.place c.index.result.now (ap (pair_index c.args.c.now.channel) (sym c.as_slice.ensures.value) ∙ (sym c.place_in.ensures ∙ c.in-Some.is)) c.index.ensures
+    c.tally_ready.ensures ∙ all_by_place c.args.c.now.channel c.args.fork.now.pairs.items c.in-Some.place c.index.result.now (ap (pair_index c.args.c.now.channel) (sym c.as_slice.ensures.value) ∙ (sym c.place_in.ensures ∙ c.in-Some.is)) c.index.ensures

@@ -1,6 +1,6 @@
 use Rattle.std.proofs.Common.{sym, arith, refl}
 use Rattle.shim_records.specs.Acted.{process_status_of}
-use Rattle.shim_records.proofs.WholeWay.{kept_order, rest_ups}
+use Rattle.shim_records.proofs.FullPropagation.{kept_order, rest_ups}
 use Rattle.shim_records.proofs.Walked.{ways, at_first, next, no_more, at_end}
 use Rattle.shim_records.proofs.Reaching.{both_ways}
 use Rattle.shim_records.proofs.acted.update_all_counts.Goals as goal

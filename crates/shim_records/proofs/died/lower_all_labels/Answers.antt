@@ -1,5 +1,5 @@
 use Rattle.std.proofs.Common.{sym, arith}
-use Rattle.shim_records.proofs.WholeWay.{kept_order}
+use Rattle.shim_records.proofs.FullPropagation.{kept_order}
 use Rattle.shim_records.proofs.AllLowered.{stays, at_first, next, no_more, at_end}
 use Rattle.shim_records.proofs.died.lower_all_labels.Goals as goal
 

@@ -1,5 +1,5 @@
 use Rattle.std.proofs.Common.{sym, arith}
-use Rattle.shim_records.proofs.WholeWay.{kept_order}
+use Rattle.shim_records.proofs.FullPropagation.{kept_order}
 use Rattle.shim_records.proofs.AllKilled.{ways, at_first, next, no_more, at_end}
 use Rattle.shim_records.proofs.killed.kill_all.Goals as goal
 

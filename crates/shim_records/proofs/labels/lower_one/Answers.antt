@@ -48,7 +48,7 @@ returns-then-lower c =
     let ch = c.args.c.now.channel in
     let stood = slice_get_read rs.items c.len.result c.args.at c.index.result.now (c.len.ensures ∙ rs.ok.0) (omega (arith, c.if-at-len.false)) c.index.ensures in
     let fork = slice_get_read rs.items c.len-2.result c.in-Some.above c.index_mut-record.result.now (c.len-2.ensures ∙ rs.ok.0) (omega (arith, c.if-above-len.false)) c.index_mut-record.ensures.value in
-    goes ch c.args.label rs.items c.args.at c.in-Some.above (slice_set rs.items c.in-Some.above (with_pair c.index_mut-record.result.now c.in-Some-place_in.place c.lower_label-lower.new.pair)) c.index_mut.result.now.least c.lower_label-lower.new.pair.least (ap up_at stood ∙ c.in-Some.is)
+    goes ch c.args.label rs.items c.args.at c.in-Some.above (slice_set rs.items c.in-Some.above (with_pair c.index_mut-record.result.now c.in-Some-place_in.place c.lower_label-lower.new.pair)) c.index_mut.result.now.min_dead_label c.lower_label-lower.new.pair.min_dead_label (ap up_at stood ∙ c.in-Some.is)
     (relabelled ch rs.items c.in-Some.above c.in-Some-place_in.place c.index_mut-record.result.now c.index_mut.result.now c.lower_label-lower.new.pair fork
     (ap (pair_index ch) (sym c.as_slice.ensures.value) ∙ (sym c.place_in.ensures ∙ c.in-Some-place_in.is)) c.index_mut.ensures.value c.lower_label-lower.ensures.chan c.lower_label-lower.ensures.sharing c.lower_label-lower.ensures.counts)
     c.lower_label-lower.ensures.taken
@@ -59,7 +59,7 @@ returns-else-lower c =
     let ch = c.args.c.now.channel in
     let stood = slice_get_read rs.items c.len.result c.args.at c.index.result.now (c.len.ensures ∙ rs.ok.0) (omega (arith, c.if-at-len.false)) c.index.ensures in
     let fork = slice_get_read rs.items c.len-2.result c.in-Some.above c.index_mut-record.result.now (c.len-2.ensures ∙ rs.ok.0) (omega (arith, c.if-above-len.false)) c.index_mut-record.ensures.value in
-    stops ch c.args.label rs.items c.args.at c.in-Some.above (slice_set rs.items c.in-Some.above (with_pair c.index_mut-record.result.now c.in-Some-place_in.place c.lower_label-lower.new.pair)) c.index_mut.result.now.least c.lower_label-lower.new.pair.least (ap up_at stood ∙ c.in-Some.is)
+    stops ch c.args.label rs.items c.args.at c.in-Some.above (slice_set rs.items c.in-Some.above (with_pair c.index_mut-record.result.now c.in-Some-place_in.place c.lower_label-lower.new.pair)) c.index_mut.result.now.min_dead_label c.lower_label-lower.new.pair.min_dead_label (ap up_at stood ∙ c.in-Some.is)
     (relabelled ch rs.items c.in-Some.above c.in-Some-place_in.place c.index_mut-record.result.now c.index_mut.result.now c.lower_label-lower.new.pair fork
     (ap (pair_index ch) (sym c.as_slice.ensures.value) ∙ (sym c.place_in.ensures ∙ c.in-Some-place_in.is)) c.index_mut.ensures.value c.lower_label-lower.ensures.chan c.lower_label-lower.ensures.sharing c.lower_label-lower.ensures.counts)
     c.lower_label-lower.ensures.taken (c.lower_label-lower.ensures.stays c.if-lower.false)

@@ -1,10 +1,10 @@
 use Rattle.std.proofs.Common.{◌≡◌, map, ◌+◌, ◌-◌}
 use Rattle.shim_laws_table.specs.Dooms.{lesser}
-use Rattle.shim_laws_table.specs.Recounting.{least_label_among}
-use Rattle.shim_records.specs.Pairs.{stands_of, leasts_in}
+use Rattle.shim_laws_table.specs.Recounting.{min_label_among}
+use Rattle.shim_records.specs.Pairs.{stands_of, min_labels_in}
 use Rattle.shim_records.proofs.recounting.label_of_children.Given as goal
 
 abbrev pub invariant-loop-i : goal.invariant-loop-i
 invariant-loop-i g l =
-    lesser l.least (least_label_among g.L.Local.ops l.c.channel l.states (map stands_of l.records) (leasts_in l.c.channel l.records) (l.first + l.i) (l.count - l.i))
-    ≡ least_label_among g.L.Local.ops l.c.channel l.states (map stands_of l.records) (leasts_in l.c.channel l.records) l.first l.count
+    lesser l.min_dead_label (min_label_among g.L.Local.ops l.c.channel l.states (map stands_of l.records) (min_labels_in l.c.channel l.records) (l.first + l.i) (l.count - l.i))
+    ≡ min_label_among g.L.Local.ops l.c.channel l.states (map stands_of l.records) (min_labels_in l.c.channel l.records) l.first l.count

@@ -49,8 +49,8 @@ returns-then-before-after c =
     let fork = its ch rs.items c.args.here c.len-2.result c.in-Some.above c.index_mut-record.result.now (c.len-2.ensures ∙ rs.ok.0) (omega (arith, c.if-above-len.false)) c.index_mut-record.ensures.value in
     ends ch rs.items c.args.here c.in-Some.above c.in-Some-place_in.place c.index_mut-record.result.now c.index_mut-pair.result.now c.move_pair.new.pair
     (up_is ch rs.items c.args.here c.index.result.now _ stood c.in-Some.is) fork (ap (pair_index ch) (sym c.as_slice.ensures.value) ∙ (sym c.place_in.ensures ∙ c.in-Some-place_in.is)) c.index_mut-pair.ensures.value
-    c.move_pair.ensures.same c.move_pair.ensures.sharing c.move_pair.ensures.label c.move_pair.ensures.moved c.may_be_due-due.result (closed_by c.may_be_due-due.result c.has_all-after.result c.move_pair.new.pair c.has_all-after.ensures c.may_be_due-due.ensures) c.move_pair.ensures.falls
-    (sym c.has_all-before.ensures ∙ (same_bools c.has_all-before.result c.has_all-after.result c.if-before-after.true ∙ c.has_all-after.ensures))
+    c.move_pair.ensures.same c.move_pair.ensures.sharing c.move_pair.ensures.label c.move_pair.ensures.moved c.may_be_due-due.result (closed_by c.may_be_due-due.result c.tally_ready-after.result c.move_pair.new.pair c.tally_ready-after.ensures c.may_be_due-due.ensures) c.move_pair.ensures.falls
+    (sym c.tally_ready-before.ensures ∙ (same_bools c.tally_ready-before.result c.tally_ready-after.result c.if-before-after.true ∙ c.tally_ready-after.ensures))
 
 pub returns : goal.returns
 returns c =
@@ -60,10 +60,10 @@ returns c =
     let fork = its ch rs.items c.args.here c.len-2.result c.in-Some.above c.index_mut-record.result.now (c.len-2.ensures ∙ rs.ok.0) (omega (arith, c.if-above-len.false)) c.index_mut-record.ensures.value in
     goes ch rs.items c.args.here c.in-Some.above c.in-Some-place_in.place c.index_mut-record.result.now c.index_mut-pair.result.now c.move_pair.new.pair
     (up_is ch rs.items c.args.here c.index.result.now _ stood c.in-Some.is) fork (ap (pair_index ch) (sym c.as_slice.ensures.value) ∙ (sym c.place_in.ensures ∙ c.in-Some-place_in.is)) c.index_mut-pair.ensures.value
-    c.move_pair.ensures.same c.move_pair.ensures.sharing c.move_pair.ensures.label c.move_pair.ensures.moved c.may_be_due-due.result (closed_by c.may_be_due-due.result c.has_all-after.result c.move_pair.new.pair c.has_all-after.ensures c.may_be_due-due.ensures) c.move_pair.ensures.falls
-    (record { at = c.in-Some.above; was = c.live_reading.result; is = c.live_reading-2.result }) (λ e. sym c.has_all-before.ensures ∙ other_bool c.has_all-before.result c.has_all-after.result c.if-before-after.false (c.has_all-after.ensures ∙ e)) refl
-    (fork_read c.live_reading.result c.has_all-before.result c.index_mut-pair.result.now c.live_reading.ensures c.has_all-before.ensures)
-    (fork_read c.live_reading-2.result c.has_all-after.result c.move_pair.new.pair c.live_reading-2.ensures c.has_all-after.ensures)
+    c.move_pair.ensures.same c.move_pair.ensures.sharing c.move_pair.ensures.label c.move_pair.ensures.moved c.may_be_due-due.result (closed_by c.may_be_due-due.result c.tally_ready-after.result c.move_pair.new.pair c.tally_ready-after.ensures c.may_be_due-due.ensures) c.move_pair.ensures.falls
+    (record { at = c.in-Some.above; was = c.live_child_status.result; is = c.live_child_status-2.result }) (λ e. sym c.tally_ready-before.ensures ∙ other_bool c.tally_ready-before.result c.tally_ready-after.result c.if-before-after.false (c.tally_ready-after.ensures ∙ e)) refl
+    (fork_read c.live_child_status.result c.tally_ready-before.result c.index_mut-pair.result.now c.live_child_status.ensures c.tally_ready-before.ensures)
+    (fork_read c.live_child_status-2.result c.tally_ready-after.result c.move_pair.new.pair c.live_child_status-2.ensures c.tally_ready-after.ensures)
 
 pub place_in-requires : goal.place_in-requires
 place_in-requires c =

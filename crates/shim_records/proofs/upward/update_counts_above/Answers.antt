@@ -1,6 +1,6 @@
 use Rattle.std.proofs.Common.{subst, arith}
 use Rattle.shim_records.specs.Ways.{StepsUp, MovesParent}
-use Rattle.shim_records.proofs.WholeWay.{begun, ended, further, stopped, kept_order}
+use Rattle.shim_records.proofs.FullPropagation.{begun, ended, further, stopped, kept_order}
 use Rattle.shim_records.proofs.Reaching.{at_start, farther, led_to, led_on}
 use Rattle.shim_records.proofs.Readying.{falls_at_first, no_more_fall, still_falls}
 use Rattle.shim_records.proofs.upward.update_counts_above.Goals as goal

@@ -1,5 +1,5 @@
 use Rattle.std.proofs.Common.{◌-◌}
-use Rattle.shim_records.proofs.WholeWay.{OnIt}
+use Rattle.shim_records.proofs.FullPropagation.{OnIt}
 use Rattle.shim_records.proofs.Reaching.{Led}
 use Rattle.shim_records.proofs.Readying.{StillFalls}
 use Rattle.shim_records.proofs.upward.update_counts_above.Given as goal

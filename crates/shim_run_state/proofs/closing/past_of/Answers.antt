@@ -1,5 +1,5 @@
 use Rattle.std.proofs.Common.{◌≡◌, ◌+◌, map, refl, sym, ap, subst, ◌∙◌, rules}
-use Rattle.shim_process_table.specs.Reading.{IsInUse}
+use Rattle.shim_process_table.specs.Lookups.{IsInUse}
 use Rattle.shim_run_state.specs.Fields.{count_in}
 use Rattle.shim_run_state.specs.RunStates.{path_at}
 use Rattle.shim_run_state.proofs.PastCounts.{no_block, one_gathered}

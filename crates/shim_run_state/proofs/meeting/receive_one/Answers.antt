@@ -14,8 +14,8 @@ requeue-requires-clause-serves g c κs within i u =
     let h = c.in-Some.ensures.here in
     c.requires.serves i (was_used c.args.table.now c.receive.new.self c.args.number h.first h.process _ lives lives h.has h.becomes i u)
 
-pub requeue-requires-clause-listing : goal.requeue-requires-clause-listing
-requeue-requires-clause-listing g c κs within = c.in-Some.ensures.here.listing
+pub requeue-requires-clause-queue : goal.requeue-requires-clause-queue
+requeue-requires-clause-queue g c κs within = c.in-Some.ensures.here.queue
 
 pub returns-in-None-clause-receives : goal.returns-in-None-clause-receives
 returns-in-None-clause-receives g c =
@@ -34,4 +34,4 @@ pub returns-in-Some-clause-passes : goal.returns-in-Some-clause-passes
 returns-in-Some-clause-passes g c =
     let o = g.L.Local.ops in
     let law = (g.met.L.Local g.world.𝓛 g.world.𝓜 g.world.𝓡 ((λ s x. x), (λ x. x), (λ x. x), λ x. x)).laws in
-    one_passes o law c.args.c.now.channel (to_z w64 (of_z w64 c.args.value)) c.args.number c.in-Some.arrival c.args.table.now c.receive.new.self c.args.process_lists.now c.requeue.new.self c.receive.ensures.receives c.in-Some.ensures.here c.requeue.ensures.own c.requeue.ensures.requeues
+    one_passes o law c.args.c.now.channel (to_z w64 (of_z w64 c.args.value)) c.args.number c.in-Some.to_requeue c.args.table.now c.receive.new.self c.args.process_lists.now c.requeue.new.self c.receive.ensures.receives c.in-Some.ensures.here c.requeue.ensures.own c.requeue.ensures.requeues

@@ -15,7 +15,7 @@ pub returns-clause-ok : goal.returns-clause-ok
 returns-clause-ok g c =
     let fits : FitsSigned w64 c.args.value = search rules in
     on_ok_weaker c.record.result (λ is rp root kept.
-    is ∙ (λ j. recorded ((c.in_ok-known.ensures.first c.if-known.false).0 j) c.args.c.now.channel (c.name_here-name.ensures rp root kept j) (to_z-of_z w64 c.args.value fits j))) c.record.ensures.ok
+    is ∙ (λ j. recorded ((c.in_ok-known.ensures.first c.if-known.false).0 j) c.args.c.now.channel (c.meeting_name-name.ensures rp root kept j) (to_z-of_z w64 c.args.value fits j))) c.record.ensures.ok
 
 pub returns-then-known-clause-receivers : goal.returns-then-known-clause-receivers
 returns-then-known-clause-receivers g c lists = lists

@@ -4,14 +4,14 @@ use Rattle.shim_run_state.specs.RunStates.{tree_in}
 use Rattle.shim_net.specs.Entries.{entry_of}
 use Rattle.shim_net.specs.Nets.{NetView, IsNet}
 use Rattle.shim_net.specs.Standings.{IsQuiescentNet, IsSpentNet}
-use Rattle.shim_net.proofs.Ends.{may_end, none_open, nobody_held, agrees, told}
+use Rattle.shim_net.proofs.Ends.{may_end, none_open, nobody_out, agrees, told}
 use Rattle.shim_net.proofs.net.Net.ended.Goals as goal
 
 pub ended-requires-clause-none : goal.ended-requires-clause-none
 ended-requires-clause-none g c κs within =
     let o = g.L.Local.ops in
     let ends = subst (λ (z : NetView g.row.L.Denot). IsQuiescentNet o z ⊎ IsSpentNet o z) (sym c.self.view_is) c.requires in
-    nobody_held o c.self.inside.tree c.self.inside.grants.items c.self.invariant.3 (none_open o (record { root = c.self.inside.root.value; budget = c.self.inside.budget; tree = tree_in o c.self.inside.tree; journal = map entry_of c.self.inside.journal.items; grants = c.self.inside.grants.items }) ends)
+    nobody_out o c.self.inside.tree c.self.inside.grants.items c.self.invariant.3 (none_open o (record { root = c.self.inside.root.value; budget = c.self.inside.budget; tree = tree_in o c.self.inside.tree; journal = map entry_of c.self.inside.journal.items; grants = c.self.inside.grants.items }) ends)
 
 pub ended-requires-clause-spent : goal.ended-requires-clause-spent
 ended-requires-clause-spent g c κs within =

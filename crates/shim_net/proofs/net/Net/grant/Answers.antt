@@ -8,7 +8,7 @@ use Rattle.shim_net.specs.Nets.{OpenGrant, NetView, IsNet, IsOpen, reserved_in}
 use Rattle.shim_net.specs.Granting.{IsAtHome}
 use Rattle.shim_net.proofs.Keeping.{given, more_reserved}
 use Rattle.shim_net.proofs.Granting.{has_room, gives, gives_none}
-use Rattle.shim_net.proofs.Holding.{same_net, passed_held, passed_home, none_home, is_home, its_home, other_pids, zero_at_root, one_more_held}
+use Rattle.shim_net.proofs.CheckingOut.{same_net, passed_out, passed_home, none_home, is_home, its_home, other_pids, zero_at_root, one_more_out}
 use Rattle.shim_net.proofs.net.Net.grant.Goals as goal
 
 pub invariant_of-self : goal.invariant_of-self
@@ -20,7 +20,7 @@ invariant_of-self g c =
       same_net o i.root.value i.budget (tree_in o i.tree) (tree_in o v) (map entry_of i.journal.items) (map entry_of i.journal.items) i.grants.items i.grants.items same.tree refl refl c.self.invariant.0,
       c.self.invariant.1,
       search rules,
-      passed_held o i.tree v i.grants.items i.grants.items same refl c.self.invariant.3,
+      passed_out o i.tree v i.grants.items i.grants.items same refl c.self.invariant.3,
     )
 
 pub returns-in_default-clause-given : goal.returns-in_default-clause-given
@@ -40,7 +40,7 @@ invariant_of-self-in_err-reserve g c =
       same_net o i.root.value i.budget (tree_in o i.tree) (tree_in o v) (map entry_of i.journal.items) (map entry_of c.reserve.new.self.items) i.grants.items i.grants.items same.tree (ap (map entry_of) c.in_err-reserve.ensures.items) refl c.self.invariant.0,
       c.self.invariant.1,
       search rules,
-      passed_held o i.tree v i.grants.items i.grants.items same refl c.self.invariant.3,
+      passed_out o i.tree v i.grants.items i.grants.items same refl c.self.invariant.3,
     )
 
 pub invariant_of-self-in_err-reserve-2 : goal.invariant_of-self-in_err-reserve-2
@@ -52,7 +52,7 @@ invariant_of-self-in_err-reserve-2 g c =
       same_net o i.root.value i.budget (tree_in o i.tree) (tree_in o v) (map entry_of i.journal.items) (map entry_of c.reserve.new.self.items) i.grants.items c.reserve-2.new.self.items same.tree (ap (map entry_of) c.in_ok-reserve.ensures.items) c.in_err-reserve-2.ensures.items c.self.invariant.0,
       c.self.invariant.1 ∙ ap reserved_in (sym c.in_err-reserve-2.ensures.items),
       search rules,
-      passed_held o i.tree v i.grants.items c.reserve-2.new.self.items same c.in_err-reserve-2.ensures.items c.self.invariant.3,
+      passed_out o i.tree v i.grants.items c.reserve-2.new.self.items same c.in_err-reserve-2.ensures.items c.self.invariant.3,
     )
 
 pub invariant_of-self-in_err-given : goal.invariant_of-self-in_err-given
@@ -64,7 +64,7 @@ invariant_of-self-in_err-given g c =
       same_net o i.root.value i.budget (tree_in o i.tree) (tree_in o v) (map entry_of i.journal.items) (map entry_of c.reserve.new.self.items) i.grants.items c.reserve-2.new.self.items same.tree (ap (map entry_of) c.in_ok-reserve.ensures.items) c.in_ok-reserve-2.ensures.items c.self.invariant.0,
       c.self.invariant.1 ∙ ap reserved_in (sym c.in_ok-reserve-2.ensures.items),
       search rules,
-      passed_held o i.tree v i.grants.items c.reserve-2.new.self.items same c.in_ok-reserve-2.ensures.items c.self.invariant.3,
+      passed_out o i.tree v i.grants.items c.reserve-2.new.self.items same c.in_ok-reserve-2.ensures.items c.self.invariant.3,
     )
 
 pub invariant_of-self-in_err-parcel : goal.invariant_of-self-in_err-parcel
@@ -76,7 +76,7 @@ invariant_of-self-in_err-parcel g c =
       same_net o i.root.value i.budget (tree_in o i.tree) (tree_in o v) (map entry_of i.journal.items) (map entry_of c.reserve.new.self.items) i.grants.items c.reserve-2.new.self.items same.tree (ap (map entry_of) c.in_ok-reserve.ensures.items) c.in_ok-reserve-2.ensures.items c.self.invariant.0,
       c.self.invariant.1 ∙ ap reserved_in (sym c.in_ok-reserve-2.ensures.items),
       search rules,
-      passed_held o i.tree v i.grants.items c.reserve-2.new.self.items same c.in_ok-reserve-2.ensures.items c.self.invariant.3,
+      passed_out o i.tree v i.grants.items c.reserve-2.new.self.items same c.in_ok-reserve-2.ensures.items c.self.invariant.3,
     )
 
 pub invariant_of-self-2 : goal.invariant_of-self-2
@@ -85,14 +85,14 @@ invariant_of-self-2 g c =
     let o = g.L.Local.ops in
     let i = c.self.inside in
     let v = c.next_quiet.new.self in
-    let u = c.hold.new.self in
+    let u = c.check_out.new.self in
     let k = c.left_in-left.ensures.keeps in
     let same = c.in-Some.ensures.0 in
     let number = c.in-Some.number in
     let l = c.process.result.now in
     let has = c.process.ensures in
     let next = its_home o i.tree v same number c.in-Some.ensures.1.0 l c.in-Some.ensures.1.1 has.0 has.1 has.2 in
-    let holds = c.hold.ensures l (passed_home o i.tree v number l same next) in
+    let holds = c.check_out.ensures l (passed_home o i.tree v number l same next) in
     let home = is_home o law i.tree k i.grants.items c.self.invariant.3 number l next in
     let tree : tree_in o u ≡ tree_in o i.tree = holds.tree ∙ same.tree in
     let n = c.min-grant.result in
@@ -107,7 +107,7 @@ invariant_of-self-2 g c =
           (given o law _ told c.self.invariant.0 home.grantable some home.free fresh other room c.push_reserved.new.self.items items),
       more_reserved o law i.reserved i.grants.items c.push_reserved.new.self.items told c.self.invariant.1 items,
       search rules,
-      one_more_held o v u i.grants.items c.push_reserved.new.self.items number l told (passed_held o i.tree v i.grants.items i.grants.items same refl c.self.invariant.3) holds other items refl refl,
+      one_more_out o v u i.grants.items c.push_reserved.new.self.items number l told (passed_out o i.tree v i.grants.items i.grants.items same refl c.self.invariant.3) holds other items refl refl,
     )
 
 pub returns-clause-given : goal.returns-clause-given
@@ -116,14 +116,14 @@ returns-clause-given g c =
     let o = g.L.Local.ops in
     let i = c.self.inside in
     let v = c.next_quiet.new.self in
-    let u = c.hold.new.self in
+    let u = c.check_out.new.self in
     let k = c.left_in-left.ensures.keeps in
     let same = c.in-Some.ensures.0 in
     let number = c.in-Some.number in
     let l = c.process.result.now in
     let has = c.process.ensures in
     let next = its_home o i.tree v same number c.in-Some.ensures.1.0 l c.in-Some.ensures.1.1 has.0 has.1 has.2 in
-    let holds = c.hold.ensures l (passed_home o i.tree v number l same next) in
+    let holds = c.check_out.ensures l (passed_home o i.tree v number l same next) in
     let home = is_home o law i.tree k i.grants.items c.self.invariant.3 number l next in
     let tree : tree_in o u ≡ tree_in o i.tree = holds.tree ∙ same.tree in
     let n = c.min-grant.result in
@@ -138,7 +138,7 @@ returns-clause-given g c =
       c.in_ok-parcel.ensures.numbers.1 ∙ ap (λ z. z.slot) is,
       c.in_ok-parcel.ensures.numbers.2 ∙ ap (λ z. z.round) is,
       gives o net (subst (IsNet o) c.self.view_is c.self.invariant.0) l (subst (λ (z : NetView g.row.L.Denot). IsAtHome o z.tree z.grants l) c.self.view_is home) c.args.most c.args.slot c.args.round c.left_in-left.result n left least some
-          number (zero_at_root o law i.tree k number next.quiet.first l lives next.quiet.has)
+          number (zero_at_root o law i.tree k number next.at_quiet.first l lives next.at_quiet.has)
           c.in_ok-parcel.parcel.pid c.in_ok-parcel.parcel.start c.in_ok-parcel.parcel.grant
           (c.in_ok-parcel.ensures.numbers.0 ∙ ap (λ z. z.pid) is) (c.in_ok-parcel.ensures.work.0 ∙ ap (λ z. z.start) is) (c.in_ok-parcel.ensures.work.1 ∙ ap (λ z. z.most) is)
           (record { root = i.root.value; budget = i.budget; tree = tree_in o u; journal = map entry_of c.reserve.new.self.items; grants = c.push_reserved.new.self.items })

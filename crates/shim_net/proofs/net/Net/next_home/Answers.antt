@@ -7,7 +7,7 @@ use Rattle.shim_net.specs.Entries.{entry_of}
 use Rattle.shim_net.specs.Nets.{NetView, reserved_in}
 use Rattle.shim_net.specs.Stepping.{IsNextHome, IsHomeNumber, left_of}
 use Rattle.shim_net.proofs.Granting.{is_same, gives_none, home_number}
-use Rattle.shim_net.proofs.Holding.{same_net, passed_held, none_home, is_home, zero_at_root}
+use Rattle.shim_net.proofs.CheckingOut.{same_net, passed_out, none_home, is_home, zero_at_root}
 use Rattle.shim_net.proofs.net.Net.next_home.Goals as goal
 
 pub invariant_of-self : goal.invariant_of-self
@@ -19,7 +19,7 @@ invariant_of-self g c =
       same_net o i.root.value i.budget (tree_in o i.tree) (tree_in o v) (map entry_of i.journal.items) (map entry_of i.journal.items) i.grants.items i.grants.items same.tree refl refl c.self.invariant.0,
       c.self.invariant.1,
       search rules,
-      passed_held o i.tree v i.grants.items i.grants.items same refl c.self.invariant.3,
+      passed_out o i.tree v i.grants.items i.grants.items same refl c.self.invariant.3,
     )
 
 pub returns-in_err-number : goal.returns-in_err-number
@@ -39,7 +39,7 @@ invariant_of-self-2 g c =
       same_net o i.root.value i.budget (tree_in o i.tree) (tree_in o v) (map entry_of i.journal.items) (map entry_of i.journal.items) i.grants.items i.grants.items same.tree refl refl c.self.invariant.0,
       c.self.invariant.1,
       search rules,
-      passed_held o i.tree v i.grants.items i.grants.items same refl c.self.invariant.3,
+      passed_out o i.tree v i.grants.items i.grants.items same refl c.self.invariant.3,
     )
 
 pub returns : goal.returns
@@ -54,7 +54,7 @@ returns g c =
     let home = next.1.1 in
     let number = c.in_ok-number.number in
     let here = is_home o law i.tree k i.grants.items c.self.invariant.3 number l home in
-    let root = zero_at_root o law i.tree k number home.quiet.first l lives home.quiet.has in
+    let root = zero_at_root o law i.tree k number home.at_quiet.first l lives home.at_quiet.has in
     let left : c.left_in.result ≡ i.budget - (steps (tree_in o i.tree) + reserved_in i.grants.items) = c.left_in.ensures.left ∙ ap (λ z. i.budget - (steps (tree_in o i.tree) + z)) c.self.invariant.1 in
     let some : 1 ≤ i.budget - (steps (tree_in o i.tree) + reserved_in i.grants.items) = omega (arith, left, c.if-left_in-eq0.false) in (
       is_same o c.args.self.now i.root.value i.budget (tree_in o i.tree) (tree_in o v) (map entry_of i.journal.items) i.grants.items c.self.view_is next.0.tree,

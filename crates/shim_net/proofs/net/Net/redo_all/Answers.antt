@@ -1,12 +1,12 @@
 use Rattle.std.proofs.Common.{ap, sym, subst, ◌∙◌}
 use Rattle.shim_net.specs.Nets.{NetView}
-use Rattle.shim_net.specs.Taking.{RedoesOne}
+use Rattle.shim_net.specs.Taking.{RedoesOne, RedoesSome, redid_none, redid_one}
 use Rattle.shim_net.specs.Progress.{AreAmong}
 use Rattle.shim_net.proofs.Progress.{stays, same_net, on_and_on, among, none_among, redid_on, redid_fewer, redid_among}
 use Rattle.shim_net.proofs.net.Net.redo_all.Goals as goal
 
 pub loop-init : goal.loop-init
-loop-init g c = record { goes_on = stays g.L.Local.ops c.args.self.now; left = among c.args.self.now.grants }
+loop-init g c = record { redoes = redid_none; goes_on = stays g.L.Local.ops c.args.self.now; left = among c.args.self.now.grants }
 
 pub loop-preserved : goal.loop-preserved
 loop-preserved g c =
@@ -14,6 +14,7 @@ loop-preserved g c =
     let i = c.loop.invariant in
     let did = subst (RedoesOne o c.loop.self c.redo.new.self) c.if-branch.true c.in_ok-redo.ensures.ok in
     record {
+      redoes = redid_one c.loop.self c.redo.new.self i.redoes did;
       goes_on = on_and_on o c.args.self.now c.loop.self c.redo.new.self i.goes_on (redid_on o c.loop.self c.redo.new.self did);
       left = redid_among o c.loop.self c.redo.new.self did c.args.self.now.grants i.left;
     }
@@ -23,6 +24,15 @@ loop-smaller g c =
     let o = g.L.Local.ops in
     let did = subst (RedoesOne o c.loop.self c.redo.new.self) c.if-branch.true c.in_ok-redo.ensures.ok in
     redid_fewer o c.loop.self c.redo.new.self did
+
+pub returns-in_err-redo-clause-redoes : goal.returns-in_err-redo-clause-redoes
+returns-in_err-redo-clause-redoes g c = subst (λ (z : NetView g.row.L.Denot). RedoesSome g.L.Local.ops c.args.self.now z) (sym c.in_err-redo.ensures.err) c.loop.invariant.redoes
+
+pub returns-clause-redoes : goal.returns-clause-redoes
+returns-clause-redoes g c =
+    let o = g.L.Local.ops in
+    let nothing = subst (RedoesOne o c.loop.self c.redo.new.self) c.if-branch.false c.in_ok-redo.ensures.ok in
+    subst (λ (z : NetView g.row.L.Denot). RedoesSome o c.args.self.now z) (sym nothing.0) c.loop.invariant.redoes
 
 pub returns-in_err-redo-clause-goes_on : goal.returns-in_err-redo-clause-goes_on
 returns-in_err-redo-clause-goes_on g c =

@@ -4,12 +4,12 @@ use Rattle.std.proofs.lemmas.List.{map_push}
 use Rattle.shim_semantics.specs.Trees.{steps}
 use Rattle.shim_run_log.specs.Events.{event_of}
 use Rattle.shim_run_state.specs.RunStates.{tree_in}
-use Rattle.shim_run_state.specs.Holding.{RestsIn, HappensIn}
+use Rattle.shim_run_state.specs.CheckingOut.{RestsIn, HappensIn}
 use Rattle.shim_laws_replay.specs.Journals as journals
 use Rattle.shim_run_log.specs.declared.entry.Entry.TheVariants as code
 use Rattle.shim_net.specs.Entries.{entry_of}
 use Rattle.shim_net.specs.Nets.{NetView, reserved_in}
-use Rattle.shim_net.proofs.Holding.{same_net, still_held, passed_held}
+use Rattle.shim_net.proofs.CheckingOut.{same_net, still_out, passed_out}
 use Rattle.shim_net.proofs.Keeping.{happened}
 use Rattle.shim_net.proofs.Settling.{settled_none, settled_one}
 use Rattle.shim_net.proofs.net.Net.settle_one.Goals as goal
@@ -23,7 +23,7 @@ invariant_of-self-in_err-settle_one g c =
       same_net o i.root.value i.budget (tree_in o i.tree) (tree_in o u) (map entry_of i.journal.items) (map entry_of c.reserve.new.self.items) i.grants.items i.grants.items stays.tree (ap (map entry_of) c.in_ok-reserve.ensures.items) refl c.self.invariant.0,
       c.self.invariant.1,
       search rules,
-      still_held o i.tree u i.grants.items c.self.invariant.3 stays.held,
+      still_out o i.tree u i.grants.items c.self.invariant.3 stays.checked_out,
     )
 
 pub invariant_of-self-in-None : goal.invariant_of-self-in-None
@@ -35,7 +35,7 @@ invariant_of-self-in-None g c =
       same_net o i.root.value i.budget (tree_in o i.tree) (tree_in o u) (map entry_of i.journal.items) (map entry_of c.reserve.new.self.items) i.grants.items i.grants.items rests.0.tree (ap (map entry_of) c.in_ok-reserve.ensures.items) refl c.self.invariant.0,
       c.self.invariant.1,
       search rules,
-      passed_held o i.tree u i.grants.items i.grants.items rests.0 refl c.self.invariant.3,
+      passed_out o i.tree u i.grants.items i.grants.items rests.0 refl c.self.invariant.3,
     )
 
 pub invariant_of-self-in-Some : goal.invariant_of-self-in-Some
@@ -52,7 +52,7 @@ invariant_of-self-in-Some g c =
       happened o law _ (tree_in o u) e c.self.invariant.0 h.leads h.other room (map entry_of c.push_reserved.new.self.items) more,
       c.self.invariant.1,
       search rules,
-      still_held o i.tree u i.grants.items c.self.invariant.3 h.same,
+      still_out o i.tree u i.grants.items c.self.invariant.3 h.same,
     )
 
 pub returns-in-None-clause-ok : goal.returns-in-None-clause-ok

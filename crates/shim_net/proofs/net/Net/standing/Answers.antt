@@ -1,13 +1,13 @@
 use Rattle.std.proofs.Common.{rules, ◌≡◌, length, sym, ◌∙◌}
 use Rattle.shim_semantics.proofs.HowMany.{clash}
 use Rattle.shim_net.proofs.Ends.{is_spent, is_neither}
-use Rattle.shim_net.proofs.Holding.{none_held}
+use Rattle.shim_net.proofs.CheckingOut.{none_out}
 use Rattle.shim_net.proofs.net.Net.standing.Goals as goal
 
 pub quiescent-requires-after_bounds : goal.quiescent-requires-after_bounds
 quiescent-requires-after_bounds g c κs within =
     let none : length c.self.inside.grants.items ≡ 0 = search rules in
-    none_held g.L.Local.ops c.self.inside.tree c.self.inside.grants.items c.self.invariant.3 none
+    none_out g.L.Local.ops c.self.inside.tree c.self.inside.grants.items c.self.invariant.3 none
 
 pub returns-then-steps-self-clause-stands : goal.returns-then-steps-self-clause-stands
 returns-then-steps-self-clause-stands g c =

@@ -4,7 +4,7 @@ use Rattle.shim_run_state.specs.RunStates.{tree_in}
 use Rattle.shim_net.specs.Entries.{entry_of}
 use Rattle.shim_net.specs.Nets.{IsNet, started, reserved_in}
 use Rattle.shim_net.proofs.Keeping.{begun}
-use Rattle.shim_net.proofs.Holding.{begun_held}
+use Rattle.shim_net.proofs.CheckingOut.{begun_out}
 use Rattle.shim_net.proofs.net.Net.start.Goals as goal
 
 pub invariant_of-result : goal.invariant_of-result
@@ -17,5 +17,5 @@ invariant_of-result g c =
       subst (IsNet o) (sym same) (begun o law root c.args.budget c.path-path.ensures.sound c.requires.path c.requires.own c.requires.budget.0 c.requires.budget.1),
       ap reserved_in (sym c.new-2.ensures.items),
       search rules,
-      begun_held o c.in_ok-tree.tree c.new-2.result.items c.in_ok-tree.ensures.held c.new-2.ensures.items,
+      begun_out o c.in_ok-tree.tree c.new-2.result.items c.in_ok-tree.ensures.checked_out c.new-2.ensures.items,
     )

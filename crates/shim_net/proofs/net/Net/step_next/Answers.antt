@@ -1,4 +1,4 @@
-use Rattle.std.proofs.Common.{subst}
+use Rattle.std.proofs.Common.{arith, subst}
 use Rattle.shim_net.specs.Stepping.{StepsHome}
 use Rattle.shim_net.proofs.Progress.{stepped_on, stepped_same, stepped_more, gave_none}
 use Rattle.shim_net.proofs.net.Net.step_next.Goals as goal
@@ -6,29 +6,29 @@ use Rattle.shim_net.proofs.net.Net.step_next.Goals as goal
 pub returns-in-None-clause-more : goal.returns-in-None-clause-more
 returns-in-None-clause-more g c =
     let o = g.L.Local.ops in
-    let none = subst (StepsHome o c.args.self.now c.step_here.new.self c.args.most) c.in-None.is c.in_ok-step_here.ensures.ok in
-    absurd (gave_none o c.args.self.now c.step_here.new.self none c.requires.can)
+    let none = subst (StepsHome o c.args.self.now c.step.new.self 18446744073709551615) c.in-None.is c.in_ok-step.ensures.ok in
+    absurd (gave_none o c.args.self.now c.step.new.self none c.requires.can)
 
 pub returns-then-quiet-clause-goes_on : goal.returns-then-quiet-clause-goes_on
 returns-then-quiet-clause-goes_on g c =
     let o = g.L.Local.ops in
-    let did = subst (StepsHome o c.args.self.now c.step_here.new.self c.args.most) c.in-Some.is c.in_ok-step_here.ensures.ok in
-    stepped_on o c.args.self.now c.step_here.new.self c.args.most c.in-Some.quiet did
+    let did = subst (StepsHome o c.args.self.now c.step.new.self 18446744073709551615) c.in-Some.is c.in_ok-step.ensures.ok in
+    stepped_on o c.args.self.now c.step.new.self 18446744073709551615 c.in-Some.quiet did
 
 pub returns-else-quiet-clause-goes_on : goal.returns-else-quiet-clause-goes_on
 returns-else-quiet-clause-goes_on g c =
     let o = g.L.Local.ops in
-    let did = subst (StepsHome o c.args.self.now c.step_here.new.self c.args.most) c.in-Some.is c.in_ok-step_here.ensures.ok in
-    stepped_on o c.args.self.now c.step_here.new.self c.args.most c.in-Some.quiet did
+    let did = subst (StepsHome o c.args.self.now c.step.new.self 18446744073709551615) c.in-Some.is c.in_ok-step.ensures.ok in
+    stepped_on o c.args.self.now c.step.new.self 18446744073709551615 c.in-Some.quiet did
 
 pub returns-else-quiet-clause-same : goal.returns-else-quiet-clause-same
 returns-else-quiet-clause-same g c =
     let o = g.L.Local.ops in
-    let did = subst (StepsHome o c.args.self.now c.step_here.new.self c.args.most) c.in-Some.is c.in_ok-step_here.ensures.ok in
-    stepped_same o c.args.self.now c.step_here.new.self c.args.most c.in-Some.quiet did
+    let did = subst (StepsHome o c.args.self.now c.step.new.self 18446744073709551615) c.in-Some.is c.in_ok-step.ensures.ok in
+    stepped_same o c.args.self.now c.step.new.self 18446744073709551615 c.in-Some.quiet did
 
 pub returns-else-quiet-clause-more : goal.returns-else-quiet-clause-more
 returns-else-quiet-clause-more g c =
     let o = g.L.Local.ops in
-    let did = subst (StepsHome o c.args.self.now c.step_here.new.self c.args.most) c.in-Some.is c.in_ok-step_here.ensures.ok in
-    stepped_more o c.args.self.now c.step_here.new.self c.args.most c.in-Some.quiet did c.requires.most c.if-quiet.false
+    let did = subst (StepsHome o c.args.self.now c.step.new.self 18446744073709551615) c.in-Some.is c.in_ok-step.ensures.ok in
+    stepped_more o c.args.self.now c.step.new.self 18446744073709551615 c.in-Some.quiet did (omega arith) c.if-quiet.false

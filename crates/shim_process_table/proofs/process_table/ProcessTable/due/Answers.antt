@@ -3,7 +3,7 @@ use Rattle.std.specs.Prelude.{slice_get}
 use Rattle.std.proofs.lemmas.Option.{slice_get_read}
 use Rattle.shim_base.proofs.Facts.{some_same}
 use Rattle.shim_laws_table_events.specs.keeping.Tables.{TableView}
-use Rattle.shim_laws_table_events.specs.waking.Looks.{HasNothingDue}
+use Rattle.shim_laws_table_events.specs.queues.RecordDecisions.{HasNothingDue}
 use Rattle.shim_process_table.specs.Due.{DueIs}
 use Rattle.shim_process_table.proofs.DueFacts.{at_rest, live_process, of_lists}
 use Rattle.shim_process_table.proofs.process_table.ProcessTable.due.Goals as goal

@@ -1,7 +1,7 @@
 use Rattle.std.proofs.Common.{subst, ◌∙◌, arith}
 use Rattle.std.proofs.lemmas.Option.{slice_get_read}
 use Rattle.shim_laws_table_events.specs.meetings.Poisons.{AllDie}
-use Rattle.shim_process_table.specs.Touching.{TouchesEach}
+use Rattle.shim_process_table.specs.Touching.{ChangesOnlyEach}
 use Rattle.shim_process_table.proofs.HerePoisons.{one_killed, each_killed}
 use Rattle.shim_process_table.proofs.TouchingMeets.{one_touched, each_touched}
 use Rattle.shim_process_table.proofs.process_table.ProcessTable.kill_each.Goals as goal
@@ -26,5 +26,5 @@ returns-clause-die g c =
 pub returns-clause-touches : goal.returns-clause-touches
 returns-clause-touches g c =
     let numbers = c.sharers.inside.numbers in
-    subst (λ z. TouchesEach z c.args.self.now c.loop-place.self) c.sharers.view_is
+    subst (λ z. ChangesOnlyEach z c.args.self.now c.loop-place.self) c.sharers.view_is
     (each_touched numbers.items c.loop-place.place c.args.self.now c.loop-place.self (let w = c.len-place-end.ensures in let y = numbers.ok.0 in omega (arith, c.loop-place-test.false, w, y)) c.loop-place.invariant.1)

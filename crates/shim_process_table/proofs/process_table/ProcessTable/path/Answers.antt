@@ -2,7 +2,7 @@ use Rattle.std.proofs.Common.{length, refl, sym, subst, ap, ◌∙◌}
 use Rattle.std.specs.Prelude.{slice_get}
 use Rattle.std.proofs.lemmas.Option.{slice_get_read}
 use Rattle.shim_laws_table_events.specs.keeping.Tables.{TableView}
-use Rattle.shim_process_table.specs.Reading.{IsInUse}
+use Rattle.shim_process_table.specs.Lookups.{IsInUse}
 use Rattle.shim_process_table.proofs.Parents.{use_within, path_kept}
 use Rattle.shim_process_table.proofs.process_table.ProcessTable.path.Goals as goal
 

@@ -1,9 +1,9 @@
 use Rattle.std.proofs.Common.{◌<◌, refl, sym, ap, subst, ◌∙◌}
 use Rattle.std.specs.Prelude.{slice_get}
 use Rattle.shim_run_state.specs.ProcessLists.{ProcessListsView, Serves}
-use Rattle.shim_run_state.specs.Waking.{HasCounted, Requeues}
+use Rattle.shim_run_state.specs.Enqueueing.{HasCounted, Requeues}
 use Rattle.shim_run_state.proofs.OwnCounts.{as_many_counts}
-use Rattle.shim_run_state.proofs.ProcessLists.{in_awake, in_quiet, still_even}
+use Rattle.shim_run_state.proofs.ProcessLists.{in_event_queue, in_quiet, still_even}
 use Rattle.shim_run_state.proofs.process_lists.ProcessLists.acted.Goals as goal
 
 pub count_steps-requires-clause-within : goal.count_steps-requires-clause-within
@@ -15,26 +15,26 @@ count_steps-requires-clause-within g c =
 pub count_steps-requires-clause-few : goal.count_steps-requires-clause-few
 count_steps-requires-clause-few g c count e = c.requires.few count (sym (ap (λ (z : ProcessListsView). slice_get z.own c.args.number) c.self.view_is) ∙ e)
 
-pub wake_as-requires-clause-awakes : goal.wake_as-requires-clause-awakes
-wake_as-requires-clause-awakes g c κs within =
+pub enqueue_as-requires-clause-event_queues : goal.enqueue_as-requires-clause-event_queues
+enqueue_as-requires-clause-event_queues g c κs within =
     let w = c.self.inside in
-    let s : ProcessListsView = record { own = w.own.items; awake = w.awake; quiet = w.quiet; held = w.held.items } in
+    let s : ProcessListsView = record { own = w.own.items; event_queue = w.event_queue; ready_queue = w.ready_queue; checked_out = w.checked_out.items } in
     let serves = subst (Serves c.args.table.now) (sym c.self.view_is) c.requires.serves in
-    in_awake c.args.table.now s c.self.invariant serves
+    in_event_queue c.args.table.now s c.self.invariant serves
 
-pub wake_as-requires-clause-quiets : goal.wake_as-requires-clause-quiets
-wake_as-requires-clause-quiets g c κs within =
+pub enqueue_as-requires-clause-ready_queues : goal.enqueue_as-requires-clause-ready_queues
+enqueue_as-requires-clause-ready_queues g c κs within =
     let w = c.self.inside in
-    let s : ProcessListsView = record { own = w.own.items; awake = w.awake; quiet = w.quiet; held = w.held.items } in
+    let s : ProcessListsView = record { own = w.own.items; event_queue = w.event_queue; ready_queue = w.ready_queue; checked_out = w.checked_out.items } in
     let serves = subst (Serves c.args.table.now) (sym c.self.view_is) c.requires.serves in
     in_quiet c.args.table.now s c.self.invariant serves
 
 pub invariant_of-self : goal.invariant_of-self
 invariant_of-self g c =
     let w = c.self.inside in
-    let s : ProcessListsView = record { own = w.own.items; awake = w.awake; quiet = w.quiet; held = w.held.items } in
-    let t : ProcessListsView = record { own = c.count_steps.new.own.items; awake = c.wake_as.new.awake; quiet = c.wake_as.new.quiet; held = w.held.items } in
-    still_even s t c.self.invariant (as_many_counts c.args.number c.args.steps w.own.items c.count_steps.new.own.items c.count_steps.ensures) c.wake_as.ensures.awake.as_many c.wake_as.ensures.quiet.as_many refl
+    let s : ProcessListsView = record { own = w.own.items; event_queue = w.event_queue; ready_queue = w.ready_queue; checked_out = w.checked_out.items } in
+    let t : ProcessListsView = record { own = c.count_steps.new.own.items; event_queue = c.enqueue_as.new.event_queue; ready_queue = c.enqueue_as.new.ready_queue; checked_out = w.checked_out.items } in
+    still_even s t c.self.invariant (as_many_counts c.args.number c.args.steps w.own.items c.count_steps.new.own.items c.count_steps.ensures) c.enqueue_as.ensures.event_queue.as_many c.enqueue_as.ensures.ready_queue.as_many refl
 
 pub returns-clause-counted : goal.returns-clause-counted
 returns-clause-counted g c = subst (λ (z : ProcessListsView). HasCounted c.args.number c.args.steps z.own c.count_steps.new.own.items) c.self.view_is c.count_steps.ensures
@@ -44,12 +44,12 @@ returns-clause-requeues g c =
     let o = g.L.Local.ops in
     let v = c.args.table.now in
     let w = c.self.inside in
-    let s : ProcessListsView = record { own = w.own.items; awake = w.awake; quiet = w.quiet; held = w.held.items } in
+    let s : ProcessListsView = record { own = w.own.items; event_queue = w.event_queue; ready_queue = w.ready_queue; checked_out = w.checked_out.items } in
     let serves = subst (Serves c.args.table.now) (sym c.self.view_is) c.requires.serves in
-    let t : ProcessListsView = record { own = c.count_steps.new.own.items; awake = c.wake_as.new.awake; quiet = c.wake_as.new.quiet; held = w.held.items } in
-    subst (λ z. Requeues o v c.args.arrival.forks c.args.number z t) c.self.view_is (record {
-      awake = c.wake_as.ensures.awake;
-      quiet = c.wake_as.ensures.quiet;
-      held = refl;
-      within = subst (λ z. c.args.number < z) (sym c.wake_as.ensures.awake.as_many) (in_awake v s c.self.invariant serves c.args.number c.requires.used);
+    let t : ProcessListsView = record { own = c.count_steps.new.own.items; event_queue = c.enqueue_as.new.event_queue; ready_queue = c.enqueue_as.new.ready_queue; checked_out = w.checked_out.items } in
+    subst (λ z. Requeues o v c.args.to_requeue.forks c.args.number z t) c.self.view_is (record {
+      event_queue = c.enqueue_as.ensures.event_queue;
+      ready_queue = c.enqueue_as.ensures.ready_queue;
+      checked_out = refl;
+      within = subst (λ z. c.args.number < z) (sym c.enqueue_as.ensures.event_queue.as_many) (in_event_queue v s c.self.invariant serves c.args.number c.requires.used);
     })

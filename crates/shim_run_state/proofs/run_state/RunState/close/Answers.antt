@@ -1,11 +1,11 @@
 use Rattle.std.proofs.Common.{◌≡◌, ◌<◌, ◌+◌, ◌++◌, map, refl, sym, ap, subst, ◌∙◌, rules}
 use Rattle.shim_semantics.specs.Trees.{Close, steps, with_logs}
 use Rattle.shim_run_log.specs.Logged.{logged}
-use Rattle.shim_process_table.specs.Closing.{CanClose, ClosesHere, told_by}
-use Rattle.shim_process_table.specs.Reading.{IsInUse, IsForAll}
+use Rattle.shim_process_table.specs.Closing.{CanClose, ClosesAt, close_effects}
+use Rattle.shim_process_table.specs.Lookups.{IsInUse, IsForAll}
 use Rattle.shim_run_state.specs.Fields.{view_of, count_in}
 use Rattle.shim_run_state.specs.RunStates.{tree_in, path_at, counts_from}
-use Rattle.shim_run_state.specs.Holding.{HappensIn}
+use Rattle.shim_run_state.specs.CheckingOut.{HappensIn}
 use Rattle.shim_run_state.specs.PastCounts.{only_block}
 use Rattle.shim_run_state.proofs.PastCounts.{mapped}
 use Rattle.shim_run_state.proofs.Closes.{OneClose, children_used, closed_room, closes_go}
@@ -31,7 +31,7 @@ requeue-requires-clause-serves g c κs within =
     let o = g.L.Local.ops in
     let w = c.self.inside in
     let n = c.args.number in
-    closed_room o c.close_here-outcome.result.1 n c.close_here-outcome.result.0 w.table c.close_here-outcome.new.self c.close_here-outcome.ensures w.process_lists c.self.invariant.0.serves
+    closed_room o c.close-outcome.result.1 n c.close-outcome.result.0 w.table c.close-outcome.new.self c.close-outcome.ensures.closes w.process_lists c.self.invariant.0.serves
 
 pub invariant_of-self-2 : goal.invariant_of-self-2
 invariant_of-self-2 g c =
@@ -39,16 +39,16 @@ invariant_of-self-2 g c =
     let w = c.self.inside in
     let n = c.args.number in
     let law = (g.met.L.Local g.world.𝓛 g.world.𝓜 g.world.𝓡 ((λ s x. x), (λ x. x), (λ x. x), λ x. x)).laws in
-    let now = c.close_here-outcome.new.self in
-    let r = c.close_here-outcome.result.0 in
-    let m = c.close_here-outcome.result.1 in
-    let h : ClosesHere o m n r w.table now = c.close_here-outcome.ensures in
+    let now = c.close-outcome.new.self in
+    let r = c.close-outcome.result.0 in
+    let m = c.close-outcome.result.1 in
+    let h : ClosesAt o m n r w.table now = c.close-outcome.ensures.closes in
     let v = view_of w.begun.value w.table w.output.items w.histories (logged w.logs.items) w.process_lists w.past.items w.events in
-    let behind = view_of w.begun.value now w.output.items w.histories (logged c.tell_close.new.logs.items) c.requeue.new.self c.append.new.self.items (w.events + 1) in
+    let behind = view_of w.begun.value now w.output.items w.histories (logged c.log_close.new.logs.items) c.requeue.new.self c.append.new.self.items (w.events + 1) in
     let few = subst (λ z. steps (tree_in o z) < 4000000) (sym c.self.view_is) c.requires.few in
     let copied : c.in_ok-path.path ≡ c.path.result.now = search rules in
     let path : c.in_ok-path.path ≡ o.path h.process = copied ∙ c.path.ensures h.process h.forked.state_is in
-    let logs : logged c.tell_close.new.logs.items ≡ with_logs (logged w.logs.items) (o.path h.process) (told_by r).logs = c.tell_close.ensures ∙ (λ j. with_logs (logged (c.reserve.ensures.items j)) (path j) (told_by r).logs) in
+    let logs : logged c.log_close.new.logs.items ≡ with_logs (logged w.logs.items) (o.path h.process) (close_effects r).logs = c.log_close.ensures ∙ (λ j. with_logs (logged (c.reserve.ensures.items j)) (path j) (close_effects r).logs) in
     let gathered = map count_in c.in_ok-gathered.gathered.items in
     let joined : c.append.new.self.items ≡ w.past.items ++ c.in_ok-gathered.gathered.items = search rules in
     let past : map count_in c.append.new.self.items ≡ map count_in w.past.items ++ gathered = ap (map count_in) joined ∙ mapped count_in w.past.items c.in_ok-gathered.gathered.items in
@@ -64,16 +64,16 @@ returns-clause-ok g c =
     let w = c.self.inside in
     let n = c.args.number in
     let law = (g.met.L.Local g.world.𝓛 g.world.𝓜 g.world.𝓡 ((λ s x. x), (λ x. x), (λ x. x), λ x. x)).laws in
-    let now = c.close_here-outcome.new.self in
-    let r = c.close_here-outcome.result.0 in
-    let m = c.close_here-outcome.result.1 in
-    let h : ClosesHere o m n r w.table now = c.close_here-outcome.ensures in
+    let now = c.close-outcome.new.self in
+    let r = c.close-outcome.result.0 in
+    let m = c.close-outcome.result.1 in
+    let h : ClosesAt o m n r w.table now = c.close-outcome.ensures.closes in
     let v = view_of w.begun.value w.table w.output.items w.histories (logged w.logs.items) w.process_lists w.past.items w.events in
-    let behind = view_of w.begun.value now w.output.items w.histories (logged c.tell_close.new.logs.items) c.requeue.new.self c.append.new.self.items (w.events + 1) in
+    let behind = view_of w.begun.value now w.output.items w.histories (logged c.log_close.new.logs.items) c.requeue.new.self c.append.new.self.items (w.events + 1) in
     let few = subst (λ z. steps (tree_in o z) < 4000000) (sym c.self.view_is) c.requires.few in
     let copied : c.in_ok-path.path ≡ c.path.result.now = search rules in
     let path : c.in_ok-path.path ≡ o.path h.process = copied ∙ c.path.ensures h.process h.forked.state_is in
-    let logs : logged c.tell_close.new.logs.items ≡ with_logs (logged w.logs.items) (o.path h.process) (told_by r).logs = c.tell_close.ensures ∙ (λ j. with_logs (logged (c.reserve.ensures.items j)) (path j) (told_by r).logs) in
+    let logs : logged c.log_close.new.logs.items ≡ with_logs (logged w.logs.items) (o.path h.process) (close_effects r).logs = c.log_close.ensures ∙ (λ j. with_logs (logged (c.reserve.ensures.items j)) (path j) (close_effects r).logs) in
     let gathered = map count_in c.in_ok-gathered.gathered.items in
     let joined : c.append.new.self.items ≡ w.past.items ++ c.in_ok-gathered.gathered.items = search rules in
     let past : map count_in c.append.new.self.items ≡ map count_in w.past.items ++ gathered = ap (map count_in) joined ∙ mapped count_in w.past.items c.in_ok-gathered.gathered.items in

@@ -19,7 +19,7 @@ outcome_of-outcome-requires-after_bounds g t c κs =
     let o = g.L.Local.ops in
     let w = t.self.inside in
     let v = view_of w.begun.value w.table w.output.items w.histories (logged w.logs.items) w.process_lists w.past.items w.events in
-    root_in_use o w.table (tree_in o v).root t.self.invariant.0.shows
+    root_in_use o w.table (tree_in o v).root t.self.invariant.0.represents
 
 pub own_steps-requires-clause-few : goal.own_steps-requires-clause-few
 own_steps-requires-clause-few g c κs within p =
@@ -36,7 +36,7 @@ returns-clause-ended g c =
     let v = view_of w.begun.value w.table w.output.items w.histories (logged w.logs.items) w.process_lists w.past.items w.events in
     let kept = c.self.invariant.0 in
     let root = (tree_in o v).root in
-    let is_root = root_is o w.table root kept.shows in
+    let is_root = root_is o w.table root kept.represents in
     let rests = subst (λ z. IsTrue c.args.quiescent ↔ IsQuiescent o (tree_in o z)) (sym c.self.view_is) c.requires in
     read_off o (tree_in o v) _ c.args.quiescent (told_empty o v c.args.quiescent kept rests)
     (c.in_ok-from_slice.ensures ∙ c.as_slice.ensures.value)
@@ -52,5 +52,5 @@ returns-clause-ended g c =
 pub returns-clause-spent : goal.returns-clause-spent
 returns-clause-spent g c =
     let o = g.L.Local.ops in
-    let below = subst (λ z. SoundBelow o (tree_in o z).root) c.self.view_is c.self.invariant.0.shows.shows.sound.below in
+    let below = subst (λ z. SoundBelow o (tree_in o z).root) c.self.view_is c.self.invariant.0.represents.represents.sound.below in
     ended_spent o (tree_in o c.args.self.now) below _ (returns-clause-ended g c)

@@ -5,7 +5,7 @@ use Rattle.shim_semantics.specs.Trees.{Own, steps}
 use Rattle.shim_laws_table.specs.Seen.{lives}
 use Rattle.shim_laws_table_events.specs.keeping.Tables.{HasProcessState}
 use Rattle.shim_process_table.specs.Forking.{forked_count}
-use Rattle.shim_run_state.specs.Holding.{HappensIn}
+use Rattle.shim_run_state.specs.CheckingOut.{HappensIn}
 use Rattle.shim_run_state.specs.Room.{HasRoomFor}
 use Rattle.shim_run_state.specs.Settling.{StaysAs}
 use Rattle.shim_run_state.proofs.Rooms.{same_tree, stays_so, happens_before, stays_before}

@@ -2,7 +2,7 @@ use Rattle.std.proofs.Common.{subst}
 use Rattle.shim_run_log.specs.Logged.{logged}
 use Rattle.shim_run_state.specs.Fields.{view_of}
 use Rattle.shim_run_state.specs.Room.{HasMoreRoom}
-use Rattle.shim_run_state.proofs.Held.{with_process_lists}
+use Rattle.shim_run_state.proofs.CheckedOut.{with_process_lists}
 use Rattle.shim_run_state.proofs.Rooms.{more_room, room_keeps, room_steps}
 use Rattle.shim_run_state.proofs.run_state.RunState.make_room.Goals as goal
 

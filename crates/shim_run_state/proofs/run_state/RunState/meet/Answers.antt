@@ -1,7 +1,7 @@
 use Rattle.std.proofs.Common.{◌≡◌, sym, ap, subst, ◌∙◌, rules}
 use Rattle.shim_semantics.specs.Trees.{Meet}
 use Rattle.shim_laws_table_events.specs.meetings.Meetings.{IsEnabled, Declares}
-use Rattle.shim_process_table.specs.Reading.{HasPair}
+use Rattle.shim_process_table.specs.Lookups.{HasPair}
 use Rattle.shim_process_table.proofs.DueEvents.{meet_declares, due_meet, due_enabled}
 use Rattle.shim_run_state.proofs.run_state.RunState.meet.Goals as goal
 

@@ -7,7 +7,7 @@ use Rattle.shim_laws_table_events.specs.keeping.Tables.{HasProcessState, stands}
 use Rattle.shim_process_table.specs.Forking.{ForksHere, forked_count}
 use Rattle.shim_run_state.specs.Fields.{view_of}
 use Rattle.shim_run_state.specs.RunStates.{tree_in}
-use Rattle.shim_run_state.specs.Holding.{HappensIn}
+use Rattle.shim_run_state.specs.CheckingOut.{HappensIn}
 use Rattle.shim_run_state.specs.Room.{HasRoomFor, HasNewChildren, block_of}
 use Rattle.shim_run_state.proofs.Forks.{OneOwnStep, new_fits, new_few, may_be_counted, still_used, has_room, fork_goes}
 use Rattle.shim_run_state.proofs.run_state.RunState.put_fork.Goals as goal
@@ -45,8 +45,8 @@ add_children-requires-clause-few g c =
     let block = c.children_of-first.ensures in
     subst (λ z. z.0 + z.1 ≤ 4294967295) (sym block) (new_few o law v kept now m n r h)
 
-pub listing-requires-after_bounds : goal.listing-requires-after_bounds
-listing-requires-after_bounds g c κs within =
+pub queue-requires-after_bounds : goal.queue-requires-after_bounds
+queue-requires-after_bounds g c κs within =
     let o = g.L.Local.ops in
     let law = (g.met.L.Local g.world.𝓛 g.world.𝓜 g.world.𝓡 ((λ s x. x), (λ x. x), (λ x. x), λ x. x)).laws in
     let w = c.self.inside in

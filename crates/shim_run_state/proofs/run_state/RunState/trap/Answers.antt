@@ -13,12 +13,12 @@ use Rattle.shim_run_log.proofs.Logged.{with_one_more}
 use Rattle.shim_process_table.specs.Stepping.{LivesAt}
 use Rattle.shim_run_state.specs.Fields.{view_of}
 use Rattle.shim_run_state.specs.RunStates.{tree_in}
-use Rattle.shim_run_state.specs.Holding.{HappensIn}
-use Rattle.shim_run_state.proofs.Acted.{HasTold, one_may_be_counted, own_done, still_serves}
+use Rattle.shim_run_state.specs.CheckingOut.{HappensIn}
+use Rattle.shim_run_state.proofs.Acted.{AddsEffects, one_may_be_counted, own_done, still_serves}
 use Rattle.shim_run_state.proofs.run_state.RunState.trap.Goals as goal
 
-pub trap_here-requires-after_bounds : goal.trap_here-requires-after_bounds
-trap_here-requires-after_bounds g c κs within = (c.args.kind, c.args.line, subst (λ z. LivesAt g.L.Local.ops z.table c.args.number (AtTrap c.args.kind c.args.line)) (sym c.self.view_is) c.requires.stands)
+pub trap-requires-after_bounds : goal.trap-requires-after_bounds
+trap-requires-after_bounds g c κs within = (c.args.kind, c.args.line, subst (λ z. LivesAt g.L.Local.ops z.table c.args.number (AtTrap c.args.kind c.args.line)) (sym c.self.view_is) c.requires.stands)
 
 pub acted-requires-clause-few : goal.acted-requires-clause-few
 acted-requires-clause-few g c κs within count e =
@@ -29,15 +29,15 @@ acted-requires-clause-few g c κs within count e =
     let n = c.args.number in
     let few = subst (λ z. steps (tree_in o z) < 4000000) (sym c.self.view_is) c.requires.few in
     let stands = subst (λ z. LivesAt o z.table n (AtTrap c.args.kind c.args.line)) (sym c.self.view_is) c.requires.stands in
-    let a = c.trap_here.ensures c.args.kind c.args.line stands in
+    let a = c.trap.ensures c.args.kind c.args.line stands in
     one_may_be_counted o law v n a.first a.process lives a.has few count e
 
-pub listing-requires-after_bounds : goal.listing-requires-after_bounds
-listing-requires-after_bounds g c κs within =
+pub queue-requires-after_bounds : goal.queue-requires-after_bounds
+queue-requires-after_bounds g c κs within =
     let o = g.L.Local.ops in
     let n = c.args.number in
     let stands = subst (λ z. LivesAt o z.table n (AtTrap c.args.kind c.args.line)) (sym c.self.view_is) c.requires.stands in
-    let a = c.trap_here.ensures c.args.kind c.args.line stands in
+    let a = c.trap.ensures c.args.kind c.args.line stands in
     (a.becomes.first, state a.left, dies (death_with 0 (pos 0)), a.becomes.mine)
 
 pub acted-requires-clause-used : goal.acted-requires-clause-used
@@ -45,7 +45,7 @@ acted-requires-clause-used g c κs within =
     let o = g.L.Local.ops in
     let n = c.args.number in
     let stands = subst (λ z. LivesAt o z.table n (AtTrap c.args.kind c.args.line)) (sym c.self.view_is) c.requires.stands in
-    let a = c.trap_here.ensures c.args.kind c.args.line stands in
+    let a = c.trap.ensures c.args.kind c.args.line stands in
     (a.becomes.first, state a.left, dies (death_with 0 (pos 0)), a.becomes.mine)
 
 pub acted-requires-clause-serves : goal.acted-requires-clause-serves
@@ -56,8 +56,8 @@ acted-requires-clause-serves g c κs within =
     let v = view_of w.begun.value w.table w.output.items w.histories (logged w.logs.items) w.process_lists w.past.items w.events in
     let n = c.args.number in
     let stands = subst (λ z. LivesAt o z.table n (AtTrap c.args.kind c.args.line)) (sym c.self.view_is) c.requires.stands in
-    let a = c.trap_here.ensures c.args.kind c.args.line stands in
-    let x = view_of w.begun.value c.trap_here.new.self w.output.items w.histories (logged w.logs.items) w.process_lists w.past.items w.events in
+    let a = c.trap.ensures c.args.kind c.args.line stands in
+    let x = view_of w.begun.value c.trap.new.self w.output.items w.histories (logged w.logs.items) w.process_lists w.past.items w.events in
     still_serves o law v x c.self.invariant.0 (4294967295 + 1) n (AtTrap c.args.kind c.args.line) (dies (death_with 0 (pos 0))) (trapping c.args.kind c.args.line) a w.process_lists c.self.invariant.0.serves
 
 pub invariant_of-self-2 : goal.invariant_of-self-2
@@ -69,11 +69,11 @@ invariant_of-self-2 g c =
     let n = c.args.number in
     let few = subst (λ z. steps (tree_in o z) < 4000000) (sym c.self.view_is) c.requires.few in
     let stands = subst (λ z. LivesAt o z.table n (AtTrap c.args.kind c.args.line)) (sym c.self.view_is) c.requires.stands in
-    let a = c.trap_here.ensures c.args.kind c.args.line stands in
-    let u = view_of w.begun.value c.trap_here.new.self w.output.items w.histories (logged c.push_reserved.new.self.items) c.acted.new.self w.past.items w.events in
+    let a = c.trap.ensures c.args.kind c.args.line stands in
+    let u = view_of w.begun.value c.trap.new.self w.output.items w.histories (logged c.push_reserved.new.self.items) c.acted.new.self w.past.items w.events in
     let at_path = c.in_ok-path.ensures ∙ c.path.ensures a.process a.has.state_is in
     let entry : Log = record { path = c.in_ok-path.path; what = LoggedTrap c.args.kind c.args.line } in
-    let told : HasTold o law v u c.self.invariant.0 (4294967295 + 1) n (AtTrap c.args.kind c.args.line) (dies (death_with 0 (pos 0))) (trapping c.args.kind c.args.line) a = record {
+    let told : AddsEffects o law v u c.self.invariant.0 (4294967295 + 1) n (AtTrap c.args.kind c.args.line) (dies (death_with 0 (pos 0))) (trapping c.args.kind c.args.line) a = record {
       output = sym (append-nil w.output.items);
       histories = refl;
       logs = ap logged c.push_reserved.ensures.items ∙ (with_one_more finite.empty c.reserve.new.self.items entry ∙ (λ j. with_logs (logged (c.in_ok-reserve.ensures.items j)) (at_path j) (LoggedTrap c.args.kind c.args.line ∷ [])));
@@ -91,11 +91,11 @@ returns-clause-ok g c =
     let n = c.args.number in
     let few = subst (λ z. steps (tree_in o z) < 4000000) (sym c.self.view_is) c.requires.few in
     let stands = subst (λ z. LivesAt o z.table n (AtTrap c.args.kind c.args.line)) (sym c.self.view_is) c.requires.stands in
-    let a = c.trap_here.ensures c.args.kind c.args.line stands in
-    let u = view_of w.begun.value c.trap_here.new.self w.output.items w.histories (logged c.push_reserved.new.self.items) c.acted.new.self w.past.items w.events in
+    let a = c.trap.ensures c.args.kind c.args.line stands in
+    let u = view_of w.begun.value c.trap.new.self w.output.items w.histories (logged c.push_reserved.new.self.items) c.acted.new.self w.past.items w.events in
     let at_path = c.in_ok-path.ensures ∙ c.path.ensures a.process a.has.state_is in
     let entry : Log = record { path = c.in_ok-path.path; what = LoggedTrap c.args.kind c.args.line } in
-    let told : HasTold o law v u c.self.invariant.0 (4294967295 + 1) n (AtTrap c.args.kind c.args.line) (dies (death_with 0 (pos 0))) (trapping c.args.kind c.args.line) a = record {
+    let told : AddsEffects o law v u c.self.invariant.0 (4294967295 + 1) n (AtTrap c.args.kind c.args.line) (dies (death_with 0 (pos 0))) (trapping c.args.kind c.args.line) a = record {
       output = sym (append-nil w.output.items);
       histories = refl;
       logs = ap logged c.push_reserved.ensures.items ∙ (with_one_more finite.empty c.reserve.new.self.items entry ∙ (λ j. with_logs (logged (c.in_ok-reserve.ensures.items j)) (at_path j) (LoggedTrap c.args.kind c.args.line ∷ [])));

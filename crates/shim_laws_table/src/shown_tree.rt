@@ -1,9 +1,0 @@
-// Laws of the tree that records show.
-ghost use Rattle.shim_laws_table.specs.ShownTree.{TreeIsComputed};
-
-use shim_local::Local;
-
-/// Where records show a tree, it is the one that is computed from them, fork by fork from the root's record.
-pub fn tree_is_computed<L: Local>()
-    ensures { TreeIsComputed L.ops }
-{}

@@ -1,5 +1,0 @@
-use Rattle.shim_laws_table_events.proofs.closes.Cuts.{cut}
-use Rattle.shim_laws_table_events.proofs.laws.cuts_keep.Goals as goal
-
-pub returns : goal.returns
-returns g c = cut g.L.Local.ops

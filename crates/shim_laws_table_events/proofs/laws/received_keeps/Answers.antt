@@ -1,5 +1,0 @@
-use Rattle.shim_laws_table_events.proofs.meetings.Receives.{received_keeps}
-use Rattle.shim_laws_table_events.proofs.laws.received_keeps.Goals as goal
-
-pub returns : goal.returns
-returns g c = received_keeps g.L.Local.ops (g.met.L.Local g.world.𝓛 g.world.𝓜 g.world.𝓡 ((λ s x. x), (λ x. x), (λ x. x), λ x. x)).laws
