@@ -95,6 +95,8 @@ pub enum Trap {
 
 /// What the operator gives for two numbers. Both are already computed: of `&&` and `||` this is the
 /// truth value of the two, and whoever computes the right side asks first whether it is wanted.
+// Inline: in the loops of the machine a call costs as much as all else of the instruction.
+#[inline(always)]
 pub fn apply(op: BinOp, a: i64, b: i64) -> Result<i64, Trap>
     ensures { result ≡ applied op a b }
 {
@@ -131,6 +133,7 @@ pub fn apply1(op: UnOp, a: i64) -> Result<i64, Trap>
     }
 }
 
+#[inline(never)]
 fn quotient(a: i64, b: i64) -> Result<i64, Trap>
     ensures { result ≡ applied BinOp.Div a b }
 {
@@ -140,6 +143,7 @@ fn quotient(a: i64, b: i64) -> Result<i64, Trap>
     a.checked_div(b).ok_or(Trap::Overflow)
 }
 
+#[inline(never)]
 fn remainder(a: i64, b: i64) -> Result<i64, Trap>
     ensures { result ≡ applied BinOp.Rem a b }
 {
@@ -150,6 +154,7 @@ fn remainder(a: i64, b: i64) -> Result<i64, Trap>
 }
 
 // The count of a shift.
+#[inline(always)]
 fn count(b: i64) -> Result<u32, Trap>
     ensures { result ≡ if is_count b then Ok (unsigned_abs b) else Err Trap.Shift }
 {
@@ -160,6 +165,7 @@ fn count(b: i64) -> Result<u32, Trap>
     }
 }
 
+#[inline(always)]
 fn shift_left(a: i64, b: i64) -> Result<i64, Trap>
     ensures { result ≡ applied BinOp.Shl a b }
 {
@@ -167,6 +173,7 @@ fn shift_left(a: i64, b: i64) -> Result<i64, Trap>
 }
 
 // The number times 2 to the count. In 128 bits no such product overflows.
+#[inline(always)]
 #[tactic(auto, using(crate::proofs::Shifts::int_shl_is))]
 fn doubled(a: i64, count: u32) -> Result<i64, Trap>
     requires { count < 64 }
@@ -175,6 +182,7 @@ fn doubled(a: i64, count: u32) -> Result<i64, Trap>
     i64::try_from(i128::from(a) << count).map_err(|_| Trap::Overflow)
 }
 
+#[inline(always)]
 fn shift_right(a: i64, b: i64) -> Result<i64, Trap>
     ensures { result ≡ applied BinOp.Shr a b }
 {

@@ -53,7 +53,7 @@ abbrev pub then_slot : List ℕ → Option ℕ → List ℕ
 then_slot text None = text
 then_slot text (Some y) = then_number text y
 
--- The word of an instruction and its operands, with a space before each. The exceptions of a call are not told.
+-- The word of an instruction and its operands, with a space before each. The exceptions of a call are not printed.
 abbrev pub instr_text : Instr → List ℕ
 instr_text (Mark k line) = codes "mark " ++ then_number (kind_word k) line
 instr_text (Num n) = codes "num " ++ signed_decimal n

@@ -10,7 +10,7 @@ use shim_units::Accepted;
 use std::marker::Model;
 
 /// The code of an accepted program, which contracts see as the program: of each unit the list that the
-/// machine runs. The list that is shown is made when it is told.
+/// machine runs. The list to print is made when it is printed.
 #[derive(Drop)]
 pub struct Code {
     program: Accepted,

@@ -1,7 +1,7 @@
 -- What a store, a loan and a return change of one location.
 use Rattle.std.specs.Prelude.{ℤ}
 use Rattle.shim_base.specs.Value.{stored}
-use Rattle.shim_process.specs.Locations.{Location, kept, regained}
+use Rattle.shim_process.specs.Locations.{Location, kept, restored}
 
 -- the value is stored by its type
 abbrev pub with_stored : ℤ → Location → Location
@@ -13,4 +13,4 @@ kept_location l = record l { ownership = kept l.ownership }
 
 -- the value and the ownership of another one come back
 abbrev pub given_back : Location → Location → Location
-given_back back l = record l { value = back.value; ownership = regained back.ownership l.ownership }
+given_back back l = record l { value = back.value; ownership = restored back.ownership l.ownership }

@@ -5,7 +5,7 @@ ghost use Rattle.shim_process.specs.Locations.{Own, Copy, is_own};
 ghost use Rattle.shim_locations.specs.Changes.{kept_location, given_back, with_stored};
 ghost use Rattle.shim_locations.specs.Ownerships.{ownership_of};
 
-use crate::ownership::{Ownership, is_own, kept, regained};
+use crate::ownership::{Ownership, is_own, kept, restored};
 use shim_base::{Chan, NoMemory, Ty, store};
 use std::marker::Model;
 
@@ -73,15 +73,24 @@ impl Location {
         is_own(self.ownership)
     }
 
+    // By any type. It stays a call: within `set` its jump by the type would take the place of the test there.
+    #[inline(never)]
+    fn set_by_type(&mut self, value: i64)
+        ensures { self.new ≡ with_stored value self.old }
+    {
+        self.value = store(self.ty, value);
+    }
+
     /// The value is stored by its type.
+    #[inline(always)]
     pub fn set(&mut self, value: i64)
         ensures { self.new ≡ with_stored value self.old }
     {
-        self.value = match self.ty {
+        match self.ty {
             // Most variables are of this type: a test of it alone is cheaper than a jump by all types.
-            Ty::Int32 => store(Ty::Int32, value),
-            ty => store(ty, value),
-        };
+            Ty::Int32 => self.value = store(Ty::Int32, value),
+            _ => self.set_by_type(value),
+        }
     }
 
     /// A branch takes it by reference: if it is its channel's own variable, it is lent.
@@ -92,11 +101,11 @@ impl Location {
     }
 
     /// The value and the ownership of another one come back.
-    pub fn take_back(&mut self, other: &Location)
+    pub fn restore_from(&mut self, other: &Location)
         ensures { self.new ≡ given_back other.now self.old }
     {
         self.value = other.value;
-        self.ownership = regained(other.ownership, self.ownership);
+        self.ownership = restored(other.ownership, self.ownership);
     }
 
     /// A variable of this type on the same channel, which isn't the channel's own.

@@ -144,7 +144,7 @@ impl Locations {
 
     /// The value and the ownership come back from a location of another process.
     #[tactic(auto, unfolding(shim_process::specs::Locations::at_number))]
-    pub fn regain(&mut self, number: usize, back: Option<&Location>)
+    pub fn restore(&mut self, number: usize, back: Option<&Location>)
         ensures { self.new ≡ slice_set self.old number (with_back (option_copied back.entry) (at_number self.old number)) }
     {
         if number < self.items.len() {
@@ -159,7 +159,7 @@ impl Locations {
         match arg {
             Arg::Ref(slot) => {
                 let number = number_of(slots, *slot);
-                self.regain(number, location_at(back, place));
+                self.restore(number, location_at(back, place));
             }
             _ => {}
         }
@@ -200,7 +200,7 @@ fn set_back(location: &mut Option<Location>, back: Option<&Location>)
     ensures { location.new ≡ with_back (option_copied back.entry) location.old }
 {
     match (location, back) {
-        (Some(location), Some(back)) => location.take_back(back),
+        (Some(location), Some(back)) => location.restore_from(back),
         _ => {}
     }
 }

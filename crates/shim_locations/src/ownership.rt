@@ -1,6 +1,6 @@
 // What a location is to its channel.
 ghost use Rattle.std.specs.Prelude.{◌≡◌};
-ghost use Rattle.shim_process.specs.Locations.{is_own, kept, moved, regained};
+ghost use Rattle.shim_process.specs.Locations.{is_own, kept, moved, restored};
 ghost use Rattle.shim_locations.specs.Ownerships.{ownership_of};
 
 /// What a location is to its channel.
@@ -48,8 +48,8 @@ pub fn moved(ownership: Ownership) -> Ownership
 
 /// The ownership afterwards of what a branch took by reference, from that of the child's location and that which
 /// was kept: what was lent is the channel's own variable again, where the child's location is that still.
-pub fn regained(back: Ownership, kept: Ownership) -> Ownership
-    ensures { ownership_of result ≡ regained (ownership_of back) (ownership_of kept) }
+pub fn restored(back: Ownership, kept: Ownership) -> Ownership
+    ensures { ownership_of result ≡ restored (ownership_of back) (ownership_of kept) }
 {
     match back {
         Ownership::Own => match kept {

@@ -21,7 +21,7 @@ use Rattle.shim_code.specs.declared.machine_instr.MachineInstr.TheVariants.{Num,
 use Rattle.shim_code.specs.Layout.{all, arms, sequence, loop, one}
 use Rattle.shim_code.specs.MachineCode.{MachineCode, begin_mark, begun, callee_of, first_name, first_sort, machine_arg, machine_args, machine_branch, machine_branches, machine_call, machine_expr, machine_expr_or, machine_expr_step, machine_fork, machine_looped, machine_marked, machine_stmt, machine_stmts, machine_unit, numbered, params_in, statements_in, try_instr, with_number}
 use Rattle.shim_machine.specs.Machine.{CodedUnit, fetch}
-use Rattle.shim_machine.specs.Stands.{HasAt, kind_code}
+use Rattle.shim_machine.specs.Correspondence.{HasAt, kind_code}
 use Rattle.shim_machine.specs.StackHeights.{HasHeight, height_after, height_at, height_of}
 use Rattle.shim_machine.proofs.Enters.{code_roll}
 use Rattle.shim_machine.proofs.Exprs.{has_back, has_front}

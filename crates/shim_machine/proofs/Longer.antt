@@ -8,7 +8,7 @@ use Rattle.shim_process.specs.Values.{Value}
 use Rattle.shim_code.specs.declared.machine_instr.MachineInstr.{MachineInstr}
 use Rattle.shim_code.specs.declared.machine_instr.MachineInstr.TheVariants.{Mark, Num, Var, Un, Bin, Bool, Jump, JumpZ, Declare, Set, Get, Put, Next, Ref, Pass, Fresh, Call, Branch, Fork, Try, TryInto, Untry, Throw, End}
 use Rattle.shim_machine.specs.Machine.{Codes, Go, Machine, StretchEnd, ReturnPlace, execute, fetch, leaves_unit, on_result, on_top, on_two, run_code, unit_of}
-use Rattle.shim_machine.specs.Comes.{HasHalted}
+use Rattle.shim_machine.specs.Simulation.{HasHalted}
 
 abbrev Same : StretchEnd → StretchEnd → Type 0
 Same o o' = HasHalted o → o' ≡ o

@@ -16,7 +16,7 @@ use Rattle.shim_code.specs.declared.machine_instr.MachineInstr.TheVariants.{Mark
 use Rattle.shim_code.specs.Layout.{arms, sequence, loop, one}
 use Rattle.shim_code.specs.MachineCode.{MachineCode, begin_mark, begun, callee_of, machine_args, machine_branch, machine_branches, machine_expr, machine_expr_or, machine_looped, machine_marked, machine_stmt, machine_stmts, machine_unit, numbered, params_in, try_instr, with_number}
 use Rattle.shim_machine.specs.Machine.{CodedUnit, fetch}
-use Rattle.shim_machine.specs.Stands.{kind_code}
+use Rattle.shim_machine.specs.Correspondence.{kind_code}
 use Rattle.shim_machine.proofs.Computing.{AllCompute, AllGather, Computes, Gathering, args_gather, expr_computes, option_computes}
 use Rattle.shim_machine.proofs.Enters.{code_roll}
 

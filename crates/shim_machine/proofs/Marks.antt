@@ -19,7 +19,7 @@ use Rattle.shim_code.specs.Layout.{sequence, one}
 use Rattle.shim_code.specs.MachineCode.{MachineCode, begin_mark, begun, callee_of, machine_args, machine_branch, machine_branches, machine_call, machine_expr, machine_expr_or, machine_fork, machine_looped, machine_stmt, machine_stmts, machine_unit, numbered, params_in, statements_in, try_instr, with_number}
 use Rattle.shim_code.proofs.StatementNumbers.{stmt_counts}
 use Rattle.shim_machine.specs.Machine.{CodedUnit, fetch}
-use Rattle.shim_machine.specs.Stands.{AtHalf, HasStatement, HasAt, HasHalves, Here, IsTold, Stands, at_do, at_half, first_kind, half_what, kind_code, point_code, point_what, stands_back, stands_do, stands_end, stands_jump, stands_leave}
+use Rattle.shim_machine.specs.Correspondence.{AtHalf, HasStatement, HasAt, HasHalves, IsPlaceOf, IsRestOf, IsCodeOf, at_do, at_half, first_kind, half_what, kind_code, point_code, point_what, code_back, code_do, code_end, code_jump, code_leave}
 use Rattle.shim_machine.proofs.Computing.{AllCompute, AllGather, Gathering, args_gather, expr_computes, option_computes}
 use Rattle.shim_machine.proofs.Enters.{code_roll, count_all, count_both, enters_list, point_roll}
 use Rattle.shim_machine.proofs.Exprs.{has_back, has_front}
@@ -33,7 +33,7 @@ record Found (P : List Item → Type 0) (u : CodedUnit) (pc : ℕ) (m : MarkOf) 
   pub stmt : UStmt
   pub rest : List Item
   pub told : P (Do m.number stmt ∷ rest)
-  pub here : Here u pc (Do m.number stmt ∷ rest) m.halfway
+  pub here : IsPlaceOf u pc (Do m.number stmt ∷ rest) m.halfway
 
 -- so at a mark; and the end has the number of all statements
 abbrev IsFoundAt : (List Item → Type 0) → CodedUnit → ℕ → MachineInstr → Type 0
@@ -139,13 +139,13 @@ module _ (P : List Item → Type 0) (stays : (c : Successor) (k : List Item) →
 
     -- with what follows it, a statement's code has what is left at each of its marks; what follows is told by its number, too
     abbrev MarksOf : UStmt → Type 0
-    MarksOf s = (pc n : ℕ) (k : List Item) → HasAt u n pc (machine_stmt u.units s pc) → Stands u (pc + length (machine_stmt u.units s pc)) k → P (items s n ++ k) → P k × AllFound u n pc (machine_stmt u.units s pc)
+    MarksOf s = (pc n : ℕ) (k : List Item) → HasAt u n pc (machine_stmt u.units s pc) → IsCodeOf u (pc + length (machine_stmt u.units s pc)) k → P (items s n ++ k) → P k × AllFound u n pc (machine_stmt u.units s pc)
 
     abbrev AllMarks : List UStmt → Type 0
     AllMarks [] = Unit {0}
     AllMarks (s ∷ ss) = MarksOf s × AllMarks ss
 
-    in_list : (ss : List UStmt) → AllMarks ss → (pc n : ℕ) (k : List Item) → HasAt u n pc (machine_stmts u.units ss pc) → Stands u (pc + length (machine_stmts u.units ss pc)) k → P (items_all ss n ++ k)
+    in_list : (ss : List UStmt) → AllMarks ss → (pc n : ℕ) (k : List Item) → HasAt u n pc (machine_stmts u.units ss pc) → IsCodeOf u (pc + length (machine_stmts u.units ss pc)) k → P (items_all ss n ++ k)
         → P k × AllFound u n pc (machine_stmts u.units ss pc)
     in_list [] h pc n k has st told = (told, tt)
     in_list (s ∷ ss) h pc n k has st told =
@@ -153,7 +153,7 @@ module _ (P : List Item → Type 0) (stays : (c : Successor) (k : List Item) →
         let cr = machine_stmts u.units ss (pc + length cs) in
         let e : pc + length (cs ++ cr) ≡ pc + length cs + length cr = omega (arith, length-append cs cr) in
         let has_rest = subst (λ m. HasAt u (n + m) (pc + length cs) cr) (stmt_counts u.units s pc) (has_back u n pc cs cr has) in
-        let behind_rest = subst (λ p. Stands u p k) e st in
+        let behind_rest = subst (λ p. IsCodeOf u p k) e st in
         let rest_stands = enters_list u ss (pc + length cs) (n + size_of s) k has_rest behind_rest in
         let one = h.0 pc n (items_all ss (n + size_of s) ++ k) (has_front u n pc cs cr has) rest_stands (subst (P) (append_assoc (items s n) (items_all ss (n + size_of s)) k) told) in
         let others = in_list ss h.1 (pc + length cs) (n + size_of s) k has_rest behind_rest one.0 in
@@ -168,7 +168,7 @@ module _ (P : List Item → Type 0) (stays : (c : Successor) (k : List Item) →
     -- a statement that begins with its mark
     marked : (l : ℕ) (x : UWhat-F UWhat UStmt) (kd : MarkKind) → kd ≡ first_kind x → (rest : ℕ → List MachineInstr) → ((pc : ℕ) → kind_code u.units x l pc ≡ point_what u.units x l pc) → ((pc : ℕ) → point_what u.units x l pc ≡ begin_mark kd l false ∷ rest pc)
         → ((n : ℕ) → items (line_of l (roll-UWhat x)) n ≡ Do n (line_of l (roll-UWhat x)) ∷ []) → ((n : ℕ) (k : List Item) → follow_what x On n (line_of l (roll-UWhat x)) k ≡ k)
-        → ((pc n stop : ℕ) (k : List Item) → (let s = line_of l (roll-UWhat x) in HasStatement u pc n s stop → HasAt u (n + 1) (pc + 1) (rest pc) → stop ≡ pc + 1 + length (rest pc) → Stands u stop k → P (Do n s ∷ k) → AllFound u (n + 1) (pc + 1) (rest pc)))
+        → ((pc n stop : ℕ) (k : List Item) → (let s = line_of l (roll-UWhat x) in HasStatement u pc n s stop → HasAt u (n + 1) (pc + 1) (rest pc) → stop ≡ pc + 1 + length (rest pc) → IsCodeOf u stop k → P (Do n s ∷ k) → AllFound u (n + 1) (pc + 1) (rest pc)))
         → MarksOf (line_of l (roll-UWhat x))
     marked l x kd kd_is rest same begun_by is on inner pc n k has st told =
         let s = line_of l (roll-UWhat x) in
@@ -222,7 +222,7 @@ module _ (P : List Item → Type 0) (stays : (c : Successor) (k : List Item) →
             let second = first + length ca + 1 in
             let cb = machine_stmts u.units b second in
             let rest = t ++ JumpZ second ∷ (ca ++ Jump (second + length cb) ∷ cb) in
-            HasStatement u pc n s stop → HasAt u (n + 1) (pc + 1) rest → stop ≡ pc + 1 + length rest → Stands u stop k → P (Do n s ∷ k) → AllFound u (n + 1) (pc + 1) rest)
+            HasStatement u pc n s stop → HasAt u (n + 1) (pc + 1) rest → stop ≡ pc + 1 + length rest → IsCodeOf u stop k → P (Do n s ∷ k) → AllFound u (n + 1) (pc + 1) rest)
         inner pc n stop k whole h ends rest told =
             let t = machine_expr e (pc + 1) in
             let pc1 = pc + 1 + length t in
@@ -239,9 +239,9 @@ module _ (P : List Item → Type 0) (stays : (c : Successor) (k : List Item) →
             let nb : n + 1 + statements_in ca + 0 ≡ n + 1 + size_all a = omega (arith, count_all u.units a first) in
             let hb = renumber u _ (n + 1 + size_all a) second cb nb h2.1 in
             let e1 : stop ≡ end = omega (arith, ends, length-append t more, length-append ca (Jump end ∷ cb)) in
-            let there = subst (λ p. Stands u p k) e1 rest in
+            let there = subst (λ p. IsCodeOf u p k) e1 rest in
             let lt : first + length ca < end = omega arith in
-            let fa = (in_list a ma first (n + 1) k (has_front u (n + 1) first ca (Jump end ∷ cb) ha) (stands_jump (first + length ca) end k h2.0 lt there) (told_after l n x k First told)).1 in
+            let fa = (in_list a ma first (n + 1) k (has_front u (n + 1) first ca (Jump end ∷ cb) ha) (code_jump (first + length ca) end k h2.0 lt there) (told_after l n x k First told)).1 in
             let fb = (in_list b mb second (n + 1 + size_all a) k hb there (told_after l n x k Second told)).1 in
             let f2 = found_both u (n + 1) first ca (Jump end ∷ cb) fa (tt, found_as u (n + 1 + size_all a) _ second cb nb fb) in
             found_both u (n + 1) (pc + 1) t more (found_computing u (n + 1) (pc + 1) t (expr_computes e (pc + 1))) (tt, found_as u (n + 1) _ first (ca ++ Jump end ∷ cb) na f2)
@@ -249,8 +249,8 @@ module _ (P : List Item → Type 0) (stays : (c : Successor) (k : List Item) →
     -- a loop from its mark on
     loop_marks : (l : ℕ) (x : UWhat-F UWhat UStmt) (test body : MachineCode) (inner : List Item → List Item) (pc n stop : ℕ) (k : List Item) → (let s = line_of l (roll-UWhat x) in
         AllCompute (test (pc + 1)) → statements_in (test (pc + 1)) ≡ 0 → follow_what x First n s k ≡ inner (Do n s ∷ k)
-        → ((at : ℕ) (k : List Item) → HasAt u (n + 1) at (body at) → Stands u (at + length (body at)) k → P (inner k) → AllFound u (n + 1) at (body at))
-        → HasStatement u pc n s stop → HasAt u n pc (machine_looped l test body pc) → Stands u stop k → P (Do n s ∷ k) → AllFound u n pc (machine_looped l test body pc))
+        → ((at : ℕ) (k : List Item) → HasAt u (n + 1) at (body at) → IsCodeOf u (at + length (body at)) k → P (inner k) → AllFound u (n + 1) at (body at))
+        → HasStatement u pc n s stop → HasAt u n pc (machine_looped l test body pc) → IsCodeOf u stop k → P (Do n s ∷ k) → AllFound u n pc (machine_looped l test body pc))
     loop_marks l x test body inner pc n stop k computes none first found_in whole has rest told =
         let s = line_of l (roll-UWhat x) in
         let t = test (pc + 1) in
@@ -263,7 +263,7 @@ module _ (P : List Item → Type 0) (stays : (c : Successor) (k : List Item) →
         let na : n + 1 + statements_in t + 0 ≡ n + 1 = omega (arith, none) in
         let ha = renumber u _ (n + 1) first_at (ca ++ Jump pc ∷ []) na h1.1 in
         let h2 = has_back u (n + 1) first_at ca (Jump pc ∷ []) ha in
-        let fa = found_in first_at (Do n s ∷ k) (has_front u (n + 1) first_at ca (Jump pc ∷ []) ha) (stands_back (first_at + length ca) pc n stop s k h2.0 whole rest) (subst (P) first (told_after l n x k First told)) in
+        let fa = found_in first_at (Do n s ∷ k) (has_front u (n + 1) first_at ca (Jump pc ∷ []) ha) (code_back (first_at + length ca) pc n stop s k h2.0 whole rest) (subst (P) first (told_after l n x k First told)) in
         let f2 = found_both u (n + 1) first_at ca (Jump pc ∷ []) fa (tt, tt) in
         let found : Found P u pc (record { kind = kind.Quiet; line = l; number = n; halfway = false }) = record { stmt = s; rest = k; told = told; here = at_do pc n stop s k whole rest } in
         (found, found_both u (n + 1) (pc + 1) t more (found_computing u (n + 1) (pc + 1) t computes) (tt, found_as u (n + 1) _ first_at (ca ++ Jump pc ∷ []) na f2))
@@ -306,10 +306,10 @@ module _ (P : List Item → Type 0) (stays : (c : Successor) (k : List Item) →
         let i : items s n ≡ items_all first n ++ Do m s ∷ [] = at_items l x n in
         let stop = at + length cl in
         let e1 : pc + length (machine_stmt u.units s pc) ≡ stop = ap (λ c. pc + length c) c ∙ (let z : pc + length (ca ++ cl) ≡ pc + length ca + length cl = omega (arith, length-append ca cl) in z) in
-        let behind_it = subst (λ q. Stands u q k) e1 st in
+        let behind_it = subst (λ q. IsCodeOf u q k) e1 st in
         let whole : HasStatement u at m s stop = record { kind = kind.Quiet; is_kind = ap first_kind (sym (out-roll-UWhat x)); all = subst (HasAt u m at) (sym p) hl; ends = ap (λ c. at + length c) (sym p); marked = hl.0 } in
         let t = subst (P) (append_assoc (items_all first n) (Do m s ∷ []) k) (subst (λ j. P (j ++ k)) i told) in
-        let of_first = in_list first mf pc n (Do m s ∷ k) (has_front u n pc ca cl h) (stands_do at m stop s k whole behind_it) t in
+        let of_first = in_list first mf pc n (Do m s ∷ k) (has_front u n pc ca cl h) (code_do at m stop s k whole behind_it) t in
         let of_loop = loop_marks l x test (sequence (machine_stmts u.units body) (machine_stmts u.units step)) (λ k. items_all body (m + 1) ++ (items_all step (m + 1 + size_all body) ++ k)) at m stop k (option_computes (pos 1) e (at + 1)) (no_stmts_or u.units (pos 1) e at) refl
         (λ place k h stands told.
         let cb = machine_stmts u.units body place in
@@ -317,7 +317,7 @@ module _ (P : List Item → Type 0) (stays : (c : Successor) (k : List Item) →
         let z : place + length (cb ++ cs) ≡ place + length cb + length cs = omega (arith, length-append cb cs) in
         let counted : m + 1 + statements_in cb ≡ m + 1 + size_all body = ap (λ c. m + 1 + c) (count_all u.units body place) in
         let hs = renumber u _ (m + 1 + size_all body) (place + length cb) cs counted (has_back u (m + 1) place cb cs h) in
-        let behind_step = subst (λ p. Stands u p k) z stands in
+        let behind_step = subst (λ p. IsCodeOf u p k) z stands in
         let stands_step = enters_list u step (place + length cb) (m + 1 + size_all body) k hs behind_step in
         let of_body = in_list body mb place (m + 1) (items_all step (m + 1 + size_all body) ++ k) (has_front u (m + 1) place cb cs h) stands_step told in
         let of_step = in_list step ms (place + length cb) (m + 1 + size_all body) k hs behind_step of_body.0 in
@@ -338,7 +338,7 @@ module _ (P : List Item → Type 0) (stays : (c : Successor) (k : List Item) →
             let handler = first + length body + 1 in
             let cb = machine_stmts u.units b handler in
             let rest = try_instr handler y z ∷ (body ++ Jump (handler + length cb) ∷ cb) in
-            HasStatement u pc n s stop → HasAt u (n + 1) (pc + 1) rest → stop ≡ pc + 1 + length rest → Stands u stop k → P (Do n s ∷ k) → AllFound u (n + 1) (pc + 1) rest)
+            HasStatement u pc n s stop → HasAt u (n + 1) (pc + 1) rest → stop ≡ pc + 1 + length rest → IsCodeOf u stop k → P (Do n s ∷ k) → AllFound u (n + 1) (pc + 1) rest)
         inner pc n stop k whole h ends rest told =
             let first = pc + 1 + 1 in
             let ca = machine_stmts u.units a first in
@@ -356,9 +356,9 @@ module _ (P : List Item → Type 0) (stays : (c : Successor) (k : List Item) →
             let hh = renumber u _ (n + 1 + size_all a) handler cb nb h2.1 in
             let e1 : stop ≡ end = omega (arith, ends, length-append body (Jump end ∷ cb)) in
             let e2 : first + length ca + 1 ≡ first + length body = omega (arith, lb) in
-            let there = subst (λ p. Stands u p k) e1 rest in
+            let there = subst (λ p. IsCodeOf u p k) e1 rest in
             let lt : first + length body < end = omega arith in
-            let leave = stands_leave (first + length ca) k hu.0 (subst (λ p. Stands u p k) (sym e2) (stands_jump (first + length body) end k h2.0 lt there)) in
+            let leave = code_leave (first + length ca) k hu.0 (subst (λ p. IsCodeOf u p k) (sym e2) (code_jump (first + length body) end k h2.0 lt there)) in
             let fa = (in_list a ma first (n + 1) (Leave ∷ k) (has_front u (n + 1) first ca (Untry ∷ []) hb) leave (told_after l n x k First told)).1 in
             let fb = (in_list b mb handler (n + 1 + size_all a) k hh there (told_after l n x k Second told)).1 in
             let f1 = found_both u (n + 1) first ca (Untry ∷ []) fa (tt, tt) in
@@ -366,7 +366,7 @@ module _ (P : List Item → Type 0) (stays : (c : Successor) (k : List Item) →
             (tried_found u (n + 1) (pc + 1) handler y z, found_as u (n + 1) _ first (body ++ Jump end ∷ cb) n1 f2)
 
     -- at the second mark of a statement
-    half_here : (x : UWhat-F UWhat UStmt) (s : UStmt) (n stop at : ℕ) (k : List Item) → out-UWhat s.what ≡ x → HasHalves x → HasAt u (n + 1) at (half_what x s.line at) → stop ≡ at + length (half_what x s.line at) → Stands u stop k → AtHalf u at (Do n s ∷ k)
+    half_here : (x : UWhat-F UWhat UStmt) (s : UStmt) (n stop at : ℕ) (k : List Item) → out-UWhat s.what ≡ x → HasHalves x → HasAt u (n + 1) at (half_what x s.line at) → stop ≡ at + length (half_what x s.line at) → IsCodeOf u stop k → AtHalf u at (Do n s ∷ k)
     half_here x s n stop at k ex ih has ends rest =
         subst (λ z. HasHalves z → (let c = half_what z s.line at in HasAt u (n + 1) at c × (stop ≡ at + length c)) → AtHalf u at (Do n s ∷ k)) ex (λ i h. at_half at n stop s k i h rest) ih (has, ends)
 
@@ -431,7 +431,7 @@ module _ (P : List Item → Type 0) (stays : (c : Successor) (k : List Item) →
         let ss = map (λ e. e.0) a in
         let c : machine_stmt u.units (line_of l (roll-UWhat w)) pc ≡ machine_stmts u.units ss pc = ap (λ f. f pc) (code_roll u.units l w) in
         let i : items (line_of l (roll-UWhat w)) n ≡ items_all ss n = at_items l w n in
-        let inner = in_list ss (all_marks a) pc n k (subst (HasAt u n pc) c has) (subst (λ c. Stands u (pc + length c) k) c st) (subst (λ j. P (j ++ k)) i told) in
+        let inner = in_list ss (all_marks a) pc n k (subst (HasAt u n pc) c has) (subst (λ c. IsCodeOf u (pc + length c) k) c st) (subst (λ j. P (j ++ k)) i told) in
         (inner.0, subst (AllFound u n pc) (sym c) inner.1)
     by_kind (UWhat-F.Call c) l = let w = bare (UWhat-F.Call c) in plain l w kind.Quiet refl _ (λ pc. refl) (λ pc. refl) (at_items l w) (λ n k. refl) (λ n pc. call_found c n (pc + 1))
     by_kind (UWhat-F.Try a x y b) l = try_marks l (map (λ e. e.0) a) x y (map (λ e. e.0) b) (all_marks a) (all_marks b)
@@ -468,7 +468,7 @@ module _ (P : List Item → Type 0) (stays : (c : Successor) (k : List Item) →
         let body = machine_stmts u.units u.body 0 in
         let has = unit_has u e in
         let end = (has_back u 0 0 body (End 0 ∷ []) has).0 in
-        let st = stands_end (0 + length body) (0 + statements_in body) end in
+        let st = code_end (0 + length body) (0 + statements_in body) end in
         let told = subst P (sym (append-nil (items_all u.body 0))) first in
         let counted : 0 + statements_in body ≡ size_all u.body = omega (arith, count_all u.units u.body 0) in
         found_both u 0 0 body (End 0 ∷ []) (in_list u.body (each_marks u.body) 0 0 [] (has_front u 0 0 body (End 0 ∷ []) has) st told).1 (counted, tt)
@@ -479,10 +479,10 @@ module _ (P : List Item → Type 0) (stays : (c : Successor) (k : List Item) →
         let there : slice_get (machine_unit u.units u.body) pc ≡ Some i = ap (λ c. slice_get c pc) (sym e) ∙ h in
         subst (λ p. IsFoundAt P u p i) z (looked_up (machine_stmts u.units u.body 0 ++ End 0 ∷ []) 0 0 pc i (unit_found e first) there)
 
-pub mark_tells : (u : CodedUnit) → u.code ≡ machine_unit u.units u.body → (pc : ℕ) (m : MarkOf) → fetch u pc ≡ Some (Mark m) → Here u pc (left_all u.body m.number) m.halfway
+pub mark_tells : (u : CodedUnit) → u.code ≡ machine_unit u.units u.body → (pc : ℕ) (m : MarkOf) → fetch u pc ≡ Some (Mark m) → IsPlaceOf u pc (left_all u.body m.number) m.halfway
 mark_tells u e pc m h =
-    let found : Found (IsTold u.body) u pc m = found_at (IsTold u.body) (told_followed u.body) u e (told_first u.body) pc (Mark m) h in
-    subst (λ k. Here u pc k m.halfway) (sym found.told) found.here
+    let found : Found (IsRestOf u.body) u pc m = found_at (IsRestOf u.body) (told_followed u.body) u e (told_first u.body) pc (Mark m) h in
+    subst (λ k. IsPlaceOf u pc k m.halfway) (sym found.told) found.here
 
 pub end_tells : (u : CodedUnit) → u.code ≡ machine_unit u.units u.body → (pc n : ℕ) → fetch u pc ≡ Some (End n) → n ≡ size_all u.body
-end_tells u e pc n h = found_at (IsTold u.body) (told_followed u.body) u e (told_first u.body) pc (End n) h
+end_tells u e pc n h = found_at (IsRestOf u.body) (told_followed u.body) u e (told_first u.body) pc (End n) h

@@ -15,15 +15,15 @@ use Rattle.shim_code.specs.declared.machine_instr.MachineInstr.TheVariants.{Var,
 use Rattle.shim_code.specs.Layout.{sequence, one}
 use Rattle.shim_code.specs.MachineCode.{machine_expr, machine_expr_or, machine_marked, machine_stmts, statements_in}
 use Rattle.shim_machine.specs.Machine.{CodedUnit, Codes, Machine, ReturnPlace, becomes, machine}
-use Rattle.shim_machine.specs.Stands.{Handles, HasStatement, HasAt, HasHalves, Here, IsTold, Returns, Stands, StandsFor, at_do, at_end, at_half, half_what, mark, point_what}
-use Rattle.shim_machine.specs.Leads.{Leads, machine_at}
-use Rattle.shim_machine.specs.Comes.{AreCodesOf, AreBounded, ComesToMark, ComesToTrap, Does, NextSuits, Suits, step_room}
+use Rattle.shim_machine.specs.Correspondence.{Handles, HasStatement, HasAt, HasHalves, IsPlaceOf, IsRestOf, Returns, IsCodeOf, Corresponds, at_do, at_end, at_half, half_what, mark, point_what}
+use Rattle.shim_machine.specs.CodeRuns.{RunsTo, machine_at}
+use Rattle.shim_machine.specs.Simulation.{AreCodesOf, AreBounded, ComesToMark, ComesToTrap, Does, NextSuits, Suits, step_room}
 use Rattle.shim_machine.proofs.Exprs.{has_front, has_back, leads_one, or_runs, runs, step}
 use Rattle.shim_machine.proofs.Enters.{count_all, count_both, enters_list}
 use Rattle.shim_machine.proofs.Steps.{From, call_case, half_case, if_case, lands_at, loop_case, make_case, no_stmts, no_stmts_or, renumber, store_case, told_after, try_case}
 
 module _ (codes : Codes) (most : ℕ) (short : AreBounded codes most) (n : ℕ) (s : UStmt) (k : List Item) (l : LocalState) (back : List ReturnPlace) (hs : List ℕ) (r : Returns codes back l.callers) (hd : Handles (codes l.frame.unit) hs l.frame.places) (same : l.frame.todo ≡ Do n s ∷ k)
-    (told : IsTold (codes l.frame.unit).body (Do n s ∷ k)) where
+    (told : IsRestOf (codes l.frame.unit).body (Do n s ∷ k)) where
   abbrev u : CodedUnit
   u = codes l.frame.unit
 
@@ -34,7 +34,7 @@ module _ (codes : Codes) (most : ℕ) (short : AreBounded codes most) (n : ℕ) 
   Gives pc x a = From codes most short n s k l back hs r hd same told (at pc) x a
 
   -- an assignment, and the first part of one that meets behind it
-  assign_first : (y : ℕ) (e : UExpr) (pc stop : ℕ) → (let x : UWhat-F UWhat UStmt = UWhat-F.NextAssign y e in out-UWhat s.what ≡ x → HasAt u n pc (point_what u.units x s.line pc) → stop ≡ pc + length (point_what u.units x s.line pc) → Stands u stop k → Gives (pc + 1) x (action (StoreFirst y) (value e (env_of l.locations l.frame.slots))))
+  assign_first : (y : ℕ) (e : UExpr) (pc stop : ℕ) → (let x : UWhat-F UWhat UStmt = UWhat-F.NextAssign y e in out-UWhat s.what ≡ x → HasAt u n pc (point_what u.units x s.line pc) → stop ≡ pc + length (point_what u.units x s.line pc) → IsCodeOf u stop k → Gives (pc + 1) x (action (StoreFirst y) (value e (env_of l.locations l.frame.slots))))
   assign_first y e pc stop ex has ends rest =
       let x : UWhat-F UWhat UStmt = UWhat-F.NextAssign y e in
       let m = at (pc + 1) in
@@ -54,22 +54,22 @@ module _ (codes : Codes) (most : ℕ) (short : AreBounded codes most) (n : ℕ) 
       let hm = there.0 ∙ ap (λ i. Some (mark kind.Next s.line i true)) same_number in
       half_case codes most short n s k l back hs r hd same told x (pc + 1) pc1 stop y kind.Next _ ex tt (runs codes e m (n + 1) hc) (has_back u (n + 1) (pc + 1) c (Set y ∷ []) h.1).0 hm there e1 rest
 
-  read_case : (y i pc stop : ℕ) → (let x : UWhat-F UWhat UStmt = UWhat-F.Get y i in out-UWhat s.what ≡ x → HasAt u n pc (point_what u.units x s.line pc) → stop ≡ pc + length (point_what u.units x s.line pc) → Stands u stop k → Gives (pc + 1) x (Read y))
+  read_case : (y i pc stop : ℕ) → (let x : UWhat-F UWhat UStmt = UWhat-F.Get y i in out-UWhat s.what ≡ x → HasAt u n pc (point_what u.units x s.line pc) → stop ≡ pc + length (point_what u.units x s.line pc) → IsCodeOf u stop k → Gives (pc + 1) x (Read y))
   read_case y i pc stop ex has ends rest =
       let m = at (pc + 1) in
       let l' = read_in y l in
       let m1 = becomes (next_byte l.input_at l.input ∷ []) (record l { input_at = read_on l.input_at l.input }) m in
       let m2 = machine (pc + 1 + 1 + 1) hs back s.line l' in
       let e1 : pc + 1 + 1 + 1 ≡ stop = omega (arith, ends) in
-      let lead : Leads codes m m2 = record { by = λ j. (suc (suc j), omega arith, step codes m (Get i) has.1.0 (suc j) ∙ step codes m1 (Set y) has.1.1.0 j) } in
+      let lead : RunsTo codes m m2 = record { by = λ j. (suc (suc j), omega arith, step codes m (Get i) has.1.0 (suc j) ∙ step codes m1 (Set y) has.1.1.0 j) } in
       lands_at codes most short n s k l back hs r hd same told (pc + 1) stop k l'.locations l'.made l'.input_at (told_after codes most short n s k l back hs r hd same told (UWhat-F.Get y i) On ex) rest
-      (subst (λ p. Leads codes m (machine p hs back s.line l')) e1 lead)
+      (subst (λ p. RunsTo codes m (machine p hs back s.line l')) e1 lead)
 
   as_tried : (a : List UStmt) (y : ℕ) (z : Option ℕ) (b : List UStmt) (pc : ℕ) → (let x : UWhat-F UWhat UStmt = UWhat-F.Try a y z b in Gives (pc + 1) x (limited (is_full l) (Install y (try_name (unit_at l.program l.frame.unit) y) z)) → Gives (pc + 1) x (what_action x (statement_view l)))
   unfolding unit_at
   as_tried a y z b pc g = g
 
-  from_kind : (x : UWhat-F UWhat UStmt) (pc stop : ℕ) → AreCodesOf codes l.program → l.frame.halfway ≡ false → Suits x l → out-UWhat s.what ≡ x → HasStatement u pc n s stop → HasAt u n pc (point_what u.units x s.line pc) → stop ≡ pc + length (point_what u.units x s.line pc) → Stands u stop k
+  from_kind : (x : UWhat-F UWhat UStmt) (pc stop : ℕ) → AreCodesOf codes l.program → l.frame.halfway ≡ false → Suits x l → out-UWhat s.what ≡ x → HasStatement u pc n s stop → HasAt u n pc (point_what u.units x s.line pc) → stop ≡ pc + length (point_what u.units x s.line pc) → IsCodeOf u stop k
       → Gives (pc + 1) x (what_action x (statement_view l))
   from_kind (UWhat-F.Declare t y e) pc stop of eh fit ex whole has ends rest =
       let m = at (pc + 1) in
@@ -102,7 +102,7 @@ module _ (codes : Codes) (most : ℕ) (short : AreBounded codes most) (n : ℕ) 
       let z : place + length (cb ++ cs) ≡ place + length cb + length cs = omega (arith, length-append cb cs) in
       let counted : n + 1 + statements_in cb ≡ n + 1 + size_all b = ap (λ c. n + 1 + c) (count_all u.units b place) in
       let hs = renumber u _ (n + 1 + size_all b) (place + length cb) cs counted (has_back u (n + 1) place cb cs h) in
-      enters_list u b place (n + 1) (items_all st (n + 1 + size_all b) ++ k) (has_front u (n + 1) place cb cs h) (enters_list u st (place + length cb) (n + 1 + size_all b) k hs (subst (λ p. Stands u p k) z stands)))
+      enters_list u b place (n + 1) (items_all st (n + 1 + size_all b) ++ k) (has_front u (n + 1) place cb cs h) (enters_list u st (place + length cb) (n + 1 + size_all b) k hs (subst (λ p. IsCodeOf u p k) z stands)))
   from_kind (UWhat-F.Call c) pc stop of eh fit ex whole has ends rest = call_case codes most short n s k l back hs r hd same told c pc stop of fit ex has ends rest
   from_kind (UWhat-F.Try a y z b) pc stop of eh fit ex whole has ends rest = as_tried a y z b pc (try_case codes most short n s k l back hs r hd same told a y z b pc stop ex has ends rest)
   from_kind (UWhat-F.Block a) pc stop of eh fit ex whole has ends rest = tt
@@ -112,7 +112,7 @@ module _ (codes : Codes) (most : ℕ) (short : AreBounded codes most) (n : ℕ) 
   from_kind (UWhat-F.Par bs) pc stop of eh fit ex whole has ends rest = tt
 
   -- the second part of a statement
-  from_half : (x : UWhat-F UWhat UStmt) (pc stop : ℕ) → l.frame.halfway ≡ true → HasHalves x → out-UWhat s.what ≡ x → HasAt u (n + 1) pc (half_what x s.line pc) → stop ≡ pc + length (half_what x s.line pc) → Stands u stop k
+  from_half : (x : UWhat-F UWhat UStmt) (pc stop : ℕ) → l.frame.halfway ≡ true → HasHalves x → out-UWhat s.what ≡ x → HasAt u (n + 1) pc (half_what x s.line pc) → stop ≡ pc + length (half_what x s.line pc) → IsCodeOf u stop k
       → Gives (pc + 1) x (what_action x (statement_view l))
   from_half (UWhat-F.NextAssign y e) pc stop eh is ex has ends rest =
       subst (λ b. Gives (pc + 1) (UWhat-F.NextAssign y e) (if b then Wait else action (StoreFirst y) (value e (env_of l.locations l.frame.slots)))) (sym eh) tt
@@ -156,8 +156,8 @@ module _ (codes : Codes) (most : ℕ) (short : AreBounded codes most) (n : ℕ) 
       subst (λ z. ComesToMark codes (step_room most (length l.callers)) (at pc) (settled l.callers (past_ends (followed First z) l'.frame.places (record l'.frame { halfway = false })) l')) (sym same) f
 
 -- by where it stands
-from_mark : (codes : Codes) (most : ℕ) → AreBounded codes most → (l : LocalState) (pc : ℕ) (back : List ReturnPlace) (hs : List ℕ) (h : Bool) (todo : List Item) → AreCodesOf codes l.program → l.frame.todo ≡ todo → l.frame.halfway ≡ h → NextSuits todo l → IsTold (codes l.frame.unit).body todo
-    → Here (codes l.frame.unit) pc todo h → Handles (codes l.frame.unit) hs l.frame.places → Returns codes back l.callers → Does codes (step_room most (length l.callers)) (machine (pc + 1) hs back (line_of todo) l) (stmt_action (next_stmt todo) (statement_view l)) l
+from_mark : (codes : Codes) (most : ℕ) → AreBounded codes most → (l : LocalState) (pc : ℕ) (back : List ReturnPlace) (hs : List ℕ) (h : Bool) (todo : List Item) → AreCodesOf codes l.program → l.frame.todo ≡ todo → l.frame.halfway ≡ h → NextSuits todo l → IsRestOf (codes l.frame.unit).body todo
+    → IsPlaceOf (codes l.frame.unit) pc todo h → Handles (codes l.frame.unit) hs l.frame.places → Returns codes back l.callers → Does codes (step_room most (length l.callers)) (machine (pc + 1) hs back (line_of todo) l) (stmt_action (next_stmt todo) (statement_view l)) l
 from_mark codes most short l _ back hs false _ of e eh fit told (at_end pc n h) hd r = tt
 from_mark codes most short l _ back hs false _ of e eh fit told (at_do pc n stop s k has rest) hd r =
     does codes most short n s k l back hs r hd e told (pc + 1) (what_action (out-UWhat s.what) (statement_view l))
@@ -166,7 +166,7 @@ from_mark codes most short l _ back hs true _ of e eh fit told (at_half pc n sto
     does codes most short n s k l back hs r hd e told (pc + 1) (what_action (out-UWhat s.what) (statement_view l))
     (from_half codes most short n s k l back hs r hd e told (out-UWhat s.what) pc stop eh ih refl has.0 has.1 rest)
 
-pub one_step : (codes : Codes) (most : ℕ) (l : LocalState) (pc : ℕ) (handlers : List ℕ) (back : List ReturnPlace) → AreCodesOf codes l.program → AreBounded codes most → NextSuits l.frame.todo l → StandsFor codes pc handlers back l
+pub one_step : (codes : Codes) (most : ℕ) (l : LocalState) (pc : ℕ) (handlers : List ℕ) (back : List ReturnPlace) → AreCodesOf codes l.program → AreBounded codes most → NextSuits l.frame.todo l → Corresponds codes pc handlers back l
     → Does codes (step_room most (length l.callers)) (machine (pc + 1) handlers back (line_of l.frame.todo) l) (next_action l) l
 unfolding next_action
 one_step codes most l pc handlers back of short fit st = from_mark codes most short l pc back handlers l.frame.halfway l.frame.todo of refl refl fit st.told st.here st.handles st.returns

@@ -1,7 +1,7 @@
 -- The bound of the instructions past ends as a product.
 use Rattle.std.proofs.Common.{◌≡◌, ℕ, zero, suc, ◌+◌, ◌*◌, sym, ap, ◌∙◌, arith}
 use Rattle.std.proofs.Math.Nat.{suc-mul}
-use Rattle.shim_machine.specs.Comes.{room}
+use Rattle.shim_machine.specs.Simulation.{room}
 
 swapped : (x y : ℕ) → x + y ≡ y + x
 swapped x y = omega arith

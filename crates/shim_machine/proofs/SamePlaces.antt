@@ -12,8 +12,8 @@ use Rattle.shim_code.specs.declared.instr.MarkKind.TheVariants as kind
 use Rattle.shim_code.specs.declared.machine_instr.MachineInstr.TheVariants.{End}
 use Rattle.shim_code.specs.MachineCode.{machine_unit}
 use Rattle.shim_machine.specs.Machine.{At, CodedUnit, Codes, Machine, ReturnPlace, fetch, machine, between_steps}
-use Rattle.shim_machine.specs.Stands.{AtHalf, AtMark, Handles, HasAt, HasHalves, Here, Returns, Stands, StandsFor, at_do, at_end, at_half, half_what, mark, stands_back, stands_do, stands_end, stands_jump, stands_leave}
-use Rattle.shim_machine.specs.Comes.{AreCodesOf, AreBounded, ComesToMark, Does, NextSuits, step_room}
+use Rattle.shim_machine.specs.Correspondence.{AtHalf, AtStatement, Handles, HasAt, HasHalves, IsPlaceOf, Returns, IsCodeOf, Corresponds, at_do, at_end, at_half, half_what, mark, code_back, code_do, code_end, code_jump, code_leave}
+use Rattle.shim_machine.specs.Simulation.{AreCodesOf, AreBounded, ComesToMark, Does, NextSuits, step_room}
 use Rattle.shim_machine.specs.SamePlaces.{AllLeadAlike, ComesToPlace, DoesTo, GoOnAlike, LeadAlike, JumpsTo, ReturnAlike, is_end, is_mark, past_block, past_jump}
 use Rattle.shim_machine.proofs.MarkPlaces.{end_once, mark_once}
 use Rattle.shim_machine.proofs.OneStep.{one_step}
@@ -29,7 +29,7 @@ TellsAt u pc [] h = (n : ℕ) × (fetch u pc ≡ Some (End n))
 TellsAt u pc (Do n s ∷ k) h = MarkAt u pc n h
 TellsAt u pc (Leave ∷ k) h = ⊥
 
-at_mark_tells : (u : CodedUnit) (pc : ℕ) (k : List Item) → AtMark u pc k → TellsAt u pc k false
+at_mark_tells : (u : CodedUnit) (pc : ℕ) (k : List Item) → AtStatement u pc k → TellsAt u pc k false
 at_mark_tells u _ _ (at_end pc n h) = (n, h)
 at_mark_tells u _ _ (at_do pc n stop s k has rest) = record { kind = has.kind; line = s.line; is = has.marked }
 
@@ -42,7 +42,7 @@ half_is u x pc n line h has = absurd h
 at_half_tells : (u : CodedUnit) (pc : ℕ) (k : List Item) → AtHalf u pc k → TellsAt u pc k true
 at_half_tells u _ _ (at_half pc n stop s k ih has rest) = half_is u (out-UWhat s.what) pc n s.line ih has.0
 
-here_tells : (u : CodedUnit) (pc : ℕ) (k : List Item) (h : TruthValue) → Here u pc k h → TellsAt u pc k h
+here_tells : (u : CodedUnit) (pc : ℕ) (k : List Item) (h : TruthValue) → IsPlaceOf u pc k h → TellsAt u pc k h
 here_tells u pc k false = at_mark_tells u pc k
 here_tells u pc k true = at_half_tells u pc k
 
@@ -61,14 +61,14 @@ blocks_of (Do n s ∷ k) = 0
 record Leading (u : CodedUnit) (pc : ℕ) (k : List Item) : Type 0 where
   pub to : ℕ
   pub leads : JumpsTo u pc (blocks_of k) to
-  pub at : AtMark u to (behind_blocks k)
+  pub at : AtStatement u to (behind_blocks k)
 
-leading : (u : CodedUnit) (pc : ℕ) (k : List Item) → Stands u pc k → Leading u pc k
-leading u _ _ (stands_end pc n h) = record { to = pc; leads = is_end pc n h; at = at_end pc n h }
-leading u _ _ (stands_do pc n stop s k has rest) = record { to = pc; leads = is_mark pc _ has.marked; at = at_do pc n stop s k has rest }
-leading u _ _ (stands_leave pc k h rest) = let l = leading u (pc + 1) k rest in record { to = l.to; leads = past_block pc (blocks_of k) l.to h l.leads; at = l.at }
-leading u _ _ (stands_jump pc t k h lt rest) = let l = leading u t k rest in record { to = l.to; leads = past_jump pc t (blocks_of k) l.to h l.leads; at = l.at }
-leading u _ _ (stands_back pc t n stop s k h has rest) = record { to = t; leads = past_jump pc t 0 t h (is_mark t _ has.marked); at = at_do t n stop s k has rest }
+leading : (u : CodedUnit) (pc : ℕ) (k : List Item) → IsCodeOf u pc k → Leading u pc k
+leading u _ _ (code_end pc n h) = record { to = pc; leads = is_end pc n h; at = at_end pc n h }
+leading u _ _ (code_do pc n stop s k has rest) = record { to = pc; leads = is_mark pc _ has.marked; at = at_do pc n stop s k has rest }
+leading u _ _ (code_leave pc k h rest) = let l = leading u (pc + 1) k rest in record { to = l.to; leads = past_block pc (blocks_of k) l.to h l.leads; at = l.at }
+leading u _ _ (code_jump pc t k h lt rest) = let l = leading u t k rest in record { to = l.to; leads = past_jump pc t (blocks_of k) l.to h l.leads; at = l.at }
+leading u _ _ (code_back pc t n stop s k h has rest) = record { to = t; leads = past_jump pc t 0 t h (is_mark t _ has.marked); at = at_do t n stop s k has rest }
 
 module _ (u : CodedUnit) (e : u.code ≡ machine_unit u.units u.body) where
   told_once : (a b : ℕ) (k : List Item) (h : TruthValue) → TellsAt u a k h → TellsAt u b k h → a ≡ b
@@ -76,10 +76,10 @@ module _ (u : CodedUnit) (e : u.code ≡ machine_unit u.units u.body) where
   told_once a b (Do n s ∷ k) h ha hb = mark_once u e a b _ _ ha.is hb.is refl refl
   told_once a b (Leave ∷ k) h ha hb = absurd ha
 
-  here_once : (a b : ℕ) (k : List Item) (h : TruthValue) → Here u a k h → Here u b k h → a ≡ b
+  here_once : (a b : ℕ) (k : List Item) (h : TruthValue) → IsPlaceOf u a k h → IsPlaceOf u b k h → a ≡ b
   here_once a b k h ha hb = told_once a b k h (here_tells u a k h ha) (here_tells u b k h hb)
 
-  lead_alike : (a b : ℕ) (k : List Item) → Stands u a k → Stands u b k → LeadAlike u a b
+  lead_alike : (a b : ℕ) (k : List Item) → IsCodeOf u a k → IsCodeOf u b k → LeadAlike u a b
   lead_alike a b k ha hb =
       let la = leading u a k ha in
       let lb = leading u b k hb in
@@ -110,7 +110,7 @@ returns_alike codes e (x ∷ xs) ys [] ha hb = absurd ha
 returns_alike codes e [] ys (f ∷ callers) ha hb = absurd ha
 returns_alike codes e (x ∷ xs) [] (f ∷ callers) ha hb = absurd hb
 
-pub go_on_alike : (codes : Codes) (program : Form) (l : LocalState) (pc pc' : ℕ) (handlers handlers' : List ℕ) (back back' : List ReturnPlace) → AreCodesOf codes program → StandsFor codes pc handlers back l → StandsFor codes pc' handlers' back' l → (pc ≡ pc') × GoOnAlike codes l handlers back handlers' back'
+pub go_on_alike : (codes : Codes) (program : Form) (l : LocalState) (pc pc' : ℕ) (handlers handlers' : List ℕ) (back back' : List ReturnPlace) → AreCodesOf codes program → Corresponds codes pc handlers back l → Corresponds codes pc' handlers' back' l → (pc ≡ pc') × GoOnAlike codes l handlers back handlers' back'
 go_on_alike codes program l pc pc' handlers handlers' back back' of a b =
     let has = has_codes codes program of in
     let u = codes l.frame.unit in
@@ -119,17 +119,17 @@ go_on_alike codes program l pc pc' handlers handlers' back back' of a b =
       record { caught = handlers_alike u e handlers handlers' l.frame.places a.handles b.handles; returned = returns_alike codes has back back' l.callers a.returns b.returns },
     )
 
-pub comes_to : (codes : Codes) (program : Form) (bound : ℕ) (m : Machine) (l : LocalState) (pc : ℕ) (handlers : List ℕ) (back : List ReturnPlace) → AreCodesOf codes program → ComesToMark codes bound m l → StandsFor codes pc handlers back l → ComesToPlace codes bound m pc handlers back l
+pub comes_to : (codes : Codes) (program : Form) (bound : ℕ) (m : Machine) (l : LocalState) (pc : ℕ) (handlers : List ℕ) (back : List ReturnPlace) → AreCodesOf codes program → ComesToMark codes bound m l → Corresponds codes pc handlers back l → ComesToPlace codes bound m pc handlers back l
 comes_to codes program bound m l pc handlers back of c st =
     let same = go_on_alike codes program l c.pc pc c.handlers handlers c.back back of c.stands st in
     record { own_handlers = c.handlers; own_back = c.back; count = c.count; within = c.within; comes = c.comes ∙ ap (λ p. At (between_steps p c.handlers c.back l)) same.0; alike = same.1 }
 
-does_to : (codes : Codes) (program : Form) (bound : ℕ) (m : Machine) (a : Action) (l : LocalState) (pc : ℕ) (handlers : List ℕ) (back : List ReturnPlace) → AreCodesOf codes program → Does codes bound m a l → StandsFor codes pc handlers back (done a l) → DoesTo codes bound m a pc handlers back l
+does_to : (codes : Codes) (program : Form) (bound : ℕ) (m : Machine) (a : Action) (l : LocalState) (pc : ℕ) (handlers : List ℕ) (back : List ReturnPlace) → AreCodesOf codes program → Does codes bound m a l → Corresponds codes pc handlers back (done a l) → DoesTo codes bound m a pc handlers back l
 does_to codes program bound m Wait l pc handlers back of d st = tt
 does_to codes program bound m (Trapped t) l pc handlers back of d st = d
 does_to codes program bound m a l pc handlers back of d st = comes_to codes program bound m (done a l) pc handlers back of d st
 
-pub one_step_to : (codes : Codes) (most : ℕ) (l : LocalState) (pc pc' : ℕ) (handlers handlers' : List ℕ) (back back' : List ReturnPlace) → AreCodesOf codes l.program → AreBounded codes most → NextSuits l.frame.todo l → StandsFor codes pc handlers back l → StandsFor codes pc' handlers' back' (done (next_action l) l)
+pub one_step_to : (codes : Codes) (most : ℕ) (l : LocalState) (pc pc' : ℕ) (handlers handlers' : List ℕ) (back back' : List ReturnPlace) → AreCodesOf codes l.program → AreBounded codes most → NextSuits l.frame.todo l → Corresponds codes pc handlers back l → Corresponds codes pc' handlers' back' (done (next_action l) l)
     → DoesTo codes (step_room most (length l.callers)) (machine (pc + 1) handlers back (line_of l.frame.todo) l) (next_action l) pc' handlers' back' l
 one_step_to codes most l pc pc' handlers handlers' back back' of short suits st st' =
     let m = machine (pc + 1) handlers back (line_of l.frame.todo) l in

@@ -19,9 +19,9 @@ use Rattle.shim_code.specs.declared.machine_instr.MachineInstr.{MachineInstr}
 use Rattle.shim_code.specs.declared.machine_instr.MachineInstr.TheVariants.{Next, Put, Throw}
 use Rattle.shim_code.specs.MachineCode.{machine_expr, machine_expr_or}
 use Rattle.shim_machine.specs.Machine.{At, CodedUnit, Codes, ReturnPlace, Traps, fetch, machine, between_steps}
-use Rattle.shim_machine.specs.Stands.{AtHalf, Handles, HasAt, HasHalves, Here, IsTold, Returns, Stands, StandsFor, at_do, at_end, at_half, half_what, mark, point_what}
-use Rattle.shim_machine.specs.Leads.{Evaluates, machine_at}
-use Rattle.shim_machine.specs.Comes.{AreBounded, ComesToMark, DoesPut, DoesThrow, MeetsAt, room}
+use Rattle.shim_machine.specs.Correspondence.{AtHalf, Handles, HasAt, HasHalves, IsPlaceOf, IsRestOf, Returns, IsCodeOf, Corresponds, at_do, at_end, at_half, half_what, mark, point_what}
+use Rattle.shim_machine.specs.CodeRuns.{Evaluates, machine_at}
+use Rattle.shim_machine.specs.Simulation.{AreBounded, ComesToMark, DoesPut, DoesThrow, MeetsAt, room}
 use Rattle.shim_machine.proofs.Exprs.{has_back, has_front, or_runs, runs, step}
 use Rattle.shim_machine.proofs.Lands.{lands, some_room, within_code}
 use Rattle.shim_machine.proofs.Steps.{renumber}
@@ -96,7 +96,7 @@ fork_throw [] z e = cc
 fork_throw (b ∷ bs) z e = cc
 
 module _ (codes : Codes) (most : ℕ) (short : AreBounded codes most) (n : ℕ) (s : UStmt) (k : List Item) (l : LocalState) (back : List ReturnPlace) (hs : List ℕ) (r : Returns codes back l.callers) (hd : Handles (codes l.frame.unit) hs l.frame.places) (same : l.frame.todo ≡ Do n s ∷ k)
-    (told : IsTold (codes l.frame.unit).body (Do n s ∷ k)) where
+    (told : IsRestOf (codes l.frame.unit).body (Do n s ∷ k)) where
   abbrev u : CodedUnit
   u = codes l.frame.unit
 
@@ -107,21 +107,21 @@ module _ (codes : Codes) (most : ℕ) (short : AreBounded codes most) (n : ℕ) 
   near pc i h = let a = within_code u.code pc i h in let b = short l.frame.unit in omega (arith, a, b)
 
   -- on with what follows
-  goes_on : (x : UWhat-F UWhat UStmt) (line pc y : ℕ) (v : ℤ) → out-UWhat s.what ≡ x → follow_what x On n s k ≡ k → Stands u pc k → ComesToMark codes bound (machine pc hs back line (stored_in y v l)) (gone On (stored_in y v l))
+  goes_on : (x : UWhat-F UWhat UStmt) (line pc y : ℕ) (v : ℤ) → out-UWhat s.what ≡ x → follow_what x On n s k ≡ k → IsCodeOf u pc k → ComesToMark codes bound (machine pc hs back line (stored_in y v l)) (gone On (stored_in y v l))
   unfolding gone went
   goes_on x line pc y v ex f st =
       let on : k ≡ followed On l.frame.todo = sym (ap (followed On) same ∙ ap (λ z. follow_what z On n s k) ex ∙ f) in
-      let t : IsTold u.body (followed On l.frame.todo) = subst (λ z. IsTold u.body (followed On z)) (sym same) (told_followed u.body On (Do n s ∷ k) told) in
-      lands codes most short line l.callers back hs l.frame (stored_in y v l) r pc (followed On l.frame.todo) l.frame.places t hd (subst (Stands u pc) on st)
+      let t : IsRestOf u.body (followed On l.frame.todo) = subst (λ z. IsRestOf u.body (followed On z)) (sym same) (told_followed u.body On (Do n s ∷ k) told) in
+      lands codes most short line l.callers back hs l.frame (stored_in y v l) r pc (followed On l.frame.todo) l.frame.places t hd (subst (IsCodeOf u pc) on st)
 
-  goes_plain : (x : UWhat-F UWhat UStmt) (line pc : ℕ) → out-UWhat s.what ≡ x → follow_what x On n s k ≡ k → Stands u pc k → ComesToMark codes bound (machine pc hs back line l) (gone On l)
+  goes_plain : (x : UWhat-F UWhat UStmt) (line pc : ℕ) → out-UWhat s.what ≡ x → follow_what x On n s k ≡ k → IsCodeOf u pc k → ComesToMark codes bound (machine pc hs back line l) (gone On l)
   unfolding gone went
   goes_plain x line pc ex f st =
       let on : k ≡ followed On l.frame.todo = sym (ap (followed On) same ∙ ap (λ z. follow_what z On n s k) ex ∙ f) in
-      let t : IsTold u.body (followed On l.frame.todo) = subst (λ z. IsTold u.body (followed On z)) (sym same) (told_followed u.body On (Do n s ∷ k) told) in
-      lands codes most short line l.callers back hs l.frame l r pc (followed On l.frame.todo) l.frame.places t hd (subst (Stands u pc) on st)
+      let t : IsRestOf u.body (followed On l.frame.todo) = subst (λ z. IsRestOf u.body (followed On z)) (sym same) (told_followed u.body On (Do n s ∷ k) told) in
+      lands codes most short line l.callers back hs l.frame l r pc (followed On l.frame.todo) l.frame.places t hd (subst (IsCodeOf u pc) on st)
 
-  put_case : (o : ℕ) (e : UExpr) (pc stop : ℕ) → (let x : UWhat-F UWhat UStmt = UWhat-F.Put o e in out-UWhat s.what ≡ x → HasAt u n pc (point_what u.units x s.line pc) → stop ≡ pc + length (point_what u.units x s.line pc) → Stands u stop k
+  put_case : (o : ℕ) (e : UExpr) (pc stop : ℕ) → (let x : UWhat-F UWhat UStmt = UWhat-F.Put o e in out-UWhat s.what ≡ x → HasAt u n pc (point_what u.units x s.line pc) → stop ≡ pc + length (point_what u.units x s.line pc) → IsCodeOf u stop k
       → DoesPut codes bound (machine (pc + 1) hs back s.line l) (value e (env_of l.locations l.frame.slots)) l)
   put_case o e pc stop ex has ends rest =
       let c = machine_expr e (pc + 1) in
@@ -143,7 +143,7 @@ module _ (codes : Codes) (most : ℕ) (short : AreBounded codes most) (n : ℕ) 
             count = a.0;
             within = omega (arith, a.1, lt, some);
             puts = a.2 ∙ step codes m1 (Put o) h 0;
-            goes_on = goes_plain (UWhat-F.Put o e) s.line (pc1 + 1) ex refl (subst (λ p. Stands u p k) e1 rest);
+            goes_on = goes_plain (UWhat-F.Put o e) s.line (pc1 + 1) ex refl (subst (λ p. IsCodeOf u p k) e1 rest);
           }
       from (Err t) h g =
           let w = g.within in
@@ -210,7 +210,7 @@ module _ (codes : Codes) (most : ℕ) (short : AreBounded codes most) (n : ℕ) 
   no_half_throw (UWhat-F.Par bs) z eh is at = is
 
   -- what the machine does at a statement that stands at a `put`
-  puts_kind : (x : UWhat-F UWhat UStmt) (pc stop : ℕ) → l.frame.halfway ≡ false → what_stop x (statement_view l) ≡ AtPut → out-UWhat s.what ≡ x → HasAt u n pc (point_what u.units x s.line pc) → stop ≡ pc + length (point_what u.units x s.line pc) → Stands u stop k
+  puts_kind : (x : UWhat-F UWhat UStmt) (pc stop : ℕ) → l.frame.halfway ≡ false → what_stop x (statement_view l) ≡ AtPut → out-UWhat s.what ≡ x → HasAt u n pc (point_what u.units x s.line pc) → stop ≡ pc + length (point_what u.units x s.line pc) → IsCodeOf u stop k
       → DoesPut codes bound (machine (pc + 1) hs back s.line l) (what_put x (statement_view l)) l
   puts_kind (UWhat-F.Put o e) pc stop eh at ex has ends rest = put_case o e pc stop ex has ends rest
   puts_kind (UWhat-F.Next y) pc stop eh at ex has ends rest = absurd (next_put (location_of l.locations l.frame.slots y) at)
@@ -249,7 +249,7 @@ module _ (codes : Codes) (most : ℕ) (short : AreBounded codes most) (n : ℕ) 
   Meets x pc = (slot : ℕ) × (fetch u (pc + 1) ≡ Some (Next slot)) × ((line : ℕ) (v : ℤ) → ComesToMark codes bound (machine (pc + 1 + 1) hs back line (stored_in slot v l)) (what_receive x v l))
 
   -- the meeting of a statement that assigns behind it
-  meets_first : (y z pc stop : ℕ) → (let x : UWhat-F UWhat UStmt = UWhat-F.AssignNext y z in out-UWhat s.what ≡ x → HasAt u n pc (point_what u.units x s.line pc) → stop ≡ pc + length (point_what u.units x s.line pc) → Stands u stop k
+  meets_first : (y z pc stop : ℕ) → (let x : UWhat-F UWhat UStmt = UWhat-F.AssignNext y z in out-UWhat s.what ≡ x → HasAt u n pc (point_what u.units x s.line pc) → stop ≡ pc + length (point_what u.units x s.line pc) → IsCodeOf u stop k
       → (line : ℕ) (v : ℤ) → ComesToMark codes bound (machine (pc + 1 + 1) hs back line (stored_in z v l)) (record (stored_in z v l) { frame = half l.frame }))
   meets_first y z pc stop ex has ends rest line v =
       let x : UWhat-F UWhat UStmt = UWhat-F.AssignNext y z in
@@ -273,11 +273,11 @@ module _ (codes : Codes) (most : ℕ) (short : AreBounded codes most) (n : ℕ) 
         count = 1;
         within = omega (arith, lt, some);
         comes = step codes m (mark kind.Quiet s.line n true) hm 0 ∙ ap (λ t. At (between_steps at hs back (record l' { frame = record l.frame { todo = t; halfway = true } }))) tail;
-        stands = record { told = subst (IsTold u.body) (sym same) told; here = subst (AtHalf u at) (sym same) stands; handles = hd; returns = r };
+        stands = record { told = subst (IsRestOf u.body) (sym same) told; here = subst (AtHalf u at) (sym same) stands; handles = hd; returns = r };
       }
 
-  meets_kind : (x : UWhat-F UWhat UStmt) (pc stop : ℕ) (c : NamedChannel) → l.frame.halfway ≡ false → what_stop x (statement_view l) ≡ AtNext c → out-UWhat s.what ≡ x → HasAt u n pc (point_what u.units x s.line pc) → stop ≡ pc + length (point_what u.units x s.line pc) → Stands u stop k → Meets x pc
-  meets_kind (UWhat-F.Next y) pc stop c eh at ex has ends rest = let e : stop ≡ pc + 1 + 1 = omega (arith, ends) in (y, has.1.0, λ line v. goes_on (UWhat-F.Next y) line (pc + 1 + 1) y v ex refl (subst (λ p. Stands u p k) e rest))
+  meets_kind : (x : UWhat-F UWhat UStmt) (pc stop : ℕ) (c : NamedChannel) → l.frame.halfway ≡ false → what_stop x (statement_view l) ≡ AtNext c → out-UWhat s.what ≡ x → HasAt u n pc (point_what u.units x s.line pc) → stop ≡ pc + length (point_what u.units x s.line pc) → IsCodeOf u stop k → Meets x pc
+  meets_kind (UWhat-F.Next y) pc stop c eh at ex has ends rest = let e : stop ≡ pc + 1 + 1 = omega (arith, ends) in (y, has.1.0, λ line v. goes_on (UWhat-F.Next y) line (pc + 1 + 1) y v ex refl (subst (λ p. IsCodeOf u p k) e rest))
   meets_kind (UWhat-F.AssignNext y z) pc stop c eh at ex has ends rest = (z, has.1.0, meets_first y z pc stop ex has ends rest)
   meets_kind (UWhat-F.NextAssign y e) pc stop c eh at ex has ends rest = absurd (quiet_next c (sym (ap (λ b. if b then at_next (location_of l.locations l.frame.slots y) else AtQuiet) eh) ∙ at))
   meets_kind (UWhat-F.Put o e) pc stop c eh at ex has ends rest = absurd (put_next l.holds_output c at)
@@ -293,8 +293,8 @@ module _ (codes : Codes) (most : ℕ) (short : AreBounded codes most) (n : ℕ) 
   meets_kind (UWhat-F.Call f) pc stop c eh at ex has ends rest = absurd (quiet_next c at)
   meets_kind (UWhat-F.Try a y z b) pc stop c eh at ex has ends rest = absurd (quiet_next c at)
 
-  meets_half : (x : UWhat-F UWhat UStmt) (pc stop : ℕ) (c : NamedChannel) → l.frame.halfway ≡ true → HasHalves x → what_stop x (statement_view l) ≡ AtNext c → out-UWhat s.what ≡ x → HasAt u (n + 1) pc (half_what x s.line pc) → stop ≡ pc + length (half_what x s.line pc) → Stands u stop k → Meets x pc
-  meets_half (UWhat-F.NextAssign y e) pc stop c eh is at ex has ends rest = let z : stop ≡ pc + 1 + 1 = omega (arith, ends) in (y, has.1.0, λ line v. goes_on (UWhat-F.NextAssign y e) line (pc + 1 + 1) y v ex refl (subst (λ p. Stands u p k) z rest))
+  meets_half : (x : UWhat-F UWhat UStmt) (pc stop : ℕ) (c : NamedChannel) → l.frame.halfway ≡ true → HasHalves x → what_stop x (statement_view l) ≡ AtNext c → out-UWhat s.what ≡ x → HasAt u (n + 1) pc (half_what x s.line pc) → stop ≡ pc + length (half_what x s.line pc) → IsCodeOf u stop k → Meets x pc
+  meets_half (UWhat-F.NextAssign y e) pc stop c eh is at ex has ends rest = let z : stop ≡ pc + 1 + 1 = omega (arith, ends) in (y, has.1.0, λ line v. goes_on (UWhat-F.NextAssign y e) line (pc + 1 + 1) y v ex refl (subst (λ p. IsCodeOf u p k) z rest))
   meets_half (UWhat-F.AssignNext y z) pc stop c eh is at ex has ends rest = absurd (quiet_next c (sym (ap (λ b. if b then AtQuiet else at_next (location_of l.locations l.frame.slots z)) eh) ∙ at))
   meets_half (UWhat-F.Declare t y e) pc stop c eh is at ex has ends rest = absurd is
   meets_half (UWhat-F.Assign y e) pc stop c eh is at ex has ends rest = absurd is
@@ -310,35 +310,35 @@ module _ (codes : Codes) (most : ℕ) (short : AreBounded codes most) (n : ℕ) 
   meets_half (UWhat-F.Throw y a) pc stop c eh is at ex has ends rest = absurd is
   meets_half (UWhat-F.Par bs) pc stop c eh is at ex has ends rest = absurd is
 
-puts_at : (codes : Codes) (most : ℕ) → AreBounded codes most → (l : LocalState) (pc : ℕ) (back : List ReturnPlace) (hs : List ℕ) (h : Bool) (todo : List Item) → l.frame.todo ≡ todo → l.frame.halfway ≡ h → IsTold (codes l.frame.unit).body todo → Here (codes l.frame.unit) pc todo h
+puts_at : (codes : Codes) (most : ℕ) → AreBounded codes most → (l : LocalState) (pc : ℕ) (back : List ReturnPlace) (hs : List ℕ) (h : Bool) (todo : List Item) → l.frame.todo ≡ todo → l.frame.halfway ≡ h → IsRestOf (codes l.frame.unit).body todo → IsPlaceOf (codes l.frame.unit) pc todo h
     → Handles (codes l.frame.unit) hs l.frame.places → Returns codes back l.callers → stmt_stop (next_stmt todo) (statement_view l) ≡ AtPut → DoesPut codes (room most (length l.callers)) (machine (pc + 1) hs back (line_of todo) l) (stmt_put (next_stmt todo) (statement_view l)) l
 puts_at codes most short l _ back hs false _ e eh told (at_end pc n h) hd r at = absurd (finish_put at)
 puts_at codes most short l _ back hs false _ e eh told (at_do pc n stop s k has rest) hd r at = puts_kind codes most short n s k l back hs r hd e told (out-UWhat s.what) pc stop eh at refl has.all has.ends rest
 puts_at codes most short l _ back hs true _ e eh told (at_half pc n stop s k ih has rest) hd r at = absurd (no_half_put codes most short n s k l back hs r hd e told (out-UWhat s.what) eh ih at)
 
-pub does_put : (codes : Codes) (most : ℕ) (l : LocalState) (pc : ℕ) (handlers : List ℕ) (back : List ReturnPlace) → AreBounded codes most → StandsFor codes pc handlers back l → stop l ≡ AtPut → DoesPut codes (room most (length l.callers)) (machine (pc + 1) handlers back (line_of l.frame.todo) l) (put_value l) l
+pub does_put : (codes : Codes) (most : ℕ) (l : LocalState) (pc : ℕ) (handlers : List ℕ) (back : List ReturnPlace) → AreBounded codes most → Corresponds codes pc handlers back l → stop l ≡ AtPut → DoesPut codes (room most (length l.callers)) (machine (pc + 1) handlers back (line_of l.frame.todo) l) (put_value l) l
 unfolding stop
 does_put codes most l pc handlers back short st at = puts_at codes most short l pc back handlers l.frame.halfway l.frame.todo refl refl st.told st.here st.handles st.returns (untrapped_put l.trap _ at)
 
-throws_at : (codes : Codes) (most : ℕ) → AreBounded codes most → (l : LocalState) (pc : ℕ) (back : List ReturnPlace) (hs : List ℕ) (h : Bool) (todo : List Item) (z : ℕ) → l.frame.todo ≡ todo → l.frame.halfway ≡ h → IsTold (codes l.frame.unit).body todo → Here (codes l.frame.unit) pc todo h
+throws_at : (codes : Codes) (most : ℕ) → AreBounded codes most → (l : LocalState) (pc : ℕ) (back : List ReturnPlace) (hs : List ℕ) (h : Bool) (todo : List Item) (z : ℕ) → l.frame.todo ≡ todo → l.frame.halfway ≡ h → IsRestOf (codes l.frame.unit).body todo → IsPlaceOf (codes l.frame.unit) pc todo h
     → Handles (codes l.frame.unit) hs l.frame.places → Returns codes back l.callers → stmt_stop (next_stmt todo) (statement_view l) ≡ AtThrow z → DoesThrow codes (room most (length l.callers)) (machine (pc + 1) hs back (line_of todo) l) z (stmt_thrown (next_stmt todo) (statement_view l)) l
 throws_at codes most short l _ back hs false _ z e eh told (at_end pc n h) hd r at = absurd (finish_throw z at)
 throws_at codes most short l _ back hs false _ z e eh told (at_do pc n stop s k has rest) hd r at = throws_kind codes most short n s k l back hs r hd e told (out-UWhat s.what) z pc stop eh at has.all
 throws_at codes most short l _ back hs true _ z e eh told (at_half pc n stop s k ih has rest) hd r at = absurd (no_half_throw codes most short n s k l back hs r hd e told (out-UWhat s.what) z eh ih at)
 
-pub does_throw : (codes : Codes) (most : ℕ) (l : LocalState) (pc : ℕ) (handlers : List ℕ) (back : List ReturnPlace) (z : ℕ) → AreBounded codes most → StandsFor codes pc handlers back l → stop l ≡ AtThrow z
+pub does_throw : (codes : Codes) (most : ℕ) (l : LocalState) (pc : ℕ) (handlers : List ℕ) (back : List ReturnPlace) (z : ℕ) → AreBounded codes most → Corresponds codes pc handlers back l → stop l ≡ AtThrow z
     → DoesThrow codes (room most (length l.callers)) (machine (pc + 1) handlers back (line_of l.frame.todo) l) z (thrown_value l) l
 unfolding stop
 does_throw codes most l pc handlers back z short st at = throws_at codes most short l pc back handlers l.frame.halfway l.frame.todo z refl refl st.told st.here st.handles st.returns (untrapped_throw l.trap _ z at)
 
-meets_at : (codes : Codes) (most : ℕ) → AreBounded codes most → (l : LocalState) (pc : ℕ) (back : List ReturnPlace) (hs : List ℕ) (h : Bool) (todo : List Item) (c : NamedChannel) → l.frame.todo ≡ todo → l.frame.halfway ≡ h → IsTold (codes l.frame.unit).body todo → Here (codes l.frame.unit) pc todo h
+meets_at : (codes : Codes) (most : ℕ) → AreBounded codes most → (l : LocalState) (pc : ℕ) (back : List ReturnPlace) (hs : List ℕ) (h : Bool) (todo : List Item) (c : NamedChannel) → l.frame.todo ≡ todo → l.frame.halfway ≡ h → IsRestOf (codes l.frame.unit).body todo → IsPlaceOf (codes l.frame.unit) pc todo h
     → Handles (codes l.frame.unit) hs l.frame.places → Returns codes back l.callers → stmt_stop (next_stmt todo) (statement_view l) ≡ AtNext c
     → (slot : ℕ) × (fetch (codes l.frame.unit) (pc + 1) ≡ Some (Next slot)) × ((line : ℕ) (v : ℤ) → ComesToMark codes (room most (length l.callers)) (machine (pc + 1 + 1) hs back line (stored_in slot v l)) (stmt_receive (next_stmt todo) v l))
 meets_at codes most short l _ back hs false _ c e eh told (at_end pc n h) hd r at = absurd (finish_next c at)
 meets_at codes most short l _ back hs false _ c e eh told (at_do pc n stop s k has rest) hd r at = meets_kind codes most short n s k l back hs r hd e told (out-UWhat s.what) pc stop c eh at refl has.all has.ends rest
 meets_at codes most short l _ back hs true _ c e eh told (at_half pc n stop s k ih has rest) hd r at = meets_half codes most short n s k l back hs r hd e told (out-UWhat s.what) pc stop c eh ih at refl has.0 has.1 rest
 
-pub does_meet : (codes : Codes) (most : ℕ) (l : LocalState) (pc : ℕ) (handlers : List ℕ) (back : List ReturnPlace) (c : NamedChannel) → AreBounded codes most → StandsFor codes pc handlers back l → stop l ≡ AtNext c → MeetsAt codes (room most (length l.callers)) pc handlers back l
+pub does_meet : (codes : Codes) (most : ℕ) (l : LocalState) (pc : ℕ) (handlers : List ℕ) (back : List ReturnPlace) (c : NamedChannel) → AreBounded codes most → Corresponds codes pc handlers back l → stop l ≡ AtNext c → MeetsAt codes (room most (length l.callers)) pc handlers back l
 unfolding stop receive
 does_meet codes most l pc handlers back c short st at =
     let m = meets_at codes most short l pc back handlers l.frame.halfway l.frame.todo c refl refl st.told st.here st.handles st.returns (untrapped_next l.trap _ c at) in

@@ -1,8 +1,8 @@
 -- The definitions of this crate, one module for each subject.
 pub mod Machine
-pub mod Stands
-pub mod Leads
-pub mod Comes
+pub mod Correspondence
+pub mod CodeRuns
+pub mod Simulation
 pub mod MarkStops
 pub mod Unwinds
 pub mod Forking

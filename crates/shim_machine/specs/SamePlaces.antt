@@ -5,7 +5,7 @@ use Rattle.shim_process.specs.Steps.{Action, Trapped, Wait, done}
 use Rattle.shim_code.specs.declared.machine_instr.Mark.{Mark as MarkOf}
 use Rattle.shim_code.specs.declared.machine_instr.MachineInstr.TheVariants.{Mark, Jump, Untry, End}
 use Rattle.shim_machine.specs.Machine.{At, CodedUnit, Codes, Machine, ReturnPlace, fetch, between_steps, run_code}
-use Rattle.shim_machine.specs.Comes.{ComesToTrap}
+use Rattle.shim_machine.specs.Simulation.{ComesToTrap}
 
 -- A place leads to that of a mark, or of the unit's end, past jumps and past the ends of so many `try` blocks.
 pub data JumpsTo (u : CodedUnit) : ℕ → ℕ → ℕ → Type 0 where

@@ -21,5 +21,6 @@ what_numbers _ = 1
 abbrev pub size_of : UStmt → ℕ
 size_of = fold-UStmt ℕ ℕ what_numbers (λ s. s.what)
 
+-- how many numbers these statements take
 abbrev pub size_all : List UStmt → ℕ
 size_all ss = total (map size_of ss)

@@ -48,6 +48,7 @@ declaration n = record { size = n; own = 1; forked = 0; inside = 0 }
 abbrev pub larger : ℕ → Extent → Extent
 larger n e = record { size = n + e.size; own = e.own; forked = e.forked; inside = e.inside }
 
+-- of two parts together
 abbrev pub both : Extent → Extent → Extent
 both a b = record { size = a.size + b.size; own = a.own + b.own; forked = a.forked + b.forked; inside = a.inside + b.inside }
 

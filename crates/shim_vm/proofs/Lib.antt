@@ -21,7 +21,7 @@ pub mod BackByCode
 pub mod Leaving
 pub mod Entering
 pub mod Bodies
-pub mod Stretches
+pub mod BurstSteps
 pub mod Sends
 pub mod Throwing
 pub mod MarkedStops

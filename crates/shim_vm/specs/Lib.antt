@@ -4,8 +4,8 @@ pub mod Gathering
 pub mod Actions
 pub mod Putting
 pub mod Places
-pub mod Landing
-pub mod Stretching
+pub mod Resuming
+pub mod Bursts
 pub mod MarkedStops
 pub mod KeptStops
 pub mod Fusing

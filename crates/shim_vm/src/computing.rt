@@ -91,7 +91,7 @@ impl Computation {
     /// Takes the arguments so far.
     pub fn take_given(&mut self) -> List<Argument>
         ensures given { arguments_of result ≡ self.old.given }
-        ensures place { self.new.place ≡ self.old.place }
+        ensures left { self.new ≡ record self.old { given = [] } }
     {
         let alloc = *self.given.allocator();
         List::from(replace(&mut self.given, Vec::new(alloc)))

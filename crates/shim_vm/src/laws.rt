@@ -9,9 +9,9 @@ ghost use Rattle.shim_process.specs.Stops.{stop};
 ghost use Rattle.shim_process.specs.Values.{Env, value};
 ghost use Rattle.shim_walk_frames.specs.Pieces.{left_all};
 ghost use Rattle.shim_code.specs.MachineCode.{machine_expr};
-ghost use Rattle.shim_machine.specs.Comes.{NextSuits};
+ghost use Rattle.shim_machine.specs.Simulation.{NextSuits};
 ghost use Rattle.shim_machine.specs.Machine.{CodedUnit};
-ghost use Rattle.shim_machine.specs.Stands.{HasAt, Here};
+ghost use Rattle.shim_machine.specs.Correspondence.{HasAt, IsPlaceOf};
 ghost use Rattle.shim_vm.specs.Actions.{EndAgrees};
 ghost use Rattle.shim_vm.specs.Computing.{Computation, Computed, Computes, computes_value};
 ghost use Rattle.shim_vm.specs.Gathering.{ComesToFork};
@@ -26,7 +26,7 @@ pub fn expressions_are_computed()
 /// the statement asks for, where the code of what comes then stands behind it; or it traps as the
 /// statement does. Or the statement isn't quiet.
 pub fn a_mark_leads_to_what_is_asked_for()
-    ensures { (u : CodedUnit) (l : LocalState) (place : ℕ) → u.units ≡ l.program.units → NextSuits l.frame.todo l → Here u place l.frame.todo l.frame.halfway → (next_action l ≡ Wait) ⊎ ((r : Computed) × (Computes (env_of l.locations l.frame.slots) l.frame.slots u.code (record { place = place + 1; stack = []; given = [] }) r × EndAgrees u l r (next_action l))) }
+    ensures { (u : CodedUnit) (l : LocalState) (place : ℕ) → u.units ≡ l.program.units → NextSuits l.frame.todo l → IsPlaceOf u place l.frame.todo l.frame.halfway → (next_action l ≡ Wait) ⊎ ((r : Computed) × (Computes (env_of l.locations l.frame.slots) l.frame.slots u.code (record { place = place + 1; stack = []; given = [] }) r × EndAgrees u l r (next_action l))) }
 {}
 
 /// Where a process of an accepted program stands at a number of its unit, a call there has an argument for
@@ -39,5 +39,5 @@ pub fn a_call_suits_its_unit()
 /// the fork of these, which makes the children that the definition says; or it traps as the first argument
 /// does that has no value. Behind the fork stands the code of what comes then.
 pub fn a_fork_gathers_its_branches()
-    ensures { (u : CodedUnit) (l : LocalState) (place : ℕ) → u.units ≡ l.program.units → NextSuits l.frame.todo l → Here u place l.frame.todo l.frame.halfway → stop l ≡ AtFork → ComesToFork u l (place + 1) }
+    ensures { (u : CodedUnit) (l : LocalState) (place : ℕ) → u.units ≡ l.program.units → NextSuits l.frame.todo l → IsPlaceOf u place l.frame.todo l.frame.halfway → stop l ≡ AtFork → ComesToFork u l (place + 1) }
 {}

@@ -8,7 +8,7 @@ ghost use Rattle.shim_machine.specs.MarkStops.{instr_stop, mark_stop};
 ghost use Rattle.shim_code.specs.declared.instr.MarkKind.TheVariants as kind;
 ghost use Rattle.shim_vm.specs.KeptStops.{is_kept_quiet, kept_view};
 ghost use Rattle.shim_vm.specs.MarkedStops.{fork_stop, meeting_stop, throw_label};
-ghost use Rattle.shim_vm.specs.Stretching.{is_quiet_kind, is_quiet_mark};
+ghost use Rattle.shim_vm.specs.Bursts.{is_quiet_kind, is_quiet_mark};
 
 use crate::instrs::instr_at;
 use shim_base::Trap;

@@ -870,12 +870,12 @@ impl Process {
     }
 
     /// The location of this number comes back from a child that took the location of the slot by reference.
-    pub fn take_back(&mut self, slot: u32, child: &Process, number: usize)
+    pub fn restore_from(&mut self, slot: u32, child: &Process, number: usize)
         ensures { self.new ≡ record self.old { locations = slice_set self.old.locations (number_of self.old.frame.slots slot) (with_back (at_number child.now.locations number) (at_number self.old.locations (number_of self.old.frame.slots slot))) } }
     {
         let back = location_at(child.locations(), number);
         let number = number_of(self.top.slots(), slot);
-        self.locations.regain(number, back);
+        self.locations.restore(number, back);
     }
 
     /// The streams come back from the children that have them.
@@ -887,7 +887,7 @@ impl Process {
     }
 
     // What the children of its last fork, given in order, took comes back.
-    fn regain<P: HasProcess>(&mut self, children: &[P])
+    fn restore<P: HasProcess>(&mut self, children: &[P])
         ensures { self.new ≡ joined self.old (map P.state children.now) }
     {
         let branches = branches_of(stmt_in(self.program.units(), &self.top));
@@ -902,7 +902,7 @@ impl Process {
     pub fn join<P: HasProcess>(&mut self, children: &[P], goes_on: bool)
         ensures { self.new ≡ join self.old (map P.state children.now) goes_on }
     {
-        self.regain(children);
+        self.restore(children);
         if goes_on {
             self.go(Successor::On);
         }
