@@ -1,32 +1,32 @@
--- What is told of a source that isn't run, and what is done for a job whose mode has a task.
+-- What is printed of a source that isn't run, and what is done for a job whose mode has a task.
 use Rattle.std.specs.Prelude.{ℕ, ◌≡◌, List}
 use Rattle.shim_command.specs.declared.job.Job.{Job}
 use Rattle.shim_command.specs.declared.mode.Course.TheVariants.{ByFirstEvents}
 use Rattle.shim_command.specs.declared.mode.Task.{Task}
-use Rattle.shim_command.specs.declared.mode.Task.TheVariants.{Explains, Records, Replays, Runs, RunsEach, Tells}
-use Rattle.shim_command.specs.declared.mode.Telling.{Telling}
-use Rattle.shim_command.specs.declared.mode.Telling.TheVariants.{Functions, Instructions, Version2}
+use Rattle.shim_command.specs.declared.mode.Task.TheVariants.{Explains, Records, Replays, Runs, RunsEach, Describes}
+use Rattle.shim_command.specs.declared.mode.Description.{Description}
+use Rattle.shim_command.specs.declared.mode.Description.TheVariants.{Functions, Instructions, Version2}
 use Rattle.shim_syntax.specs.declared.Program.{Program}
 use Rattle.shim_front_end.specs.Source.{Source}
 use Rattle.shim_code.specs.Listing.{listing}
 use Rattle.shim_code.specs.Programs.{code_units}
 use Rattle.shim_results.specs.Reasons.{report_with_reasons}
-use Rattle.shim_results.specs.SourceActions.{SourceAction, runs, tells, records, replays, runs_each, accepted_line, shown_of, IsTextInVersion2}
-use Rattle.shim_results.specs.Answer.{Answer, AnswersTelling, OfBytes, refused}
+use Rattle.shim_results.specs.SourceActions.{SourceAction, runs, describes, records, replays, runs_each, accepted_line, shown_of, IsTextInVersion2}
+use Rattle.shim_results.specs.Answer.{Answer, AnswersDescription, OfBytes, refused}
 
 -- the code of its units as text
 abbrev pub code_text : Source → List ℕ
 code_text source = listing (code_units source.units)
 
--- what is told of a source
-abbrev pub telling_of : Telling → Program → Source → List ℕ → Type 0
-telling_of Functions program source text = text ≡ accepted_line source
-telling_of Instructions program source text = text ≡ code_text source
-telling_of Version2 program source text = IsTextInVersion2 program text
+-- what is printed of a source
+abbrev pub description_of : Description → Program → Source → List ℕ → Type 0
+description_of Functions program source text = text ≡ accepted_line source
+description_of Instructions program source text = text ≡ code_text source
+description_of Version2 program source text = IsTextInVersion2 program text
 
--- a source of which something is told
-abbrev pub AnswersTold : Telling → List ℕ → Answer → Type 0
-AnswersTold telling bytes answer = OfBytes (AnswersTelling (telling_of telling)) (λ fault a. a ≡ refused fault) bytes answer
+-- a source of which something is printed, and which isn't run
+abbrev pub AnswersDescribedSource : Description → List ℕ → Answer → Type 0
+AnswersDescribedSource description bytes answer = OfBytes (AnswersDescription (description_of description)) (λ fault a. a ≡ refused fault) bytes answer
 
 -- what was read beside a source; what wasn't there to be read is empty
 pub record Beside : Type 0 where
@@ -39,7 +39,7 @@ pub record Beside : Type 0 where
 
 -- what is done for a job whose mode has this task, with what was read beside its source
 abbrev pub action_by : Task → Job → Beside → SourceAction
-action_by (Tells telling) job beside = tells (telling_of telling)
+action_by (Describes description) job beside = describes (description_of description)
 action_by (Runs course showing) job beside = runs course (shown_of showing job)
 action_by Explains job beside = runs ByFirstEvents report_with_reasons
 action_by Records job beside = records

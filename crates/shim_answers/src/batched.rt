@@ -76,7 +76,7 @@ fn ends_of(alloc: Global, source: &Accepted, done: List<Net<Body>>) -> Result<Li
     Ok(ends)
 }
 
-// The greatest of the statuses that tell how runs ended.
+// The greatest of the statuses that say how runs ended.
 fn greatest_status(ends: &[Ended]) -> ExitStatus
     ensures { exit_code result ≡ greatest (statuses_of ends.now) }
 {

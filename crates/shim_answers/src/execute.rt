@@ -1,12 +1,12 @@
-// What is told of a source, run or not.
+// What is printed of a source, run or not.
 ghost use Rattle.std.specs.Prelude.{◌≡◌, ◌≤◌, ◌⊎◌, IfOk, length};
 ghost use Rattle.shim_net.specs.Nets.{IsNet};
 ghost use Rattle.shim_net.specs.Standings.{IsQuiescentNet, IsSpentNet};
 ghost use Rattle.shim_command.specs.Jobs.{IsWithin};
 ghost use Rattle.shim_command.specs.declared.mode.Course.TheVariants as courses;
-ghost use Rattle.shim_command.specs.declared.mode.Telling.TheVariants as tellings;
+ghost use Rattle.shim_command.specs.declared.mode.Description.TheVariants as descriptions;
 ghost use Rattle.shim_results.specs.Answer.{AnswersRecord, AnswersRun};
-ghost use Rattle.shim_answers.specs.Tasks.{AnswersTold};
+ghost use Rattle.shim_answers.specs.Tasks.{AnswersDescribedSource};
 ghost use Rattle.shim_results.specs.SourceActions.{accepted_line, executed, functions_from, shown_of, IsTextInVersion2};
 ghost use Rattle.shim_results.specs.RunEnds.{IsEnd};
 ghost use Rattle.shim_answers.specs.EndedNets.{IsEndedNet};
@@ -15,7 +15,7 @@ ghost use Rattle.shim_results.specs.Views.{answer_view};
 use crate::runs::{PreparedRun, RunToRecord};
 use shim_base::{List, NoMemory, Shared, push_decimal};
 use shim_code::{compile, listing};
-use shim_command::{Job, Telling};
+use shim_command::{Description, Job};
 use shim_front_end::{read_program, read_source};
 use shim_local::Local;
 use shim_net::Net;
@@ -93,7 +93,7 @@ fn end_of_code<G: Gate, R: Threads + Wait + Sync>(
 }
 
 /// Does a run that was left to be done, its processes on at most as many threads as the job has workers,
-/// and tells how it ended.
+/// and answers how it ended.
 pub fn answer_run<G: Gate, R: Threads + Wait + Sync>(
     rt: &R,
     alloc: Global,
@@ -149,7 +149,7 @@ fn function_count(units: &[Unit]) -> usize
     units.len()
 }
 
-// The line that tells how many functions a source has.
+// The line that says how many functions a source has.
 #[tactic(auto, unfolding(shim_results::specs::SourceActions::accepted_line))]
 fn count_line(alloc: Global, source: &Accepted) -> Result<List<u8>, NoMemory>
     ensures { IfOk result (λ text. text ≡ accepted_line source.now) }
@@ -169,7 +169,7 @@ fn text_in_version_2(alloc: Global, program: &Program) -> Result<List<u8>, NoMem
     print(alloc, &newer)
 }
 
-// The answer with what is told of a source.
+// The answer with what is printed of a source.
 fn told(text: List<u8>) -> Answer
     ensures { answer_view result ≡ record { status = 0; text = text } }
 {
@@ -179,10 +179,10 @@ fn told(text: List<u8>) -> Answer
     }
 }
 
-// Tells that the source in a text is accepted.
+// Answers that the source in a text is accepted.
 fn answer_check(alloc: Global, bytes: &[u8]) -> Result<Answer, NoMemory>
     requires short { length bytes.now ≤ 1048576 }
-    ensures { IfOk result (λ a. AnswersTold tellings.Functions bytes.now (answer_view a)) }
+    ensures { IfOk result (λ a. AnswersDescribedSource descriptions.Functions bytes.now (answer_view a)) }
 {
     match read_source(alloc, bytes) {
         Ok(source) => Ok(told(count_line(alloc, &source)?)),
@@ -190,10 +190,10 @@ fn answer_check(alloc: Global, bytes: &[u8]) -> Result<Answer, NoMemory>
     }
 }
 
-// Tells the code of the source in a text.
+// Answers with the code of the source in a text.
 fn answer_code(alloc: Global, bytes: &[u8]) -> Result<Answer, NoMemory>
     requires short { length bytes.now ≤ 1048576 }
-    ensures { IfOk result (λ a. AnswersTold tellings.Instructions bytes.now (answer_view a)) }
+    ensures { IfOk result (λ a. AnswersDescribedSource descriptions.Instructions bytes.now (answer_view a)) }
 {
     match read_source(alloc, bytes) {
         Ok(source) => Ok(told(listing(alloc, &source)?)),
@@ -201,10 +201,10 @@ fn answer_code(alloc: Global, bytes: &[u8]) -> Result<Answer, NoMemory>
     }
 }
 
-// Tells what the program of a text is in version 2.
+// Answers with what the program of a text is in version 2.
 fn answer_up(alloc: Global, bytes: &[u8]) -> Result<Answer, NoMemory>
     requires short { length bytes.now ≤ 1048576 }
-    ensures { IfOk result (λ a. AnswersTold tellings.Version2 bytes.now (answer_view a)) }
+    ensures { IfOk result (λ a. AnswersDescribedSource descriptions.Version2 bytes.now (answer_view a)) }
 {
     match read_program(alloc, bytes) {
         Ok(program) => Ok(told(text_in_version_2(alloc, &program)?)),
@@ -212,14 +212,18 @@ fn answer_up(alloc: Global, bytes: &[u8]) -> Result<Answer, NoMemory>
     }
 }
 
-/// Tells something of the source in a text, which isn't run.
-pub fn answer_telling(alloc: Global, telling: Telling, bytes: &[u8]) -> Result<Answer, NoMemory>
+/// Answers with a description of the source in a text, which isn't run.
+pub fn answer_description(
+    alloc: Global,
+    description: Description,
+    bytes: &[u8],
+) -> Result<Answer, NoMemory>
     requires short { length bytes.now ≤ 1048576 }
-    ensures { IfOk result (λ a. AnswersTold telling bytes.now (answer_view a)) }
+    ensures { IfOk result (λ a. AnswersDescribedSource description bytes.now (answer_view a)) }
 {
-    match telling {
-        Telling::Functions => answer_check(alloc, bytes),
-        Telling::Instructions => answer_code(alloc, bytes),
-        Telling::Version2 => answer_up(alloc, bytes),
+    match description {
+        Description::Functions => answer_check(alloc, bytes),
+        Description::Instructions => answer_code(alloc, bytes),
+        Description::Version2 => answer_up(alloc, bytes),
     }
 }

@@ -1,4 +1,4 @@
-//! What is told of a source, of its code and of runs of that.
+//! What is printed of a source, of its code and of its runs.
 #![tactic(auto)]
 
 mod batched;
@@ -9,6 +9,6 @@ mod runs;
 pub mod tied;
 
 pub use batched::answer_each;
-pub use execute::{answer_record, answer_run, answer_telling};
+pub use execute::{answer_description, answer_record, answer_run};
 pub use replayed::answer_replay;
 pub use runs::{PreparedRun, RunOfEach, RunToRecord};

@@ -1,4 +1,4 @@
-// What a source comes to that is run as a journal tells.
+// What a source comes to that is run as a journal records it.
 ghost use Rattle.std.specs.Prelude.{◌≡◌, ◌≤◌, IfOk, length};
 ghost use Rattle.shim_process.specs.Ops.{process_ops};
 ghost use Rattle.shim_reference.specs.Naming as naming;

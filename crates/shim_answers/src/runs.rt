@@ -7,7 +7,7 @@ use shim_sharing::Accepted;
 #[derive(Drop)]
 pub struct PreparedRun {
     pub job: Job,
-    /// What is told of how the run ended.
+    /// What is printed of how the run ended.
     pub showing: Showing,
     pub source: Accepted,
     pub input: List<u8>,
@@ -22,7 +22,7 @@ pub struct RunOfEach {
     pub inputs: List<List<u8>>,
 }
 
-/// A run that workers are to do, of which the journal is told.
+/// A run that workers are to do, of which the journal is printed.
 #[derive(Drop)]
 pub struct RunToRecord {
     pub job: Job,

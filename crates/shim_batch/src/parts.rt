@@ -25,7 +25,7 @@ pub(crate) fn cut<T: Drop>(
     Ok(parts)
 }
 
-/// The values of all parts in order. Where a part wants memory, so does the whole.
+/// The values of all parts in order. Where a part is out of memory, so is the whole.
 pub(crate) fn join<T: Drop>(
     alloc: Global,
     parts: Vec<Result<List<T>, NoMemory>>,

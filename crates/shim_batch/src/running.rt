@@ -46,7 +46,7 @@ fn run_part<L: Local, G: Gate, R: Threads + Sync>(
 
 /// Runs each of 1 to 64 nets as `rounds` does by one worker: until no event is enabled in it or its budget is
 /// spent. At most as many of them run at a time as there are workers, and they come out in the order in which
-/// they went in. Where one wants memory, so does the whole.
+/// they went in. Where one is out of memory, so is the whole.
 pub fn batch<L: Local, G: Gate, R: Threads + Sync>(
     rt: &R,
     alloc: Global,

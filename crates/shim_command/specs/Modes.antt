@@ -7,11 +7,11 @@ use Rattle.shim_command.specs.declared.mode.Origin.{Origin}
 use Rattle.shim_command.specs.declared.mode.Origin.TheVariants.{Stored, Generated}
 use Rattle.shim_command.specs.declared.mode.Extra.{Extra}
 use Rattle.shim_command.specs.declared.mode.Extra.TheVariants.{Nothing, Input, InputAndJournal, Inputs}
-use Rattle.shim_command.specs.declared.mode.Telling.TheVariants.{Functions, Instructions, Version2}
+use Rattle.shim_command.specs.declared.mode.Description.TheVariants.{Functions, Instructions, Version2}
 use Rattle.shim_command.specs.declared.mode.Course.TheVariants.{ByFirstEvents, InSomeOrder}
 use Rattle.shim_command.specs.declared.mode.Showing.TheVariants.{Report, Summary}
 use Rattle.shim_command.specs.declared.mode.Task.{Task}
-use Rattle.shim_command.specs.declared.mode.Task.TheVariants.{Tells, Runs, Explains, Records, Replays, RunsEach}
+use Rattle.shim_command.specs.declared.mode.Task.TheVariants.{Describes, Runs, Explains, Records, Replays, RunsEach}
 use Rattle.shim_command.specs.declared.mode.ModeRow.{ModeRow as Made}
 
 pub record ModeRow : Type 0 where
@@ -27,10 +27,10 @@ pub record ModeRow : Type 0 where
 abbrev pub row_of : Mode → ModeRow
 row_of Run = record { word = codes "run"; origin = Stored; beside = Input; task = Runs InSomeOrder Report }
 row_of Reference = record { word = codes "ref"; origin = Stored; beside = Input; task = Runs ByFirstEvents Report }
-row_of Check = record { word = codes "check"; origin = Stored; beside = Nothing; task = Tells Functions }
-row_of Code = record { word = codes "code"; origin = Stored; beside = Nothing; task = Tells Instructions }
+row_of Check = record { word = codes "check"; origin = Stored; beside = Nothing; task = Describes Functions }
+row_of Code = record { word = codes "code"; origin = Stored; beside = Nothing; task = Describes Instructions }
 row_of Gen = record { word = codes "gen"; origin = Generated; beside = Nothing; task = Runs InSomeOrder Summary }
-row_of Up = record { word = codes "up"; origin = Stored; beside = Nothing; task = Tells Version2 }
+row_of Up = record { word = codes "up"; origin = Stored; beside = Nothing; task = Describes Version2 }
 row_of Trace = record { word = codes "trace"; origin = Stored; beside = Input; task = Records }
 row_of Replay = record { word = codes "replay"; origin = Stored; beside = InputAndJournal; task = Replays }
 row_of Why = record { word = codes "why"; origin = Stored; beside = Input; task = Explains }

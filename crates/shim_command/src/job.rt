@@ -1,8 +1,8 @@
-// What the words ask for, and why they may ask for nothing.
+// What the arguments ask for, and why they may ask for nothing.
 use crate::mode::Mode;
 use shim_base::{List, NoMemory};
 
-/// What the words ask for. An option that was not given has its default.
+/// What the arguments ask for. An option that was not given has its default.
 #[derive(Debug, Drop)]
 pub struct Job {
     pub mode: Mode,

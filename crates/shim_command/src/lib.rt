@@ -8,6 +8,6 @@ mod mode;
 mod words;
 
 pub use job::{Job, WordsFault};
-pub use mode::{Course, Extra, Mode, ModeRow, Origin, Showing, Task, Telling};
+pub use mode::{Course, Description, Extra, Mode, ModeRow, Origin, Showing, Task};
 pub use shim_generator::Kind;
 pub use words::read_words;

@@ -41,9 +41,9 @@ pub enum Extra {
     Inputs,
 }
 
-/// What is told of a source that isn't run.
+/// What is printed of a source that isn't run.
 #[derive(Clone, Copy, Debug, PartialEq, Eq)]
-pub enum Telling {
+pub enum Description {
     /// How many functions it has.
     Functions,
     /// The instructions that it is compiled to.
@@ -61,7 +61,7 @@ pub enum Course {
     InSomeOrder,
 }
 
-/// What is told of a run.
+/// What is printed of a run.
 #[derive(Clone, Copy, Debug, PartialEq, Eq)]
 pub enum Showing {
     Report,
@@ -71,17 +71,17 @@ pub enum Showing {
 /// What is done with a source that is accepted.
 #[derive(Clone, Copy, Debug, PartialEq, Eq)]
 pub enum Task {
-    /// Something is told of it, and nothing is run.
-    Tells(Telling),
-    /// It is run, and something is told of how that ended.
+    /// Something is printed of it, and nothing is run.
+    Describes(Description),
+    /// It is run, and something is printed of how that ended.
     Runs(Course, Showing),
-    /// Its meaning is told, and of a meaning that is blocked who waits for whom.
+    /// Its meaning is printed, and of a blocked one who waits for whom.
     Explains,
-    /// It is run by workers, and the journal of what they did is told.
+    /// It is run by workers, and the journal of what they did is printed.
     Records,
-    /// It is run as a journal tells, and the report of that is told.
+    /// It is run as a journal records it, and the report of that is printed.
     Replays,
-    /// It is run by workers once on each input, and the reports of these runs are told in order.
+    /// It is run by workers once on each input, and the reports of these runs are printed in order.
     RunsEach,
 }
 
@@ -149,10 +149,18 @@ impl Mode {
                 Extra::Input,
                 Task::Runs(Course::ByFirstEvents, Showing::Report),
             ),
-            Mode::Check => stored("check", Extra::Nothing, Task::Tells(Telling::Functions)),
-            Mode::Code => stored("code", Extra::Nothing, Task::Tells(Telling::Instructions)),
+            Mode::Check => stored(
+                "check",
+                Extra::Nothing,
+                Task::Describes(Description::Functions),
+            ),
+            Mode::Code => stored(
+                "code",
+                Extra::Nothing,
+                Task::Describes(Description::Instructions),
+            ),
             Mode::Gen => generated("gen", Task::Runs(Course::InSomeOrder, Showing::Summary)),
-            Mode::Up => stored("up", Extra::Nothing, Task::Tells(Telling::Version2)),
+            Mode::Up => stored("up", Extra::Nothing, Task::Describes(Description::Version2)),
             Mode::Trace => stored("trace", Extra::Input, Task::Records),
             Mode::Replay => stored("replay", Extra::InputAndJournal, Task::Replays),
             Mode::Why => stored("why", Extra::Input, Task::Explains),

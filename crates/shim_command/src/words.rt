@@ -1,4 +1,4 @@
-// Reads the words: what `clap` finds in them, and the job that this is.
+// Reads the arguments: what `clap` finds in them, and the job that this is.
 ghost use Rattle.std.specs.Prelude.{◌≡◌, ℕ, IfOk, Some, codes, map, option_map};
 ghost use Rattle.clap.specs.Words.{first_of, found_of, kind_of, matches_of, one_of, rows_of};
 ghost use Rattle.shim_command.specs.Command.{shim_app};
@@ -156,7 +156,7 @@ fn fault_of(error: &Error) -> WordsFault
     }
 }
 
-/// Reads the words, the first of which is the program's own name. `Refused` comes exactly where they have no job:
+/// Reads the arguments, the first of which is the program's own name. `Refused` comes exactly where they have no job:
 /// `clap` finds a fault in them, or MODE names no mode, or its source is generated and FILE names no kind, or it
 /// reads a journal and none is named, or the number of INPUT words is none that the mode takes: 1 to 64 where it
 /// runs a source on several inputs, else 0. A job has what `clap` finds in the words for each argument, with a

@@ -1,4 +1,4 @@
-// The line that tells why a source is refused.
+// The line that says why a source is refused.
 ghost use Rattle.std.specs.Prelude.{◌≡◌, ◌≢◌, IfOk};
 ghost use Rattle.shim_parser.specs.declared.ParseFault.TheVariants as faults;
 ghost use Rattle.shim_scopes.specs.declared.ScopeFault.TheVariants as scope_faults;
@@ -83,7 +83,7 @@ fn sharing(alloc: Global, fault: &ShareFault) -> Result<List<u8>, NoMemory>
     }
 }
 
-/// The line that tells of a fault, with its line feed. Want of memory has no line: it is answered as
+/// The line of a fault, with its line feed. Out of memory has no line: it is answered as
 /// itself.
 pub fn fault_text(alloc: Global, fault: &SourceFault) -> Result<List<u8>, NoMemory>
     ensures line { IfOk result (λ text. text ≡ refusal_text fault.now) }

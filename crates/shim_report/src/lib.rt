@@ -1,4 +1,4 @@
-//! Reports: the text of a run, and the lines that tell why a source is refused.
+//! Reports: the text of a run, and the lines that say why a source is refused.
 #![tactic(auto)]
 
 mod fault;

@@ -18,7 +18,7 @@ fn begun(alloc: Global, line: u32, cause: &str) -> Result<List<u8>, NoMemory>
     Ok(text)
 }
 
-/// The line of a cause that stands at a place of the source.
+/// The line of a cause that is at a place of the source.
 #[tactic(auto, unfolding(crate::specs::Refusal::refusal_with_place))]
 pub(crate) fn line_with_place(
     alloc: Global,
@@ -35,7 +35,7 @@ pub(crate) fn line_with_place(
     Ok(text)
 }
 
-/// The line of a cause that stands at a name.
+/// The line of a cause that is at a name.
 #[tactic(auto, unfolding(crate::specs::Refusal::refusal_with_name))]
 pub(crate) fn line_with_name(
     alloc: Global,

@@ -22,7 +22,7 @@ use Rattle.shim_laws_schedules.proofs.Longer.{event_longer, longer_further, long
 use Rattle.shim_laws_schedules.proofs.Orders.{rounds_lead}
 use Rattle.shim_reference.proofs.RootChannels.{main_shares_its_own}
 use Rattle.shim_results.specs.RunEnds.{AreComparable, BeginAlike, Execution, IsBeginning, IsStoppedAt, IsStoppedEnd, LeadsTo, read_off, status_of, tree_of}
-use Rattle.shim_results.proofs.Causes.{spent_steps, tells_spent}
+use Rattle.shim_results.proofs.Causes.{spent_steps, decides_spent}
 use Rattle.shim_results.proofs.TreeEnds.{end_is, tree_is}
 use Rattle.shim_results.proofs.Reached.{is_reached_whole}
 
@@ -36,7 +36,7 @@ begins_by x t own (es, leads, many) =
 
 -- the meaning, where it is stopped
 meaning_stopped : (x : Execution) → UsesOwnSlots x.source → status_of x ≡ 4 → IsStoppedAt x (tree_of x)
-meaning_stopped x own four = record { reached = is_reached_whole x own four; counted = spent_steps x own four; goes_on = tells_spent.only x own four }
+meaning_stopped x own four = record { reached = is_reached_whole x own four; counted = spent_steps x own four; goes_on = decides_spent.only x own four }
 
 -- what is told of a stopped run is read off such a tree
 pub stopped_tree : (course : Course) (x : Execution) (e : Ended) → UsesOwnSlots x.source → status_of x ≡ 4 → IsStoppedEnd course x e

@@ -90,7 +90,7 @@ never_spent (Ended l) e = omega (arith, e)
 never_spent (Dead l d) e = let one = dead_status d.label in omega (arith, e, one)
 
 -- of a source whose units use slots of their own, the status comes exactly where this is so
-pub record Tells (status : ℕ) (Cause : Execution → Type 0) : Type 0 where
+pub record DecidesCause (status : ℕ) (Cause : Execution → Type 0) : Type 0 where
   pub only : (x : Execution) → UsesOwnSlots x.source → status_of x ≡ status → Cause x
   pub when : (x : Execution) → UsesOwnSlots x.source → Cause x → status_of x ≡ status
 
@@ -98,32 +98,32 @@ pub record Tells (status : ℕ) (Cause : Execution → Type 0) : Type 0 where
 abbrev RestsSo : (Node LocalState → Bool) → Execution → Type 0
 RestsSo kind x = IsQuiescent process_ops (tree_of x) × IsTrue (kind (tree_of x).root)
 
-rest_tells : (status : ℕ) (kind : Node LocalState → Bool) → (status ≡ 4 → ⊥) → ((n : Node LocalState) → IsTrue (kind n) ↔ (status_of_outcome (outcome_of_root n) ≡ status)) → Tells status (RestsSo kind)
-rest_tells status kind apart tells = record { only = λ x own is. only x (was_run x own) is; when = λ x own cause. when x (was_run x own) cause } where
+rest_decides : (status : ℕ) (kind : Node LocalState → Bool) → (status ≡ 4 → ⊥) → ((n : Node LocalState) → IsTrue (kind n) ↔ (status_of_outcome (outcome_of_root n) ≡ status)) → DecidesCause status (RestsSo kind)
+rest_decides status kind apart decides = record { only = λ x own is. only x (was_run x own) is; when = λ x own cause. when x (was_run x own) cause } where
   only : (x : Execution) → IsEndOfRun process_ops x.budget (tree_of x) → status_of x ≡ status → RestsSo kind x
-  only x (inl (none, quiet)) is = (quiet, (tells (tree_of x).root).1 (sym (status_at_rest x none) ∙ is))
+  only x (inl (none, quiet)) is = (quiet, (decides (tree_of x).root).1 (sym (status_at_rest x none) ∙ is))
   only x (inr (some, busy, full)) is = absurd (apart (sym is ∙ status_stopped x some))
 
   when : (x : Execution) → IsEndOfRun process_ops x.budget (tree_of x) → RestsSo kind x → status_of x ≡ status
-  when x (inl (none, quiet)) cause = status_at_rest x none ∙ (tells (tree_of x).root).0 cause.1
+  when x (inl (none, quiet)) cause = status_at_rest x none ∙ (decides (tree_of x).root).0 cause.1
   when x (inr (some, busy, full)) cause = absurd (busy cause.0)
 
-pub tells_done : Tells 0 IsDone
-tells_done = rest_tells 0 has_ended (λ e. omega (arith, e)) root_ended
+pub decides_done : DecidesCause 0 IsDone
+decides_done = rest_decides 0 has_ended (λ e. omega (arith, e)) root_ended
 
-pub tells_failed : Tells 1 IsFailed
-tells_failed = rest_tells 1 is_dead (λ e. omega (arith, e)) root_died
+pub decides_failed : DecidesCause 1 IsFailed
+decides_failed = rest_decides 1 is_dead (λ e. omega (arith, e)) root_died
 
-pub tells_blocked : Tells 3 IsBlocked
-tells_blocked = rest_tells 3 goes (λ e. omega (arith, e)) root_goes
+pub decides_blocked : DecidesCause 3 IsBlocked
+decides_blocked = rest_decides 3 goes (λ e. omega (arith, e)) root_goes
 
 -- so a run of first events that comes to be blocked came to rest, and its root goes on
 pub blocked_rests : (x : Execution) → IsEndOfRun process_ops x.budget (tree_of x) → (end_of x).outcome ≡ Blocked → IsBlocked x
 blocked_rests x (inl (none, quiet)) is = (quiet, (root_goes (tree_of x).root).1 (sym (status_at_rest x none) ∙ ap status_of_outcome is))
 blocked_rests x (inr (some, busy, full)) is = absurd (let three : status_of x ≡ 3 = ap status_of_outcome is in omega (arith, three, status_stopped x some))
 
-pub tells_spent : Tells 4 IsSpent
-tells_spent = record { only = λ x own is. only x (was_run x own) is; when = λ x own cause. when x (was_run x own) cause } where
+pub decides_spent : DecidesCause 4 IsSpent
+decides_spent = record { only = λ x own is. only x (was_run x own) is; when = λ x own cause. when x (was_run x own) cause } where
   only : (x : Execution) → IsEndOfRun process_ops x.budget (tree_of x) → status_of x ≡ 4 → IsSpent x
   only x (inl (none, quiet)) is = absurd (never_spent (tree_of x).root (sym (status_at_rest x none) ∙ is))
   only x (inr (some, busy, full)) is = busy

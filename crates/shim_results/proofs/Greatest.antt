@@ -4,7 +4,7 @@ use Rattle.std.proofs.lemmas.List.Elements.{All-cons, All-head, All-nil, All-tai
 use Rattle.shim_process.specs.OwnSlots.{UsesOwnSlots}
 use Rattle.shim_results.specs.RunEnds.{Execution, end_of, status_of, IsBlocked, IsDone, IsFailed, IsSpent}
 use Rattle.shim_results.specs.Batches.{greatest}
-use Rattle.shim_results.proofs.Causes.{Tells, tells_blocked, tells_done, tells_failed, tells_spent}
+use Rattle.shim_results.proofs.Causes.{DecidesCause, decides_blocked, decides_done, decides_failed, decides_spent}
 use Rattle.shim_results.proofs.Statuses.{end_below, end_not_two}
 
 larger : (m n : ℕ) → (max m n ≡ m) ⊎ (max m n ≡ n)
@@ -67,30 +67,30 @@ module _ (xs : List Execution) (own : All (λ x. UsesOwnSlots x.source) xs) wher
   top = greatest (map status_of xs)
 
   -- one has the status where one has its cause
-  one_by : (n : ℕ) (Cause : Execution → Type 0) → Tells n Cause → Any (λ x. status_of x ≡ n) xs → Any Cause xs
+  one_by : (n : ℕ) (Cause : Execution → Type 0) → DecidesCause n Cause → Any (λ x. status_of x ≡ n) xs → Any Cause xs
   one_by n Cause tell (k, x, below, at, is) = (k, x, below, at, tell.only x (subst (λ (y : Execution). UsesOwnSlots y.source) at (own k x below)) is)
 
-  has_one : (n : ℕ) (Cause : Execution → Type 0) → Tells n Cause → Any Cause xs → Any (λ x. status_of x ≡ n) xs
+  has_one : (n : ℕ) (Cause : Execution → Type 0) → DecidesCause n Cause → Any Cause xs → Any (λ x. status_of x ≡ n) xs
   has_one n Cause tell (k, x, below, at, cause) = (k, x, below, at, tell.when x (subst (λ (y : Execution). UsesOwnSlots y.source) at (own k x below)) cause)
 
   -- one has the cause of the greatest
-  top_by : (n : ℕ) (Cause : Execution → Type 0) → Tells n Cause → 1 ≤ n → top ≡ n → Any Cause xs
+  top_by : (n : ℕ) (Cause : Execution → Type 0) → DecidesCause n Cause → 1 ≤ n → top ≡ n → Any Cause xs
   top_by n Cause tell some is = one_by n Cause tell (any_weaker (λ x. status_of x ≡ top) (λ x. status_of x ≡ n) (λ x e. e ∙ is) xs (one_has status_of xs (omega (arith, some, is))))
 
   -- and none that of a greater one
-  none_by : (n : ℕ) (Cause : Execution → Type 0) → Tells n Cause → suc top ≤ n → Any Cause xs → ⊥
+  none_by : (n : ℕ) (Cause : Execution → Type 0) → DecidesCause n Cause → suc top ≤ n → Any Cause xs → ⊥
   none_by n Cause tell over cause = above (has_one n Cause tell cause) where
     above : Any (λ x. status_of x ≡ n) xs → ⊥
     above (k, x, below, at, is) = let low : status_of x ≤ top = subst (λ (y : Execution). status_of y ≤ top) at (none_greater status_of xs k x below) in omega (arith, low, over, is)
 
   -- no one at a place has the status, where no one has its cause
-  not_at : (n : ℕ) (Cause : Execution → Type 0) → Tells n Cause → (Any Cause xs → ⊥) → (k : ℕ) (d : Execution) → k < length xs → status_of (slice_index_or xs k d) ≡ n → ⊥
+  not_at : (n : ℕ) (Cause : Execution → Type 0) → DecidesCause n Cause → (Any Cause xs → ⊥) → (k : ℕ) (d : Execution) → k < length xs → status_of (slice_index_or xs k d) ≡ n → ⊥
   not_at n Cause tell none k d below is = none (one_by n Cause tell (k, slice_index_or xs k d, below, any_default xs k (slice_index_or xs k d) d below, is))
 
   pub all_done : (top ≡ 0) ↔ All IsDone xs
   all_done = (
-    λ is k d below. let few = none_greater status_of xs k d below in tells_done.only (slice_index_or xs k d) (own k d below) (omega (arith, few, is)),
-    λ done. let few = greatest_within status_of 0 xs (λ k d below. let is = tells_done.when (slice_index_or xs k d) (own k d below) (done k d below) in omega (arith, is)) in omega (arith, few),
+    λ is k d below. let few = none_greater status_of xs k d below in decides_done.only (slice_index_or xs k d) (own k d below) (omega (arith, few, is)),
+    λ done. let few = greatest_within status_of 0 xs (λ k d below. let is = decides_done.when (slice_index_or xs k d) (own k d below) (done k d below) in omega (arith, is)) in omega (arith, few),
   )
 
   few_at : (k : ℕ) (d : Execution) → status_of (slice_index_or xs k d) < 5
@@ -98,25 +98,25 @@ module _ (xs : List Execution) (own : All (λ x. UsesOwnSlots x.source) xs) wher
 
   pub one_spent : (top ≡ 4) ↔ Any IsSpent xs
   one_spent = (
-    λ is. top_by 4 IsSpent tells_spent (omega arith) is,
-    λ spent. is_greatest status_of 4 xs (has_one 4 IsSpent tells_spent spent) (λ k d below. let few = few_at k d in omega (arith, few)),
+    λ is. top_by 4 IsSpent decides_spent (omega arith) is,
+    λ spent. is_greatest status_of 4 xs (has_one 4 IsSpent decides_spent spent) (λ k d below. let few = few_at k d in omega (arith, few)),
   )
 
   pub one_blocked : (top ≡ 3) ↔ (Any IsBlocked xs × (Any IsSpent xs → ⊥))
   one_blocked = (
-    λ is. (top_by 3 IsBlocked tells_blocked (omega arith) is, none_by 4 IsSpent tells_spent (omega (arith, is))),
-    λ h. is_greatest status_of 3 xs (has_one 3 IsBlocked tells_blocked h.0)
-        (λ k d below. let few = few_at k d in let four = not_at 4 IsSpent tells_spent h.1 k d below in omega (arith, few, four)),
+    λ is. (top_by 3 IsBlocked decides_blocked (omega arith) is, none_by 4 IsSpent decides_spent (omega (arith, is))),
+    λ h. is_greatest status_of 3 xs (has_one 3 IsBlocked decides_blocked h.0)
+        (λ k d below. let few = few_at k d in let four = not_at 4 IsSpent decides_spent h.1 k d below in omega (arith, few, four)),
   )
 
   pub one_failed : (top ≡ 1) ↔ (Any IsFailed xs × (Any IsBlocked xs → ⊥) × (Any IsSpent xs → ⊥))
   one_failed = (
-    λ is. (top_by 1 IsFailed tells_failed (omega arith) is, none_by 3 IsBlocked tells_blocked (omega (arith, is)), none_by 4 IsSpent tells_spent (omega (arith, is))),
-    λ h. is_greatest status_of 1 xs (has_one 1 IsFailed tells_failed h.0)
+    λ is. (top_by 1 IsFailed decides_failed (omega arith) is, none_by 3 IsBlocked decides_blocked (omega (arith, is)), none_by 4 IsSpent decides_spent (omega (arith, is))),
+    λ h. is_greatest status_of 1 xs (has_one 1 IsFailed decides_failed h.0)
         (λ k d below.
         let few = few_at k d in
         let two = end_not_two (end_of (slice_index_or xs k d)).outcome in
-        let three = not_at 3 IsBlocked tells_blocked h.1 k d below in
-        let four = not_at 4 IsSpent tells_spent h.2 k d below in
+        let three = not_at 3 IsBlocked decides_blocked h.1 k d below in
+        let four = not_at 4 IsSpent decides_spent h.2 k d below in
         omega (arith, few, two, three, four)),
   )

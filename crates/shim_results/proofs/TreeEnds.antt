@@ -16,7 +16,7 @@ use Rattle.shim_reference.specs.Naming.{named}
 use Rattle.shim_reference.specs.Reference.{meaning_of, reference_of}
 use Rattle.shim_results.specs.RunEnds.{Execution, tree_of, end_of, read_off, status_of, status_of_outcome, IsEnd, IsStoppedAt, as_meant, stopped}
 use Rattle.shim_command.specs.declared.mode.Course.TheVariants.{ByFirstEvents, InSomeOrder}
-use Rattle.shim_results.proofs.Causes.{rests_unless_spent, status_named, tells_spent}
+use Rattle.shim_results.proofs.Causes.{rests_unless_spent, status_named, decides_spent}
 
 -- an outcome is that of a run that was stopped, or has another status
 spent_or_not : (o : Outcome) → (o ≡ Spent) ⊎ ((o ≢ Spent) × (status_of_outcome o ≢ 4))
@@ -46,7 +46,7 @@ module _ (x : Execution) (t : Tree LocalState) (own : UsesOwnSlots x.source) (ag
   goes_on : status_of x ≡ 4 → IsQuiescent process_ops t → ⊥
   goes_on four q =
       let P : Tree LocalState → Type 0 = λ u. IsQuiescent process_ops u in
-      tells_spent.only x own four (subst P (sym (tree_is x)) (agrees.alike.rests.0 q))
+      decides_spent.only x own four (subst P (sym (tree_is x)) (agrees.alike.rests.0 q))
 
   spent_there : (ended process_ops t).outcome ≡ Spent → status_of x ≡ 4 → IsStoppedAt x t
   spent_there here four = let whole = told.whole here in record { reached = whole.0; counted = whole.1; goes_on = goes_on four }

@@ -21,7 +21,7 @@ use Rattle.shim_laws_journals.specs.Accepting.{JournalRefusal}
 use Rattle.shim_results.specs.RunEnds.{Execution, read_off, report_of, status_of_outcome, IsEnd}
 use Rattle.shim_results.specs.Batches.{greatest, on_each, reports_of, statuses_of}
 use Rattle.shim_results.specs.Recorded.{IsJournalOf, IsNoJournal, IsNoRun, IsOnlyJournal, IsRunTo, execution_within, malformed_line, refusal_line}
-use Rattle.shim_results.specs.SourceActions.{SourceAction, runs, tells, records, replays, runs_each, executed}
+use Rattle.shim_results.specs.SourceActions.{SourceAction, runs, describes, records, replays, runs_each, executed}
 
 -- a status and the text that goes with it
 pub record Answer : Type 0 where
@@ -52,11 +52,11 @@ IsRefusal bytes line =
 abbrev pub AnswersRun : Course → (Execution → Ended → List ℕ) → Execution → Answer → Type 0
 AnswersRun course shown x answer = (e : Ended) × IsEnd course x e × (answer ≡ record { status = status_of_outcome e.outcome; text = shown x e })
 
--- a source of which something is told is answered with 0 and that
-abbrev pub AnswersTelling : (Program → Source → List ℕ → Type 0) → Program → Source → Answer → Type 0
-AnswersTelling told program source answer = (answer.status ≡ 0) × told program source answer.text
+-- a source that is described is answered with 0 and a text that has this relation to it
+abbrev pub AnswersDescription : (Program → Source → List ℕ → Type 0) → Program → Source → Answer → Type 0
+AnswersDescription told program source answer = (answer.status ≡ 0) × told program source answer.text
 
--- a run whose journal is told is answered with that, and with the status that tells how it ended
+-- a run whose journal is printed is answered with that, and with the status that tells how it ended
 abbrev pub AnswersRecord : Execution → Answer → Type 0
 AnswersRecord x answer = (t : Tree LocalState) × IsJournalOf x t answer.text × (answer.status ≡ status_of_outcome (read_off x t).outcome)
 
@@ -78,10 +78,10 @@ AnswersEach names x inputs answer =
     (length inputs ≡ length names) × (es : List Ended) × AllZip (IsEnd InSomeOrder) (on_each x inputs) es
     × (answer ≡ record { status = greatest (statuses_of es); text = reports_of x.source names es })
 
--- an accepted program is answered with what is done with it: with what is read off its run, with what is told of it, with the journal of its run, as a journal is, or with what is read off its runs on each input
+-- an accepted program is answered with what is done with it: with what is read off its run, with a description of it, with the journal of its run, as a journal is, or with what is read off its runs on each input
 abbrev pub AnswersProgram : SourceAction → Program → Execution → Answer → Type 0
 AnswersProgram (runs course shown) program x answer = AnswersRun course shown x answer
-AnswersProgram (tells told) program x answer = AnswersTelling told program x.source answer
+AnswersProgram (describes told) program x answer = AnswersDescription told program x.source answer
 AnswersProgram records program x answer = AnswersRecord x answer
 AnswersProgram (replays journal) program x answer = AnswersReplay x.source x.input journal answer
 AnswersProgram (runs_each names inputs) program x answer = AnswersEach names x inputs answer
@@ -102,10 +102,10 @@ OfBytes OfSource OfFault bytes a =
 abbrev pub AnswersSource : SourceAction → (Source → Execution) → List ℕ → Answer → Type 0
 AnswersSource action as_run bytes answer = OfBytes (λ program source a. AnswersProgram action program (as_run source) a) (λ fault a. a ≡ refused fault) bytes answer
 
--- a source whose meaning is told, by this text
+-- a source whose meaning is printed, by this text
 abbrev pub AnswersMeaning : (Execution → Ended → List ℕ) → Job → List ℕ → List ℕ → Answer → Type 0
 AnswersMeaning shown job input bytes answer = OfBytes (λ program source a. AnswersRun ByFirstEvents shown (executed job input source) a) (λ fault a. a ≡ refused fault) bytes answer
 
--- a source that is run as a journal tells
+-- a source that is run as a journal records it
 abbrev pub AnswersReplaySource : List ℕ → List ℕ → List ℕ → Answer → Type 0
 AnswersReplaySource input journal bytes answer = OfBytes (λ program source a. AnswersReplay source input journal a) (λ fault a. a ≡ refused fault) bytes answer

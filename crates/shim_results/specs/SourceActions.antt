@@ -39,7 +39,7 @@ pub data SourceAction : Type 1 where
   -- it is run by this course, and the text is this function of how that ended
   runs : Course → (Execution → Ended → List ℕ) → SourceAction
   -- nothing is run, and the text has this relation to its program and its units
-  tells : (Program → Source → List ℕ → Type 0) → SourceAction
+  describes : (Program → Source → List ℕ → Type 0) → SourceAction
   -- it is run by workers, and its journal is told
   records : SourceAction
   -- it is run as the journal in this text tells, and the report of that is told

@@ -1,4 +1,4 @@
-// What is told of a meaning and, where that is blocked, of who waits for whom.
+// What is printed of a meaning and, where that is blocked, of who waits for whom.
 ghost use Rattle.std.specs.Prelude.{◌≡◌, ◌≤◌, ◌++◌, IfOk, OnOk, length, true};
 ghost use Rattle.shim_command.specs.Jobs.{IsWithin};
 ghost use Rattle.shim_command.specs.declared.mode.Course.TheVariants as courses;
@@ -61,7 +61,7 @@ fn text_with_reasons(
     Ok(lines)
 }
 
-// Tells what a source means, and why that is blocked.
+// Answers what a source means, and why that is blocked.
 fn explain_source(
     alloc: Global,
     job: &Job,
@@ -81,7 +81,7 @@ fn explain_source(
     })
 }
 
-/// Tells what the source in a text means and, where that is blocked, who waits for whom and a cycle of
+/// Answers what the source in a text means and, where that is blocked, who waits for whom and a cycle of
 /// waits.
 pub fn answer_reasons(
     alloc: Global,

@@ -1,4 +1,4 @@
-// Laws of what is told of sources.
+// Laws of what is printed of sources.
 ghost use Rattle.std.specs.Prelude.{◌≡◌, ◌↔◌, List, Ok, length, map};
 ghost use Rattle.std.specs.List.{All, Any};
 ghost use Rattle.shim_syntax.specs.declared.Program.{Program};
@@ -10,7 +10,7 @@ ghost use Rattle.shim_results.specs.SourceActions.{functions_from};
 ghost use Rattle.shim_results.specs.Batches.{greatest};
 ghost use Rattle.shim_results.specs.RunEnds.{status_of, BeginAlike, Execution, IsBeginning, IsBlocked, IsDone, IsFailed, IsSpent};
 
-/// What `check` tells of a source is how many functions its text has.
+/// What `check` prints of a source is how many functions its text has.
 pub fn functions_are_counted()
     ensures { (program : Program) (source : Source) → checked program ≡ Ok source → functions_from 0 source.units ≡ length program.functions }
 {}

@@ -1,4 +1,4 @@
-//! What is done with a source and how that ends, as a status and a text; and what is told of its meaning.
+//! What is done with a source and how that ends, as a status and a text; and what is printed of its meaning.
 #![tactic(auto)]
 
 mod answer;

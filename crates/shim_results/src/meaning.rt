@@ -1,4 +1,4 @@
-// What is told of a meaning.
+// What is printed of a meaning.
 ghost use Rattle.std.specs.Prelude.{◌≡◌, ◌≤◌, IfOk, length};
 ghost use Rattle.shim_command.specs.Jobs.{IsWithin};
 ghost use Rattle.shim_command.specs.declared.mode.Course.TheVariants as courses;
@@ -31,7 +31,7 @@ fn end_of_syntax(
     reference(alloc, source.share()?, input, job.budget)
 }
 
-/// What is told of a run of this source for a job.
+/// What is printed of a run of this source for a job.
 pub fn shown(
     alloc: Global,
     job: &Job,
@@ -47,7 +47,7 @@ pub fn shown(
     }
 }
 
-// Tells what a source means.
+// Answers what a source means.
 fn answer_reference(
     alloc: Global,
     job: &Job,
@@ -66,7 +66,7 @@ fn answer_reference(
     })
 }
 
-/// Tells what the source in a text means.
+/// Answers what the source in a text means.
 pub fn answer_meaning(
     alloc: Global,
     job: &Job,

@@ -5,7 +5,7 @@ ghost use Rattle.shim_results.specs.RunEnds.{status_of_outcome};
 
 use shim_local::Outcome;
 
-/// How a call ended, which is what the program tells by its status.
+/// How a call ended, which is what the program says by its status.
 #[derive(Clone, Copy, Debug, PartialEq, Eq)]
 pub enum ExitStatus {
     Done,
@@ -22,7 +22,7 @@ pub enum ExitStatus {
 }
 
 impl ExitStatus {
-    /// The status that tells how a run ended.
+    /// The status that says how a run ended.
     pub fn of(outcome: Outcome) -> ExitStatus
         ensures { exit_code result ≡ status_of_outcome outcome }
     {

@@ -5,11 +5,11 @@ use Rattle.shim_command.specs.Modes.{row_of}
 use Rattle.shim_answers.specs.Tasks.{Beside}
 use Rattle.shim_tool.specs.Modes.{beside_in, first_content, journal_in, source_text, text_from}
 use Rattle.shim_tool.specs.Reads.{all}
-use Rattle.shim_tool.specs.Prepared.{Prepared, PreparesSaw, PreparesSource}
+use Rattle.shim_tool.specs.Prepared.{Prepared, PreparesRead, PreparesSource}
 
 -- it is what is prepared of the source and of what was read beside it
 pub contents_prepared : (job : Job) (contents : List (List ℕ)) (source : List ℕ) (beside : Beside) (text : List ℕ) (p : Prepared) → source ≡ first_content contents → beside ≡ beside_in job contents
-    → text ≡ text_from (row_of job.mode).origin job source → PreparesSource job beside text p → PreparesSaw job (all contents) p
+    → text ≡ text_from (row_of job.mode).origin job source → PreparesSource job beside text p → PreparesRead job (all contents) p
 contents_prepared job contents source beside text p from_first from_beside made prepared =
     subst (λ (b : Beside). PreparesSource job b (source_text job contents) p) from_beside
     (subst (λ (bytes : List ℕ). PreparesSource job beside bytes p) (made ∙ ap (λ (s : List ℕ). text_from (row_of job.mode).origin job s) from_first) prepared)

@@ -1,6 +1,6 @@
 -- The lemmas of this crate, one module for each subject.
 pub mod RowLemmas
-pub mod Sights
+pub mod ReadFacts
 pub mod ReadsOn
 pub mod Batches
 pub mod Preparing

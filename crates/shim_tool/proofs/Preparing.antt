@@ -8,8 +8,8 @@ use Rattle.shim_command.specs.declared.job.Job.{Job}
 use Rattle.shim_command.specs.declared.mode.Course.TheVariants.{ByFirstEvents, InSomeOrder}
 use Rattle.shim_command.specs.declared.mode.Showing.{Showing}
 use Rattle.shim_command.specs.declared.mode.Task.{Task}
-use Rattle.shim_command.specs.declared.mode.Task.TheVariants.{Explains, Records, Replays, Runs, RunsEach, Tells}
-use Rattle.shim_command.specs.declared.mode.Telling.{Telling}
+use Rattle.shim_command.specs.declared.mode.Task.TheVariants.{Explains, Records, Replays, Runs, RunsEach, Describes}
+use Rattle.shim_command.specs.declared.mode.Description.{Description}
 use Rattle.shim_command.specs.Jobs.{IsWithin}
 use Rattle.shim_command.specs.Modes.{row_of}
 use Rattle.shim_local.specs.declared.Ended.{Ended}
@@ -19,9 +19,9 @@ use Rattle.shim_answers.specs.declared.runs.RunOfEach.{RunOfEach}
 use Rattle.shim_answers.specs.declared.runs.RunToRecord.{RunToRecord}
 use Rattle.shim_results.specs.RunEnds.{Execution}
 use Rattle.shim_results.specs.Reasons.{report_with_reasons}
-use Rattle.shim_answers.specs.Tasks.{Beside, action_by, telling_of, AnswersTold}
+use Rattle.shim_answers.specs.Tasks.{Beside, action_by, description_of, AnswersDescribedSource}
 use Rattle.shim_results.specs.SourceActions.{executed, shown_of}
-use Rattle.shim_results.specs.Answer.{Answer, AnswersEach, AnswersMeaning, AnswersProgram, AnswersRecord, AnswersReplay, AnswersReplaySource, AnswersRun, AnswersSource, AnswersTelling, OfBytes, refused}
+use Rattle.shim_results.specs.Answer.{Answer, AnswersEach, AnswersMeaning, AnswersProgram, AnswersRecord, AnswersReplay, AnswersReplaySource, AnswersRun, AnswersSource, AnswersDescription, OfBytes, refused}
 use Rattle.shim_results.specs.Views.{answer_view}
 use Rattle.shim_results.proofs.Outcomes.{no_acceptance, one_source}
 use Rattle.shim_tool.specs.declared.prepared.Prepared.{Prepared as MadePrepared}
@@ -29,12 +29,12 @@ use Rattle.shim_tool.specs.declared.prepared.Prepared.TheVariants.{Answered, ToR
 use Rattle.shim_tool.specs.Moments.{FilesAt}
 use Rattle.shim_tool.specs.Modes.{IsBatch, FileView, beside_in, first_content, input_in, input_readings, inputs_in, reads_of, source_text}
 use Rattle.shim_tool.specs.Reads.{AreContents, HoldsAll, OneReadFailed, FilesResult, all, longer_file, unread_file}
-use Rattle.shim_tool.specs.Answer.{Answers, AnswersSaw}
+use Rattle.shim_tool.specs.Answer.{Answers, AnswersRead}
 use Rattle.shim_tool.specs.Rows.{WasRead}
-use Rattle.shim_tool.specs.Prepared.{Completes, EachRow, IsForWorkers, IsPreparedWithin, IsToRecord, LeavesToRecord, LeavesToRunEach, LeavesToWorkers, Prepared, Prepares, PreparesJob, PreparesSaw, PreparesProgram, PreparesSource, RecordRow, RunRow, answered, to_record, to_run, to_run_each}
+use Rattle.shim_tool.specs.Prepared.{Completes, EachRow, IsForWorkers, IsPreparedWithin, IsToRecord, LeavesToRecord, LeavesToRunEach, LeavesToWorkers, Prepared, Prepares, PreparesJob, PreparesRead, PreparesProgram, PreparesSource, RecordRow, RunRow, answered, to_record, to_run, to_run_each}
 use Rattle.shim_tool.specs.PreparedView.{prepared_view}
 use Rattle.shim_tool.proofs.Batches.{batch_inputs, few_names}
-use Rattle.shim_tool.proofs.Sights.{WasSeen, none_too_long, same_contents, was_seen}
+use Rattle.shim_tool.proofs.ReadFacts.{ReadsGave, none_too_long, same_contents, reads_gave}
 
 -- what was prepared of a source, and then done, is answered
 completed_program : (job : Job) (beside : Beside) (program : Program) (source : Source) (p : Prepared) (answer : Answer) → PreparesProgram job beside program source p → Completes p answer
@@ -60,15 +60,15 @@ completed_source job beside bytes p answer (inl (program, text, inl (source, uni
 completed_source job beside bytes p answer (inl (program, text, inr (fault, refused, is))) done = inl (program, text, inr (fault, refused, completed_answer p _ answer is done))
 completed_source job beside bytes p answer (inr (fault, only, is)) done = inr (fault, only, completed_answer p _ answer is done)
 
-completed_saw : (job : Job) (saw : FilesResult) (p : Prepared) (answer : Answer) → PreparesSaw job saw p → Completes p answer → AnswersSaw job saw answer
-completed_saw job (all contents) p answer prepared done = completed_source job (beside_in job contents) (source_text job contents) p answer prepared done
-completed_saw job (unread_file r) p answer is done = completed_answer p _ answer is done
-completed_saw job (longer_file r) p answer is done = completed_answer p _ answer is done
+completed_read : (job : Job) (files_read : FilesResult) (p : Prepared) (answer : Answer) → PreparesRead job files_read p → Completes p answer → AnswersRead job files_read answer
+completed_read job (all contents) p answer prepared done = completed_source job (beside_in job contents) (source_text job contents) p answer prepared done
+completed_read job (unread_file r) p answer is done = completed_answer p _ answer is done
+completed_read job (longer_file r) p answer is done = completed_answer p _ answer is done
 
 -- what was prepared and then done is answered
 pub completed : (ask : Option Job) (before now : FilesAt) (p : Prepared) (answer : Answer) → Prepares ask before now p → Completes p answer → Answers ask before now answer
 completed None before now p answer (same, is) done = (same, completed_answer p _ answer is done)
-completed (Some job) before now p answer (saw, looks, prepared) done = (saw, looks, completed_saw job saw p answer prepared done)
+completed (Some job) before now p answer (files_read, reads_all, prepared) done = (files_read, reads_all, completed_read job files_read p answer prepared done)
 
 -- no file may have more bytes than a journal
 abbrev AreFew : List FileView → Type 0
@@ -104,14 +104,14 @@ left_source job before now contents p none same are (inl (program, text, inl (so
 left_source job before now contents p none same are (inl (program, text, inr (fault, refused, is))) = absurd (none _ is)
 left_source job before now contents p none same are (inr (fault, only, is)) = absurd (none _ is)
 
-left_saw : (job : Job) (before now : FilesAt) (saw : FilesResult) (p : Prepared) → IsNoAnswer p → WasSeen (reads_of job) before now saw → PreparesSaw job saw p → LeftSo (Some job) before now p
-left_saw job before now (all contents) p none (are, same) prepared = left_source job before now contents p none same are prepared
-left_saw job before now (unread_file q) p none seen is = absurd (none _ is)
-left_saw job before now (longer_file q) p none seen is = absurd (none _ is)
+left_read : (job : Job) (before now : FilesAt) (files_read : FilesResult) (p : Prepared) → IsNoAnswer p → ReadsGave (reads_of job) before now files_read → PreparesRead job files_read p → LeftSo (Some job) before now p
+left_read job before now (all contents) p none (are, same) prepared = left_source job before now contents p none same are prepared
+left_read job before now (unread_file q) p none reads is = absurd (none _ is)
+left_read job before now (longer_file q) p none reads is = absurd (none _ is)
 
 left : (ask : Option Job) (before now : FilesAt) (p : Prepared) → IsNoAnswer p → Prepares ask before now p → LeftSo ask before now p
 left None before now p none (same, is) = absurd (none _ is)
-left (Some job) before now p none (saw, looks, prepared) = left_saw job before now saw p none (was_seen (reads_of job) before now saw looks) prepared
+left (Some job) before now p none (files_read, reads_all, prepared) = left_read job before now files_read p none (reads_gave (reads_of job) before now files_read reads_all) prepared
 
 -- a source of which only this is prepared
 module _ (job : Job) (contents : List (List ℕ)) (source : Source) (has : IsSource (source_text job contents) source) (q : Prepared)
@@ -123,16 +123,16 @@ module _ (job : Job) (contents : List (List ℕ)) (source : Source) (has : IsSou
   left_of_source p (inl (program, text, inr (fault, refused, is))) = absurd (no_acceptance (source_text job contents) program fault text refused source has)
   left_of_source p (inr (fault, only, is)) = absurd (only.textless has.program has.text)
 
-  left_of_saw : (before now : FilesAt) (p : Prepared) (saw : FilesResult) → HoldsAll before.held (reads_of job) contents → WasSeen (reads_of job) before now saw → PreparesSaw job saw p
+  left_of_saw : (before now : FilesAt) (p : Prepared) (files_read : FilesResult) → HoldsAll before.held (reads_of job) contents → ReadsGave (reads_of job) before now files_read → PreparesRead job files_read p
       → (p ≡ q) ⊎ OneReadFailed (reads_of job) before now
   left_of_saw before now p (all read) h (are, same) prepared =
-      let P : List (List ℕ) → Type 0 = λ cs. PreparesSaw job (all cs) p in
+      let P : List (List ℕ) → Type 0 = λ cs. PreparesRead job (all cs) p in
       inl (left_of_source p (subst P (same_contents before.held (reads_of job) read contents are h) prepared))
   left_of_saw before now p (unread_file r) h (comes, read) is = inr (r, comes, read)
   left_of_saw before now p (longer_file r) h (comes, same, long) is = absurd (none_too_long before.held (reads_of job) contents r h comes long)
 
   left_of : (before now : FilesAt) (p : Prepared) → HoldsAll before.held (reads_of job) contents → Prepares (Some job) before now p → (p ≡ q) ⊎ OneReadFailed (reads_of job) before now
-  left_of before now p h (saw, looks, prepared) = left_of_saw before now p saw h (was_seen (reads_of job) before now saw looks) prepared
+  left_of before now p h (files_read, reads_all, prepared) = left_of_saw before now p files_read h (reads_gave (reads_of job) before now files_read reads_all) prepared
 
 -- the run that was left
 abbrev RunOf : Job → Showing → Source → List (List ℕ) → PreparedRun
@@ -238,14 +238,14 @@ within_source job beside bytes p within few (inl (program, text, inl (source, un
 within_source job beside bytes p within few (inl (program, text, inr (fault, refused, is))) = within_answer p _ is
 within_source job beside bytes p within few (inr (fault, only, is)) = within_answer p _ is
 
-within_saw : (job : Job) (before now : FilesAt) (saw : FilesResult) (p : Prepared) → IsWithin job → WasSeen (reads_of job) before now saw → PreparesSaw job saw p → IsPreparedWithin p
+within_saw : (job : Job) (before now : FilesAt) (files_read : FilesResult) (p : Prepared) → IsWithin job → ReadsGave (reads_of job) before now files_read → PreparesRead job files_read p → IsPreparedWithin p
 within_saw job before now (all contents) p within (are, same) prepared =
     within_source job (beside_in job contents) (source_text job contents) p within (λ task. (few_names job before.held contents within task are, batch_inputs job before.held contents task are)) prepared
-within_saw job before now (unread_file r) p within seen is = within_answer p _ is
-within_saw job before now (longer_file r) p within seen is = within_answer p _ is
+within_saw job before now (unread_file r) p within reads is = within_answer p _ is
+within_saw job before now (longer_file r) p within reads is = within_answer p _ is
 
 pub prepared_within : (job : Job) (before now : FilesAt) (p : Prepared) → IsWithin job → PreparesJob job before now p → IsPreparedWithin p
-prepared_within job before now p within (saw, looks, prepared) = within_saw job before now saw p within (was_seen (reads_of job) before now saw looks) prepared
+prepared_within job before now p within (files_read, reads_all, prepared) = within_saw job before now files_read p within (reads_gave (reads_of job) before now files_read reads_all) prepared
 
 -- an answer that was made is the answer, and so is what is told of a run that was left
 pub answered_done : (p : MadePrepared) (made : MadeAnswer) → p ≡ Answered made → Completes (prepared_view p) (answer_view made)
@@ -296,8 +296,8 @@ module _ (job : Job) (beside : Beside) (bytes : List ℕ) where
   abbrev MeaningOf : (Execution → Ended → List ℕ) → Program → Source → Answer → Type 0
   MeaningOf shown program source a = AnswersRun ByFirstEvents shown (executed job beside.input source) a
 
-  pub told_prepared : (telling : Telling) (a : Answer) → (row_of job.mode).task ≡ Tells telling → AnswersTold telling bytes a → PreparesSource job beside bytes (answered a)
-  told_prepared telling a task comes = answer_prepared (Tells telling) (AnswersTelling (telling_of telling)) a task (λ showing e. cc e) (λ e. cc e) (λ e. cc e) (λ program source b done. done) comes
+  pub described_prepared : (description : Description) (a : Answer) → (row_of job.mode).task ≡ Describes description → AnswersDescribedSource description bytes a → PreparesSource job beside bytes (answered a)
+  described_prepared description a task comes = answer_prepared (Describes description) (AnswersDescription (description_of description)) a task (λ showing e. cc e) (λ e. cc e) (λ e. cc e) (λ program source b done. done) comes
 
   pub meaning_prepared : (input : List ℕ) (showing : Showing) (a : Answer) → beside.input ≡ input → (row_of job.mode).task ≡ Runs ByFirstEvents showing → AnswersMeaning (shown_of showing job) job input bytes a
       → PreparesSource job beside bytes (answered a)

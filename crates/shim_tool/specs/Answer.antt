@@ -1,4 +1,4 @@
--- What the tool answers, from what it was asked and what it saw.
+-- What the tool answers, from what it was asked and what it read.
 use Rattle.std.specs.Prelude.{ℕ, ◌≡◌, ◌⊎◌, List, ◌++◌, Option, Some, None, codes, decimal}
 use Rattle.shim_command.specs.declared.job.Job.{Job}
 use Rattle.shim_results.specs.Answer.{Answer, AnswersSource}
@@ -30,15 +30,15 @@ file_too_long name limit = record { status = 6; text = longer_line name limit }
 abbrev pub no_memory : Answer
 no_memory = record { status = 8; text = memory_line }
 
--- the answer to what was seen of the files of a job
-abbrev pub AnswersSaw : Job → FilesResult → Answer → Type 0
-AnswersSaw job (all contents) answer = AnswersSource (source_action_of job contents) (execution job contents) (source_text job contents) answer
-AnswersSaw job (unread_file r) answer = answer ≡ file_failed r.name
-AnswersSaw job (longer_file r) answer = answer ≡ file_too_long r.name r.limit
+-- the answer to what the reads of a job's files gave
+abbrev pub AnswersRead : Job → FilesResult → Answer → Type 0
+AnswersRead job (all contents) answer = AnswersSource (source_action_of job contents) (execution job contents) (source_text job contents) answer
+AnswersRead job (unread_file r) answer = answer ≡ file_failed r.name
+AnswersRead job (longer_file r) answer = answer ≡ file_too_long r.name r.limit
 
--- the files of a job are read, and what was seen of them is answered
+-- the files of a job are read, and what these reads gave is answered
 abbrev pub AnswersJob : Job → FilesAt → FilesAt → Answer → Type 0
-AnswersJob job before now answer = (saw : FilesResult) × ReadsAll (reads_of job) before now saw × AnswersSaw job saw answer
+AnswersJob job before now answer = (files_read : FilesResult) × ReadsAll (reads_of job) before now files_read × AnswersRead job files_read answer
 
 -- an answer that is no want of memory
 abbrev pub Answers : Option Job → FilesAt → FilesAt → Answer → Type 0

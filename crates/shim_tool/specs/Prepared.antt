@@ -65,14 +65,14 @@ PreparesSource job beside bytes p = OfBytes (PreparesProgram job beside) (λ fau
 abbrev pub PreparesRun : Job → List ℕ → List ℕ → Prepared → Type 0
 PreparesRun job input bytes p = (beside : Beside) → beside.input ≡ input → PreparesSource job beside bytes p
 
--- what comes of what was seen of the files of a job
-abbrev pub PreparesSaw : Job → FilesResult → Prepared → Type 0
-PreparesSaw job (all contents) p = PreparesSource job (beside_in job contents) (source_text job contents) p
-PreparesSaw job (unread_file r) p = p ≡ answered (file_failed r.name)
-PreparesSaw job (longer_file r) p = p ≡ answered (file_too_long r.name r.limit)
+-- what comes of what the reads of a job's files gave
+abbrev pub PreparesRead : Job → FilesResult → Prepared → Type 0
+PreparesRead job (all contents) p = PreparesSource job (beside_in job contents) (source_text job contents) p
+PreparesRead job (unread_file r) p = p ≡ answered (file_failed r.name)
+PreparesRead job (longer_file r) p = p ≡ answered (file_too_long r.name r.limit)
 
 abbrev pub PreparesJob : Job → FilesAt → FilesAt → Prepared → Type 0
-PreparesJob job before now p = (saw : FilesResult) × ReadsAll (reads_of job) before now saw × PreparesSaw job saw p
+PreparesJob job before now p = (files_read : FilesResult) × ReadsAll (reads_of job) before now files_read × PreparesRead job files_read p
 
 abbrev pub Prepares : Option Job → FilesAt → FilesAt → Prepared → Type 0
 Prepares None before now p = (now.failed ≡ before.failed) × (p ≡ answered usage)

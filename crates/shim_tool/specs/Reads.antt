@@ -1,4 +1,4 @@
--- What is seen of files that are read one after the other, up to the first that can't be had.
+-- What reads of files give that are read one after the other, up to the first that can't be had.
 use Rattle.std.specs.Prelude.{ℕ, ◌≡◌, ◌<◌, ◌≤◌, ◌⊎◌, IsTrue, List, [], ◌∷◌, ◌++◌, length, Option, Some, IfSome, IsSomeAnd}
 use Rattle.shim_edge.specs.Files.{file_of, HasFile}
 use Rattle.shim_tool.specs.Moments.{FilesAt, KeepsFiles}
@@ -8,7 +8,7 @@ use Rattle.shim_tool.specs.Modes.{FileView}
 abbrev pub KnownFiles : Type 0
 KnownFiles = Option (List (List ℕ × List ℕ))
 
--- what was seen of one file
+-- what the read of one file gave
 pub data FileResult : Type 0 where
   unread : FileResult
   longer : FileResult
@@ -26,34 +26,34 @@ IsTooLong r held = IfSome held (λ files. IsSomeAnd (file_of files r.name) (λ c
 abbrev pub IsContent : FileView → KnownFiles → List ℕ → Type 0
 IsContent r held bytes = (length bytes ≤ r.limit) × IfSome held (λ files. file_of files r.name ≡ Some bytes)
 
--- one read saw this
+-- one read gave this
 abbrev pub ReadsOne : FileView → FilesAt → FilesAt → FileResult → Type 0
 ReadsOne r before now unread = ReadFailed r.name before now
 ReadsOne r before now longer = (now.failed ≡ before.failed) × IsTooLong r before.held
 ReadsOne r before now (whole bytes) = (now.failed ≡ before.failed) × IsContent r before.held bytes
 
--- what was seen of several files: the contents of all; or one couldn't be read, or has more bytes than it may have
+-- what the reads of several files gave: the contents of all; or one couldn't be read, or has more bytes than it may have
 pub data FilesResult : Type 0 where
   all : List (List ℕ) → FilesResult
   unread_file : FileView → FilesResult
   longer_file : FileView → FilesResult
 
-abbrev pub then_saw : List ℕ → FilesResult → FilesResult
-then_saw content (all rest) = all (content ∷ rest)
-then_saw content (unread_file r) = unread_file r
-then_saw content (longer_file r) = longer_file r
+abbrev pub then_read : List ℕ → FilesResult → FilesResult
+then_read content (all rest) = all (content ∷ rest)
+then_read content (unread_file r) = unread_file r
+then_read content (longer_file r) = longer_file r
 
--- what one read saw is all, or the files behind it are read, too
+-- what one read gave is all, or the files behind it are read, too
 abbrev pub Follows : FileView → (FilesAt → FilesAt → FilesResult → Type 0) → FilesAt → FilesAt → FilesResult → FileResult → Type 0
-Follows r on between now saw unread = (now ≡ between) × (saw ≡ unread_file r)
-Follows r on between now saw longer = (now ≡ between) × (saw ≡ longer_file r)
-Follows r on between now saw (whole bytes) = (rest : FilesResult) × on between now rest × (saw ≡ then_saw bytes rest)
+Follows r on between now files_read unread = (now ≡ between) × (files_read ≡ unread_file r)
+Follows r on between now files_read longer = (now ≡ between) × (files_read ≡ longer_file r)
+Follows r on between now files_read (whole bytes) = (rest : FilesResult) × on between now rest × (files_read ≡ then_read bytes rest)
 
--- the reads, one after the other, saw this
+-- the reads, one after the other, gave this
 abbrev pub ReadsAll : List FileView → FilesAt → FilesAt → FilesResult → Type 0
-ReadsAll [] before now saw = (now ≡ before) × (saw ≡ all [])
-ReadsAll (r ∷ rs) before now saw = (between : FilesAt) × (seen : FileResult) × KeepsFiles before between × ReadsOne r before between seen
-    × Follows r (ReadsAll rs) between now saw seen
+ReadsAll [] before now files_read = (now ≡ before) × (files_read ≡ all [])
+ReadsAll (r ∷ rs) before now files_read = (between : FilesAt) × (one : FileResult) × KeepsFiles before between × ReadsOne r before between one
+    × Follows r (ReadsAll rs) between now files_read one
 
 -- the files are told, and hold these bytes under the name
 pub record Holds (held : KnownFiles) (name bytes : List ℕ) : Type 0 where

@@ -23,11 +23,11 @@ use Rattle.shim_tool.specs.Modes.{FileView, source_action_of, execution, executi
 use Rattle.shim_tool.specs.Reads.{AreContents, ComesToRead, Holds, HoldsAll, HoldsUpTo, IsTooLong, OneReadFailed, ReadFailed}
 use Rattle.shim_tool.specs.Answer.{MayAnswer, FailedGrew, usage_line, failed_line, longer_line, memory_line}
 
--- this status came with this text, whole
+-- the status is this, and this text was written, whole
 abbrev pub Printed : ℕ → List ℕ → SinkAt → SinkAt → ℕ → Type 0
 Printed status text out_before out_now result = (result ≡ status) × (out_now.taken ≡ then_bytes out_before.taken text)
 
--- this status came with this text, or the sink failed, or memory was wanted
+-- the status is this, and this text was written, or the sink failed, or memory ran out
 abbrev pub PrintedOrFailed : ℕ → List ℕ → SinkAt → SinkAt → ℕ → Type 0
 PrintedOrFailed status text out_before out_now result = Printed status text out_before out_now result ⊎ (result ≡ 7) ⊎ (result ≡ 8)
 
@@ -60,18 +60,18 @@ pub record EndRow (status : ℕ) (Cause : Execution → Type 0) (ask : Option Jo
       → (is : IsSource (source_text job contents) source) → IsExecution job contents source x → EndsBy status Cause (source_action_of job contents) x
       → PrintedWithText status (source_action_of job contents) is.program x out_before out_now result ⊎ (result ≡ 7) ⊎ (result ≡ 8) ⊎ ((result ≡ 6) × OneReadFailed (reads_of job) before now)
 
--- the status of a run that was stopped came, with the text of what may be read off such a run
-abbrev pub CameStopped : SourceAction → Execution → SinkAt → SinkAt → ℕ → Type 0
-CameStopped action x out_before out_now result = (e : Ended) × IsStoppedBy action x e × (text : List ℕ) × IsShown action x e text × Printed 4 text out_before out_now result
+-- the status is that of a run that was stopped, with the text of what may be read off such a run
+abbrev pub PrintedStopped : SourceAction → Execution → SinkAt → SinkAt → ℕ → Type 0
+PrintedStopped action x out_before out_now result = (e : Ended) × IsStoppedBy action x e × (text : List ℕ) × IsShown action x e text × Printed 4 text out_before out_now result
 
 -- 4 of such words: exactly where the job has a source in whose meaning something can still happen after the budget's events. For `ref` and `why` the text is that of the meaning; for `run` and `gen` it is read off a tree to which a run of just the budget's events leads, and in which something can still happen; for `trace` it is the journal of a run to such a tree. For `replay` it is read off such a tree to which the journal leads, and the budget is that of the journal.
 pub record SpentRow (ask : Option Job) (before now : FilesAt) (out_before out_now : SinkAt) (result : ℕ) : Type 0 where
   pub only : (IsBatchAsked ask → ⊥) → result ≡ 4 → (now.failed ≡ before.failed) × (job : Job) × (contents : List (List ℕ)) × (source : Source) × WasRead ask job before contents
       × IsSource (source_text job contents) source × (x : Execution) × IsExecution job contents source x × EndsBy 4 IsSpent (source_action_of job contents) x × IsReached (source_action_of job contents) x
-      × (status_by (source_action_of job contents) x ≡ 4) × CameStopped (source_action_of job contents) x out_before out_now result
+      × (status_by (source_action_of job contents) x ≡ 4) × PrintedStopped (source_action_of job contents) x out_before out_now result
   pub when : (job : Job) (contents : List (List ℕ)) (source : Source) (x : Execution) → ask ≡ Some job → HoldsAll before.held (reads_of job) contents
       → IsSource (source_text job contents) source → IsExecution job contents source x → EndsBy 4 IsSpent (source_action_of job contents) x
-      → CameStopped (source_action_of job contents) x out_before out_now result ⊎ (result ≡ 7) ⊎ (result ≡ 8) ⊎ ((result ≡ 6) × OneReadFailed (reads_of job) before now)
+      → PrintedStopped (source_action_of job contents) x out_before out_now result ⊎ (result ≡ 7) ⊎ (result ≡ 8) ⊎ ((result ≡ 6) × OneReadFailed (reads_of job) before now)
 
 -- 4 of such words: a run of as many events as the budget has leads to the tree of the meaning, too. The own steps and the events that are read off the tree that is told add up to the budget; `run`, `ref`, `why` and `replay` print them.
 abbrev pub CountRow : Option Job → FilesAt → SinkAt → SinkAt → ℕ → Type 0
@@ -93,18 +93,18 @@ pub record IsEndOfOne (x : Execution) (e : Ended) : Type 0 where
   pub stopped : status_of x ≡ 4 → (t : Tree LocalState) × IsStoppedAt x t × IsBeginning x t × (e ≡ read_off x t) × (printed_steps e ≡ x.budget)
 
 -- The reports of a run on each input came, in the order of the names, with the greatest of the statuses that tell how the meanings ended.
-abbrev pub CameOfEach : Job → List (List ℕ) → Source → SinkAt → SinkAt → ℕ → Type 0
-CameOfEach job contents source out_before out_now result = (es : List Ended) × AllZip IsEndOfOne (executions job contents source) es
+abbrev pub PrintedOfEach : Job → List (List ℕ) → Source → SinkAt → SinkAt → ℕ → Type 0
+PrintedOfEach job contents source out_before out_now result = (es : List Ended) × AllZip IsEndOfOne (executions job contents source) es
     × Printed (greatest (map status_of (executions job contents source))) (reports_of source job.inputs es) out_before out_now result
 
 -- 0, 1, 3, 4 of words that ask for several runs: exactly where the job has a source, which was run on as many inputs as the words name. The meaning on each input tells of its own run.
 pub record BatchRow (ask : Option Job) (before now : FilesAt) (out_before out_now : SinkAt) (result : ℕ) : Type 0 where
   pub only : IsBatchAsked ask → IsEndStatus result → (now.failed ≡ before.failed) × (job : Job) × (contents : List (List ℕ)) × (source : Source) × WasRead ask job before contents
-      × IsBatch job × IsSource (source_text job contents) source × (length (inputs_in job contents) ≡ length job.inputs) × CameOfEach job contents source out_before out_now result
+      × IsBatch job × IsSource (source_text job contents) source × (length (inputs_in job contents) ≡ length job.inputs) × PrintedOfEach job contents source out_before out_now result
   pub when : (job : Job) (contents : List (List ℕ)) (source : Source) → ask ≡ Some job → IsBatch job → HoldsAll before.held (reads_of job) contents → IsSource (source_text job contents) source
-      → CameOfEach job contents source out_before out_now result ⊎ (result ≡ 7) ⊎ (result ≡ 8) ⊎ ((result ≡ 6) × OneReadFailed (reads_of job) before now)
+      → PrintedOfEach job contents source out_before out_now result ⊎ (result ≡ 7) ⊎ (result ≡ 8) ⊎ ((result ≡ 6) × OneReadFailed (reads_of job) before now)
 
--- 2: exactly where the words have no job
+-- 2: exactly where the arguments have no job
 pub record WordsRow (ask : Option Job) (out_before out_now : SinkAt) (result : ℕ) : Type 0 where
   pub only : result ≡ 2 → (ask ≡ None) × (out_now.taken ≡ then_bytes out_before.taken usage_line)
   pub when : ask ≡ None → PrintedOrFailed 2 usage_line out_before out_now result
@@ -149,7 +149,7 @@ pub record SinkRow (ask : Option Job) (before now : FilesAt) (out_before out_now
   pub when : out_now.faults ≢ out_before.faults → result ≡ 7
   pub never_falls : out_before.faults ≤ out_now.faults
 
--- 8: want of memory, which has no cause; its line is written
+-- 8: out of memory, which has no cause; its line is written
 abbrev pub MemoryRow : SinkAt → SinkAt → ℕ → Type 0
 MemoryRow out_before out_now result = result ≡ 8 → out_now.taken ≡ then_bytes out_before.taken memory_line
 
@@ -159,7 +159,7 @@ pub record FilesRow (ask : Option Job) (before now : FilesAt) : Type 0 where
   pub sound : now.sound ≡ before.sound
   pub grew : FailedGrew ask before now
 
--- Over sound files that hold what the job reads, with a source in it, and a sink that doesn't fail, the whole text of the mode is written with its status, unless memory is wanted. The status is that of the meaning, and of several the greatest; of a journal that is refused it is 9.
+-- Over sound files that hold what the job reads, with a source in it, and a sink that doesn't fail, the whole text of the mode is written with its status, unless memory runs out. The status is that of the meaning, and of several the greatest; of a journal that is refused it is 9.
 abbrev pub IsComplete : Option Job → FilesAt → SinkAt → SinkAt → ℕ → Type 0
 IsComplete ask before out_before out_now result = (job : Job) (contents : List (List ℕ)) (source : Source) → ask ≡ Some job → IsTrue before.sound
     → HoldsAll before.held (reads_of job) contents → (is : IsSource (source_text job contents) source) → (HasRisen out_before.faults out_now.faults → ⊥)

@@ -1,4 +1,4 @@
--- What was seen of files, and what was read beside a source, as the definitions name it.
+-- What reads of files gave, and what was read beside a source, as the definitions name it.
 use Rattle.shim_edge.specs.declared.files.Got.{Got}
 use Rattle.shim_edge.specs.declared.files.Got.TheVariants.{Whole as GotWhole, Longer as GotLonger}
 use Rattle.shim_answers.specs.Tasks.{Beside}
@@ -16,9 +16,9 @@ found_view Unread = unread
 found_view Longer = longer
 found_view (Whole bytes) = whole bytes
 
-abbrev pub seen_of : Got → FileResult
-seen_of (GotWhole bytes) = whole bytes
-seen_of GotLonger = longer
+abbrev pub result_of_read : Got → FileResult
+result_of_read (GotWhole bytes) = whole bytes
+result_of_read GotLonger = longer
 
 abbrev pub reading_view : FileToRead → FileView
 reading_view file = record { name = file.name.now; limit = file.limit }

@@ -53,7 +53,7 @@ fn written<K: Sink>(out: &mut K, status: ExitStatus, text: &[u8]) -> u8
     }
 }
 
-/// Writes the answer for want of memory, for a program that found none to read its words. Status 7
+/// Writes the answer for out of memory, for a program that found none to read its words. Status 7
 /// comes only where the sink failed in this call, with a part of the line taken.
 #[tactic(auto, unfolding(crate::specs::Answer::memory_line))]
 pub fn write_no_memory<K: Sink>(out: &mut K) -> u8
@@ -91,7 +91,7 @@ fn run_tool<F: Files, K: Sink, G: Gate, R: Threads + Wait + Sync>(
 /// which some run of just the budget's events leads, and that is told. Where the journal of the run is told
 /// in place of the report, it is that of a run to such a tree, and its own report is what a replay of it
 /// tells: a journal is replayed exactly where it is a run of the source, within the journal's own budget,
-/// that ends at rest or with the budget spent.
+/// that ends quiescent or with the budget spent.
 ///
 /// Of runs on several inputs at most as many are done at a time as the words ask for workers, each by one
 /// worker; their reports are written in the order of the inputs, each behind the line of its input, and the
@@ -99,7 +99,7 @@ fn run_tool<F: Files, K: Sink, G: Gate, R: Threads + Wait + Sync>(
 /// them.
 ///
 /// Answers the status that the program ends with. A failed write, which is 7, may come in place of any status,
-/// want of memory, which is 8, in place of any but 7, and a failed read, which is 6, of any but 2, 7 and 8.
+/// out of memory, which is 8, in place of any but 7, and a failed read, which is 6, of any but 2, 7 and 8.
 pub fn shim<F: Files, K: Sink, G: Gate, R: Threads + Wait + Sync>(
     rt: &R,
     alloc: Global,
@@ -124,7 +124,7 @@ pub fn shim<F: Files, K: Sink, G: Gate, R: Threads + Wait + Sync>(
     ensures failed { EndRow 1 IsFailed (job (texts_of words.now)) (files_at F.held F.sound F.failed files.old)
         (files_at F.held F.sound F.failed files.new) (sink_at K.taken K.faults out.old)
         (sink_at K.taken K.faults out.new) result }
-    // 2: exactly where the words have no job.
+    // 2: exactly where the arguments have no job.
     ensures words { WordsRow (job (texts_of words.now)) (sink_at K.taken K.faults out.old)
         (sink_at K.taken K.faults out.new) result }
     // 3: exactly where nothing can happen any more and the root has neither ended nor died; with that
@@ -163,7 +163,7 @@ pub fn shim<F: Files, K: Sink, G: Gate, R: Threads + Wait + Sync>(
     ensures sink { SinkRow (job (texts_of words.now)) (files_at F.held F.sound F.failed files.old)
         (files_at F.held F.sound F.failed files.new) (sink_at K.taken K.faults out.old)
         (sink_at K.taken K.faults out.new) result }
-    // 8: want of memory.
+    // 8: out of memory.
     ensures memory { MemoryRow (sink_at K.taken K.faults out.old) (sink_at K.taken K.faults out.new) result }
     // 9: exactly where the journal of a source that is accepted is refused, with the line of the cause.
     ensures journal { JournalRow (job (texts_of words.now)) (files_at F.held F.sound F.failed files.old)

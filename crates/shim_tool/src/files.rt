@@ -4,7 +4,7 @@ ghost use Rattle.shim_command.specs.Modes.{row_of};
 ghost use Rattle.shim_tool.specs.Moments.{files_at, KeepsFiles};
 ghost use Rattle.shim_tool.specs.Modes as modes;
 ghost use Rattle.shim_tool.specs.Reads.{ReadsAll, ReadsOne};
-ghost use Rattle.shim_tool.specs.Views.{beside_view, found_view, read_view, reading_view, seen_of};
+ghost use Rattle.shim_tool.specs.Views.{beside_view, found_view, read_view, reading_view, result_of_read};
 
 use shim_base::{List, NoMemory};
 use shim_command::{Extra, Job, Origin};
@@ -38,7 +38,7 @@ pub(crate) enum FilesRead<'a> {
     TooLong(FileToRead<'a>),
 }
 
-// What was seen of a file.
+// What the read of a file gave.
 #[derive(Drop)]
 enum Found {
     Unread,
@@ -48,9 +48,9 @@ enum Found {
 
 impl From<Got> for Found {
     ghost use Rattle.std.specs.Prelude.{◌≡◌};
-    ghost use Rattle.shim_tool.specs.Views.{found_view, seen_of};
+    ghost use Rattle.shim_tool.specs.Views.{found_view, result_of_read};
 
-    ghost from_gives = { λ got found. found_view found ≡ seen_of got };
+    ghost from_gives = { λ got found. found_view found ≡ result_of_read got };
 
     fn from(got: Got) -> Found {
         match got {
@@ -146,8 +146,8 @@ fn files_of<'a>(alloc: Global, job: &'a Job) -> Result<List<FileToRead<'a>>, NoM
     Ok(files)
 }
 
-// Reads a file, and says what was seen.
-fn look<F: Files>(alloc: Global, file: FileToRead<'_>, files: &mut F) -> Result<Found, NoMemory>
+// Reads a file, and says what that gave.
+fn read_one<F: Files>(alloc: Global, file: FileToRead<'_>, files: &mut F) -> Result<Found, NoMemory>
     ensures found { IfOk result (λ found. ReadsOne (reading_view file.entry) (files_at F.held F.sound F.failed files.old)
         (files_at F.held F.sound F.failed files.new) (found_view found)) }
     ensures same { OnErr result (F.failed files.new ≡ F.failed files.old) }
@@ -166,14 +166,14 @@ fn read_all<'a, F: Files>(
     to_read: &[FileToRead<'a>],
     files: &mut F,
 ) -> Result<FilesRead<'a>, NoMemory>
-    ensures seen { IfOk result (λ read. ReadsAll (map reading_view to_read.now) (files_at F.held F.sound F.failed files.old)
+    ensures reads { IfOk result (λ read. ReadsAll (map reading_view to_read.now) (files_at F.held F.sound F.failed files.old)
         (files_at F.held F.sound F.failed files.new) (read_view read)) }
     ensures same { OnErr result (F.failed files.new ≡ F.failed files.old) }
     ensures kept { KeepsFiles (files_at F.held F.sound F.failed files.old) (files_at F.held F.sound F.failed files.new) }
 {
     let mut contents = List::new(alloc);
     for file in to_read {
-        match look(alloc, *file, files)? {
+        match read_one(alloc, *file, files)? {
             Found::Whole(bytes) => contents.push(bytes)?,
             Found::Unread => return Ok(FilesRead::Failed(*file)),
             Found::Longer => return Ok(FilesRead::TooLong(*file)),
@@ -189,7 +189,7 @@ pub(crate) fn read_files<'a, F: Files>(
     job: &'a Job,
     files: &mut F,
 ) -> Result<FilesRead<'a>, NoMemory>
-    ensures seen { IfOk result (λ read. ReadsAll (modes.reads_of job.now) (files_at F.held F.sound F.failed files.old)
+    ensures reads { IfOk result (λ read. ReadsAll (modes.reads_of job.now) (files_at F.held F.sound F.failed files.old)
         (files_at F.held F.sound F.failed files.new) (read_view read)) }
     ensures same { OnErr result (F.failed files.new ≡ F.failed files.old) }
     ensures kept { KeepsFiles (files_at F.held F.sound F.failed files.old) (files_at F.held F.sound F.failed files.new) }

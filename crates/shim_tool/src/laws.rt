@@ -1,4 +1,4 @@
-// Laws of what the tool tells.
+// Laws of what the tool prints.
 ghost use Rattle.std.specs.Prelude.{Option};
 ghost use Rattle.shim_command.specs.declared.job.Job.{Job};
 ghost use Rattle.shim_results.specs.Answer.{Answer};

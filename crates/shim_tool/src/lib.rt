@@ -1,4 +1,4 @@
-//! The command: its words, its files, the run and what is told of it.
+//! The command: its arguments, its files, the run and what is printed of it.
 #![tactic(auto)]
 
 mod call;

@@ -15,7 +15,7 @@ ghost use Rattle.shim_tool.specs.PreparedView.{prepared_view};
 
 use crate::files::{Beside, Contents, FilesRead, contents_of, read_files};
 use crate::lines::{file_failed, file_too_long, usage};
-use shim_answers::{PreparedRun, RunOfEach, RunToRecord, answer_replay, answer_telling};
+use shim_answers::{PreparedRun, RunOfEach, RunToRecord, answer_description, answer_replay};
 use shim_base::{List, NoMemory};
 use shim_command::{Course, Job, Kind, Origin, Showing, Task, WordsFault, read_words};
 use shim_edge::Files;
@@ -91,7 +91,7 @@ fn leave_to_run_each(
     }
 }
 
-// Tells what the source in a text means, or leaves its run to workers, as the course asks.
+// Answers what the source in a text means, or leaves its run to workers, as the course asks.
 fn prepare_run(
     alloc: Global,
     job: Job,
@@ -131,7 +131,11 @@ fn prepare_source(
         inputs,
     } = beside;
     match job.mode.row().task {
-        Task::Tells(telling) => Ok(Prepared::Answered(answer_telling(alloc, telling, bytes)?)),
+        Task::Describes(description) => Ok(Prepared::Answered(answer_description(
+            alloc,
+            description,
+            bytes,
+        )?)),
         Task::Runs(course, showing) => prepare_run(alloc, job, course, showing, bytes, input),
         Task::Records => leave_to_record(alloc, job, bytes, input),
         Task::Replays => Ok(Prepared::Answered(answer_replay(
@@ -173,7 +177,7 @@ fn prepare_contents(alloc: Global, job: Job, contents: List<List<u8>>) -> Result
     requires within { IsWithin job }
     requires short { (row_of job.mode).origin ≡ origins.Stored → length (first_content contents) ≤ 1048576 }
     requires few { length (journal_in job contents) ≤ 67108864 }
-    ensures { IfOk result (λ p. prepares.PreparesSaw job (all contents) (prepared_view p)) }
+    ensures { IfOk result (λ p. prepares.PreparesRead job (all contents) (prepared_view p)) }
 {
     let Contents { source, beside } = contents_of(alloc, &job, contents);
     let text = source_of(alloc, &job, source)?;
@@ -206,7 +210,7 @@ fn prepare_job<F: Files>(alloc: Global, job: Job, files: &mut F) -> Result<Prepa
 /// source, which is left with its input; and so is one that is to be recorded, and so are runs on several
 /// inputs, of which there are as many as the words name. "Exactly where" is said of told files, within
 /// their limits; of other files, that there is such a source. A read that failed may come in place of
-/// both, and so may want of memory, which is `Err`.
+/// both, and so may out of memory, which is `Err`.
 pub fn prepare<F: Files>(
     alloc: Global,
     words: &[String],

@@ -13,6 +13,7 @@ pub record HasSteps {S : Type 0} (o : Ops S) (g : OpenGrant S) : Type 0 where
   pub stop : o.stop g.start ≡ AtQuiet
 
 -- so it is of each of these grants
+-- so it is of each of these grants
 abbrev pub HaveSteps : {S : Type 0} → Ops S → List (OpenGrant S) → Type 0
 HaveSteps o grants = All (HasSteps o) grants
 

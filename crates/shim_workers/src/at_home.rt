@@ -4,7 +4,7 @@ ghost use Rattle.shim_workers.specs.Workers.{SameName};
 
 use crate::in_place::step_next;
 use crate::lengths::{LONGEST, longer};
-use crate::pool::Pool;
+use crate::shared_state::SharedState;
 use shim_base::NoMemory;
 use shim_local::Local;
 use shim_net::{Gate, Net};
@@ -73,11 +73,11 @@ impl AtHome {
         &mut self,
         net: &mut Net<L>,
         gate: &G,
-        pool: &Pool,
+        shared_state: &SharedState,
     ) -> Result<Option<HandOut>, NoMemory>
         ensures net { SameName net.old net.new }
     {
-        let lengths = pool.lengths();
+        let lengths = shared_state.lengths();
         let is_alone = net.runnable() <= 1;
         let limit = if is_alone {
             u64::MAX
@@ -107,7 +107,7 @@ impl AtHome {
         &mut self,
         net: &mut Net<L>,
         gate: &G,
-        pool: &Pool,
+        shared_state: &SharedState,
     ) -> Result<Option<HandOut>, NoMemory>
         ensures net { SameName net.old net.new }
     {
@@ -116,15 +116,15 @@ impl AtHome {
             if self.runs >= RUNS_IN_A_TURN || self.steps >= LONGEST {
                 return Ok(None);
             }
-            if pool.hands_out_untried() && net.runnable() > 1 {
+            if shared_state.hands_out_untried() && net.runnable() > 1 {
                 self.runs = RUNS_IN_A_TURN; // others do what is at home
                 return Ok(Some(HandOut {
                     some: u64::MAX,
-                    most: pool.lengths().first(),
+                    most: shared_state.lengths().first(),
                     mine: 1,
                 }));
             }
-            if let Some(out) = self.run_one(net, gate, pool)? {
+            if let Some(out) = self.run_one(net, gate, shared_state)? {
                 return Ok(Some(out));
             }
             net.settle()?;

@@ -6,20 +6,20 @@ ghost use Rattle.shim_workers.specs.Workers.{HasTurn, SameName};
 use crate::handing_out::{Handed, hand_out, redo};
 use crate::lengths::longer_out;
 use crate::load::{Load, NetBoard, NetChair};
-use crate::pool::Pool;
+use crate::shared_state::SharedState;
 use shim_base::NoMemory;
 use shim_local::{Finished, Local};
 use shim_net::{Absorbed, Net};
 
 // What came of a slot.
 #[derive(Clone, Copy)]
-enum Came {
+enum SlotOutcome {
     /// Nothing has come back.
-    Nothing,
+    Empty,
     /// A piece came back, and its process is at home.
-    Home,
+    Returned,
     /// A piece came back and was used up, and another one is out in its place.
-    Out,
+    Reissued,
 }
 
 /// How many pieces came back, and in place of how many of these others went out.
@@ -38,9 +38,9 @@ fn redo_lost<L: Local>(net: &mut Net<L>, slot: u64, round: u64) -> Result<(), No
     Ok(())
 }
 
-// Takes in a piece that has come back. One that wanted memory is want of memory, and one that is of no
+// Takes in a piece that has come back. One that ran out of memory is `NoMemory`, and one that is of no
 // open grant is dropped.
-fn take_back<L: Local>(net: &mut Net<L>, finished: Finished<L>) -> Result<(), NoMemory>
+fn absorb_or_redo<L: Local>(net: &mut Net<L>, finished: Finished<L>) -> Result<(), NoMemory>
     ensures { SameName net.old net.new }
 {
     match net.absorb(finished) {
@@ -62,7 +62,7 @@ fn is_next<L: Local>(net: &mut Net<L>, pid: u64) -> bool
 pub(crate) fn take_in<L: Local>(
     net: &mut Net<L>,
     finished: Finished<L>,
-    pool: &Pool,
+    shared_state: &SharedState,
 ) -> Result<Option<u64>, NoMemory>
     ensures net { SameName net.old net.new }
     ensures most { IfOk result (λ next. IfSome next (λ most. 1 ≤ most)) }
@@ -70,9 +70,9 @@ pub(crate) fn take_in<L: Local>(
     let used = finished.used;
     let pid = finished.pid;
     let is_used_up = used == finished.grant;
-    take_back(net, finished)?;
+    absorb_or_redo(net, finished)?;
     if !is_used_up {
-        pool.came_early();
+        shared_state.note_early_stop();
         return Ok(None);
     }
     if !is_next(net, pid) {
@@ -87,8 +87,8 @@ fn collect<L: Local>(
     chair: &mut NetChair<L>,
     net: &mut Net<L>,
     slot: u64,
-    pool: &Pool,
-) -> Result<Came, NoMemory>
+    shared_state: &SharedState,
+) -> Result<SlotOutcome, NoMemory>
     requires chair { HasTurn 1 board.now chair.old }
     requires slot { HasSlot board.now slot }
     ensures turn { HasTurn 1 board.now chair.new }
@@ -96,18 +96,18 @@ fn collect<L: Local>(
     ensures net { SameName net.old net.new }
 {
     match board.collect(chair, slot) {
-        None => Ok(Came::Nothing),
+        None => Ok(SlotOutcome::Empty),
         Some(Load::Out(parcel)) => {
             redo_lost(net, parcel.slot, parcel.round)?;
-            Ok(Came::Home)
+            Ok(SlotOutcome::Returned)
         }
         Some(Load::Back(finished)) => {
-            let Some(most) = take_in(net, finished, pool)? else {
-                return Ok(Came::Home);
+            let Some(most) = take_in(net, finished, shared_state)? else {
+                return Ok(SlotOutcome::Returned);
             };
             match hand_out(board, chair, net, slot, most)? {
-                Handed::Put => Ok(Came::Out),
-                Handed::NotPut | Handed::NoneLeft => Ok(Came::Home),
+                Handed::Put => Ok(SlotOutcome::Reissued),
+                Handed::NotPut | Handed::NoneLeft => Ok(SlotOutcome::Returned),
             }
         }
     }
@@ -119,7 +119,7 @@ pub(crate) fn collect_all<L: Local>(
     chair: &mut NetChair<L>,
     net: &mut Net<L>,
     slots: u64,
-    pool: &Pool,
+    shared_state: &SharedState,
 ) -> Result<Collected, NoMemory>
     requires chair { HasTurn 1 board.now chair.old }
     requires slots { slots_of board.now ≡ slots }
@@ -130,10 +130,10 @@ pub(crate) fn collect_all<L: Local>(
     let mut back = 0u64;
     let mut out = 0u64;
     for slot in 0..slots {
-        match collect(board, chair, net, slot, pool)? {
-            Came::Nothing => {}
-            Came::Home => back = back.saturating_add(1),
-            Came::Out => {
+        match collect(board, chair, net, slot, shared_state)? {
+            SlotOutcome::Empty => {}
+            SlotOutcome::Returned => back = back.saturating_add(1),
+            SlotOutcome::Reissued => {
                 back = back.saturating_add(1);
                 out = out.saturating_add(1);
             }

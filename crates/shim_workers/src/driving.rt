@@ -7,7 +7,7 @@ ghost use Rattle.shim_workers.specs.Workers.{SameName};
 use crate::lengths::{LONGEST_OUT, Lengths};
 use crate::over_board::run_over_board;
 use crate::over_lanes::run_over_lanes;
-use crate::pool::Pool;
+use crate::shared_state::SharedState;
 use crate::turns::rounds;
 use shim_base::NoMemory;
 use shim_local::Local;
@@ -25,22 +25,22 @@ enum Between {
     Lanes,
 }
 
-// Lets workers run a net until it has come to its end or one of them wants memory.
+// Lets workers run a net until it has come to its end or one of them is out of memory.
 fn run_over<L: Local, G: Gate, R: Threads + Wait + Sync>(
     rt: &R,
     alloc: Global,
     net: Net<L>,
     workers: u64,
     gate: &G,
-    pool: &Pool,
+    shared_state: &SharedState,
     between: Between,
 ) -> Result<Net<L>, NoMemory>
     requires workers { (1 ≤ workers) × (workers ≤ 16) }
     ensures name { IfOk result (SameName net) }
 {
     match between {
-        Between::Board => run_over_board(rt, alloc, net, workers, gate, pool),
-        Between::Lanes => run_over_lanes(rt, alloc, net, workers, gate, pool),
+        Between::Board => run_over_board(rt, alloc, net, workers, gate, shared_state),
+        Between::Lanes => run_over_lanes(rt, alloc, net, workers, gate, shared_state),
     }
 }
 
@@ -67,9 +67,9 @@ fn run_by_workers<L: Local, G: Gate, R: Threads + Wait + Sync>(
     if workers == 1 || cost > LONGEST_OUT {
         return rounds(rt, alloc, net, 1, quantum, gate);
     }
-    let pool = Pool::new(Lengths::new(quantum, cost));
-    let over = run_over(rt, alloc, net, workers as u64, gate, &pool, between)?;
-    if pool.wanted_memory() {
+    let shared_state = SharedState::new(Lengths::new(quantum, cost));
+    let over = run_over(rt, alloc, net, workers as u64, gate, &shared_state, between)?;
+    if shared_state.wanted_memory() {
         return Err(NoMemory);
     }
     rounds(rt, alloc, over, workers, quantum, gate)
@@ -81,7 +81,7 @@ fn run_by_workers<L: Local, G: Gate, R: Threads + Wait + Sync>(
 /// The first piece of a process has at most `quantum` steps, and one that follows a piece which was used up
 /// may be longer. Once pieces stop early, processes are tried where they stand, and only what runs long is given
 /// out. One worker needs no board, and does the pieces where the processes stand; and so it is where handing a
-/// process over costs more than the longest piece. Where a worker wants memory all of them end, and so does the
+/// process over costs more than the longest piece. Where a worker is out of memory all of them end, and so does the
 /// run. Workers try again where there is nothing to do, so this returns only if they do.
 pub fn drive<L: Local, G: Gate, R: Threads + Wait + Sync>(
     rt: &R,

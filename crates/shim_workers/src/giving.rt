@@ -4,17 +4,17 @@ ghost use Rattle.shim_semantics.specs.Trees.{steps};
 ghost use Rattle.shim_net.specs.Progress.{GoesOn, CanGive};
 ghost use Rattle.shim_workers.specs.Progress.{HaveSteps, HaveSlotsBelow};
 
-use crate::job::Jobs;
+use crate::assignment::Assignments;
 use shim_base::NoMemory;
 use shim_local::Local;
 use shim_net::Net;
 use std::alloc::Global;
 
-// Gives a piece of work to the jobs; false where none can be given out. Pieces of the round that are out
+// Gives a piece of work to the assignments; false where none can be given out. Pieces of the round that are out
 // have a lower slot.
 fn give<L: Local>(
     net: &mut Net<L>,
-    jobs: &mut Jobs<L>,
+    assignments: &mut Assignments<L>,
     most: u64,
     slot: u64,
     round: u64,
@@ -31,7 +31,7 @@ fn give<L: Local>(
     match net.grant(most, slot, round)? {
         None => Ok(false),
         Some(parcel) => {
-            jobs.deal(parcel)?;
+            assignments.assign(parcel)?;
             Ok(true)
         }
     }
@@ -44,7 +44,7 @@ pub(crate) fn give_all<L: Local>(
     workers: u32,
     most: u64,
     round: u64,
-) -> Result<Jobs<L>, NoMemory>
+) -> Result<Assignments<L>, NoMemory>
     requires workers { (1 ≤ workers) × (workers ≤ 16) }
     requires most { 1 ≤ most }
     requires home { net.old.grants ≡ [] }
@@ -53,13 +53,13 @@ pub(crate) fn give_all<L: Local>(
     ensures steps { OnOk result (HaveSteps L.ops net.new.grants) }
     ensures more { OnOk result (steps net.old.tree + length net.old.grants < steps net.new.tree + length net.new.grants) }
 {
-    let mut jobs = Jobs::new(alloc, workers);
+    let mut assignments = Assignments::new(alloc, workers);
     let mut slot = 0u64;
     while slot < u64::MAX {
-        if !give(net, &mut jobs, most, slot, round)? {
-            return Ok(jobs);
+        if !give(net, &mut assignments, most, slot, round)? {
+            return Ok(assignments);
         }
         slot += 1;
     }
-    Ok(jobs)
+    Ok(assignments)
 }

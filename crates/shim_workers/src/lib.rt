@@ -2,20 +2,20 @@
 //! board from which each worker claims its work, or out of lanes from which workers steal.
 #![tactic(auto)]
 
+mod assignment;
 mod at_home;
 mod collecting;
 mod driving;
 mod giving;
 mod handing_out;
 mod in_place;
-mod job;
 mod lengths;
 mod load;
 mod over_board;
 mod over_lanes;
 mod pieces;
-mod pool;
 mod scheduling;
+mod shared_state;
 mod start;
 mod stealing;
 mod taking;

@@ -4,7 +4,7 @@ ghost use Rattle.shim_board.specs.Chairs.{StandsAs, slots_of};
 ghost use Rattle.shim_workers.specs.Workers.{HasTurn, SameName};
 
 use crate::load::NetChair;
-use crate::pool::Pool;
+use crate::shared_state::SharedState;
 use crate::worker::{SLOTS_EACH, run_worker};
 use shim_base::{List, NoMemory};
 use shim_board::Board;
@@ -16,14 +16,14 @@ use std::thread;
 use std::thread::Threads;
 
 /// Lets so many workers run a net, which hand its work out over the slots of a board, until it has come to its end
-/// or one of them wants memory.
+/// or one of them is out of memory.
 pub(crate) fn run_over_board<L: Local, G: Gate, R: Threads + Wait + Sync>(
     rt: &R,
     alloc: Global,
     net: Net<L>,
     workers: u64,
     gate: &G,
-    pool: &Pool,
+    shared_state: &SharedState,
 ) -> Result<Net<L>, NoMemory>
     requires workers { (1 ≤ workers) × (workers ≤ 16) }
     ensures name { IfOk result (SameName net) }
@@ -37,7 +37,7 @@ pub(crate) fn run_over_board<L: Local, G: Gate, R: Threads + Wait + Sync>(
         &|chair: NetChair<L>| -> NetChair<L>
             requires { HasTurn 0 shared.now chair × (slots_of shared.now ≡ slots) }
             ensures { HasTurn 0 shared.entry.now result × StandsAs chair result }
-        { run_worker(rt, shared, chair, slots, gate, pool) },
+        { run_worker(rt, shared, chair, slots, gate, shared_state) },
     )?;
     let Ok(closed) = board.close(alloc, List::from(chairs)) else {
         return Err(NoMemory);

@@ -4,7 +4,7 @@ ghost use Rattle.shim_board.specs.Chairs.{StandsAs};
 ghost use Rattle.shim_workers.specs.Workers.{HasTurn, SameName};
 
 use crate::load::NetChair;
-use crate::pool::Pool;
+use crate::shared_state::SharedState;
 use crate::start::{Start, starts};
 use crate::stealing::run_stealer;
 use shim_base::{List, NoMemory};
@@ -18,7 +18,7 @@ use std::thread;
 use std::thread::Threads;
 
 /// Lets so many workers run a net, each of which hands its work out into a lane of its own, from which the others
-/// steal, until it has come to its end or one of them wants memory. The net goes with the turn of a board whose
+/// steal, until it has come to its end or one of them is out of memory. The net goes with the turn of a board whose
 /// only slot stays empty.
 pub(crate) fn run_over_lanes<L: Local, G: Gate, R: Threads + Wait + Sync>(
     rt: &R,
@@ -26,7 +26,7 @@ pub(crate) fn run_over_lanes<L: Local, G: Gate, R: Threads + Wait + Sync>(
     net: Net<L>,
     workers: u64,
     gate: &G,
-    pool: &Pool,
+    shared_state: &SharedState,
 ) -> Result<Net<L>, NoMemory>
     requires workers { (1 ≤ workers) × (workers ≤ 16) }
     ensures name { IfOk result (SameName net) }
@@ -41,7 +41,7 @@ pub(crate) fn run_over_lanes<L: Local, G: Gate, R: Threads + Wait + Sync>(
         &|start: Start<L>| -> NetChair<L>
             requires { HasTurn 0 shared.now start.0 }
             ensures { HasTurn 0 shared.entry.now result × StandsAs start.0 result }
-        { run_stealer(rt, shared, start, gate, pool) },
+        { run_stealer(rt, shared, start, gate, shared_state) },
     )?;
     let Ok(closed) = board.close(alloc, List::from(chairs)) else {
         return Err(NoMemory);

@@ -4,7 +4,7 @@ ghost use Rattle.shim_workers.specs.Workers.{SameName};
 
 use crate::collecting::{Collected, take_in};
 use crate::handing_out::{Handed, redo};
-use crate::pool::Pool;
+use crate::shared_state::SharedState;
 use shim_base::NoMemory;
 use shim_local::{Finished, Local, Parcel, work};
 use shim_net::{Gate, Net};
@@ -142,7 +142,7 @@ impl<L: Local> Pieces<L> {
     pub(crate) fn take_in_all(
         &mut self,
         net: &mut Net<L>,
-        pool: &Pool,
+        shared_state: &SharedState,
     ) -> Result<Collected, NoMemory>
         ensures net { SameName net.old net.new }
     {
@@ -153,7 +153,7 @@ impl<L: Local> Pieces<L> {
                 break;
             };
             back = back.saturating_add(1);
-            if let Some(most) = take_in(net, finished, pool)? {
+            if let Some(most) = take_in(net, finished, shared_state)? {
                 out = out.saturating_add(self.hand_out_some(net, 1, most)?);
             }
         }

@@ -7,7 +7,7 @@ use crate::at_home::{AtHome, RUNS_IN_A_TURN};
 use crate::collecting::{Collected, collect_all};
 use crate::handing_out::hand_out_some;
 use crate::load::{NetBoard, NetChair};
-use crate::pool::Pool;
+use crate::shared_state::SharedState;
 use shim_base::NoMemory;
 use shim_local::Local;
 use shim_net::{Gate, Net, Standing};
@@ -17,13 +17,13 @@ use shim_net::{Gate, Net, Standing};
 pub(crate) fn settle_behind<L: Local>(
     net: &mut Net<L>,
     collected: Collected,
-    pool: &Pool,
+    shared_state: &SharedState,
 ) -> Result<(), NoMemory>
     ensures net { SameName net.old net.new }
 {
     net.settle()?;
     let mine = u64::from(net.next_home().is_none());
-    pool.call(collected.out.saturating_sub(mine));
+    shared_state.wake(collected.out.saturating_sub(mine));
     Ok(())
 }
 
@@ -34,7 +34,7 @@ pub(crate) fn end_turn<L: Local>(
     chair: &mut NetChair<L>,
     net: Net<L>,
     found: Result<bool, NoMemory>,
-    pool: &Pool,
+    shared_state: &SharedState,
 ) -> bool
     requires chair { HasTurn 1 board.now chair.old }
     requires net { IsNetOf board.now net }
@@ -46,12 +46,12 @@ pub(crate) fn end_turn<L: Local>(
     match found {
         Ok(found) => {
             if is_over {
-                pool.end();
+                shared_state.end();
             }
             found
         }
         Err(NoMemory) => {
-            pool.want_memory();
+            shared_state.want_memory();
             false
         }
     }
@@ -65,7 +65,7 @@ fn schedule_net<L: Local, G: Gate>(
     net: &mut Net<L>,
     slots: u64,
     gate: &G,
-    pool: &Pool,
+    shared_state: &SharedState,
 ) -> Result<bool, NoMemory>
     requires chair { HasTurn 1 board.now chair.old }
     requires slots { slots_of board.now ≡ slots }
@@ -73,16 +73,16 @@ fn schedule_net<L: Local, G: Gate>(
     ensures same { StandsAs chair.old chair.new }
     ensures net { SameName net.old net.new }
 {
-    let collected = collect_all(board, chair, net, slots, pool)?;
-    settle_behind(net, collected, pool)?;
+    let collected = collect_all(board, chair, net, slots, shared_state)?;
+    settle_behind(net, collected, shared_state)?;
     let mut home = AtHome::new();
     let mut found = collected.back > 0;
     for _ in 0..RUNS_IN_A_TURN {
-        let Some(out) = home.run(net, gate, pool)? else {
+        let Some(out) = home.run(net, gate, shared_state)? else {
             break;
         };
         let put = hand_out_some(board, chair, net, slots, out.some, out.most)?;
-        pool.call(put.saturating_sub(out.mine));
+        shared_state.wake(put.saturating_sub(out.mine));
         found = found || put > 0;
     }
     Ok(found || home.has_run())
@@ -96,7 +96,7 @@ pub(crate) fn schedule<L: Local, G: Gate>(
     mut net: Net<L>,
     slots: u64,
     gate: &G,
-    pool: &Pool,
+    shared_state: &SharedState,
 ) -> bool
     requires chair { HasTurn 1 board.now chair.old }
     requires slots { slots_of board.now ≡ slots }
@@ -104,6 +104,6 @@ pub(crate) fn schedule<L: Local, G: Gate>(
     ensures turn { HasTurn 0 board.now chair.new }
     ensures same { StandsAs chair.old chair.new }
 {
-    let found = schedule_net(board, chair, &mut net, slots, gate, pool);
-    end_turn(board, chair, net, found, pool)
+    let found = schedule_net(board, chair, &mut net, slots, gate, shared_state);
+    end_turn(board, chair, net, found, shared_state)
 }

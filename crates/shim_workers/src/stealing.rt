@@ -6,8 +6,8 @@ ghost use Rattle.shim_workers.specs.Workers.{HasTurn, SameName};
 use crate::at_home::{AtHome, RUNS_IN_A_TURN};
 use crate::load::{NetBoard, NetChair};
 use crate::pieces::Pieces;
-use crate::pool::Pool;
 use crate::scheduling::{end_turn, settle_behind};
+use crate::shared_state::SharedState;
 use crate::start::Start;
 use shim_base::NoMemory;
 use shim_local::Local;
@@ -20,20 +20,20 @@ fn schedule_net<L: Local, G: Gate>(
     pieces: &mut Pieces<L>,
     net: &mut Net<L>,
     gate: &G,
-    pool: &Pool,
+    shared_state: &SharedState,
 ) -> Result<bool, NoMemory>
     ensures net { SameName net.old net.new }
 {
-    let taken = pieces.take_in_all(net, pool)?;
-    settle_behind(net, taken, pool)?;
+    let taken = pieces.take_in_all(net, shared_state)?;
+    settle_behind(net, taken, shared_state)?;
     let mut home = AtHome::new();
     let mut found = taken.back > 0;
     for _ in 0..RUNS_IN_A_TURN {
-        let Some(out) = home.run(net, gate, pool)? else {
+        let Some(out) = home.run(net, gate, shared_state)? else {
             break;
         };
         let put = pieces.hand_out_some(net, out.some, out.most)?;
-        pool.call(put.saturating_sub(out.mine));
+        shared_state.wake(put.saturating_sub(out.mine));
         found = found || put > 0;
     }
     Ok(found || home.has_run())
@@ -47,7 +47,7 @@ fn work_once<L: Local, G: Gate, R: Wait>(
     chair: &mut NetChair<L>,
     pieces: &mut Pieces<L>,
     gate: &G,
-    pool: &Pool,
+    shared_state: &SharedState,
 ) -> bool
     requires chair { HasTurn 0 board.now chair.old }
     ensures turn { HasTurn 0 board.now chair.new }
@@ -59,19 +59,19 @@ fn work_once<L: Local, G: Gate, R: Wait>(
     match board.take_turn(chair) {
         None => false,
         Some(mut net) => {
-            let found = schedule_net(pieces, &mut net, gate, pool);
-            end_turn(board, chair, net, found, pool)
+            let found = schedule_net(pieces, &mut net, gate, shared_state);
+            end_turn(board, chair, net, found, shared_state)
         }
     }
 }
 
-/// Works until the run has come to its end or wants memory, and hands the chair back.
+/// Works until the run has come to its end or is out of memory, and hands the chair back.
 pub(crate) fn run_stealer<L: Local, G: Gate, R: Wait>(
     rt: &R,
     board: &NetBoard<L>,
     start: Start<L>,
     gate: &G,
-    pool: &Pool,
+    shared_state: &SharedState,
 ) -> NetChair<L>
     requires chair { HasTurn 0 board.now start.0 }
     ensures turn { HasTurn 0 board.now result }
@@ -80,14 +80,14 @@ pub(crate) fn run_stealer<L: Local, G: Gate, R: Wait>(
     let (mut chair, mut pieces) = start;
     let mut tries = 0u64;
     for _ in rt.forever() {
-        let news = pool.news();
-        if !pool.is_running() {
+        let epoch = shared_state.epoch();
+        if !shared_state.is_running() {
             break;
         }
-        let found = work_once(rt, board, &mut chair, &mut pieces, gate, pool);
-        tries = pool.after_look(rt, news, tries, found);
+        let found = work_once(rt, board, &mut chair, &mut pieces, gate, shared_state);
+        tries = shared_state.after_look(rt, epoch, tries, found);
         if pieces.has_done() {
-            tries = Pool::awake(tries); // nobody else can take in what it did
+            tries = SharedState::awake(tries); // nobody else can take in what it did
         }
     }
     chair

@@ -8,11 +8,11 @@ use shim_local::{Finished, Local};
 use shim_net::{Absorbed, Net};
 
 // A piece of no grant changes nothing.
-fn leave<L: Local>(_finished: Finished<L>) -> Result<(), NoMemory> {
+fn discard<L: Local>(_finished: Finished<L>) -> Result<(), NoMemory> {
     Ok(())
 }
 
-// Takes in a piece that was done. One that wanted memory is want of memory.
+// Takes in a piece that was done. One that ran out of memory is `NoMemory`.
 fn take<L: Local>(net: &mut Net<L>, finished: Finished<L>) -> Result<(), NoMemory>
     requires steps { HaveSteps L.ops net.old.grants }
     ensures goes_on { OnOk result (GoesOn L.ops net.old net.new) }
@@ -21,11 +21,11 @@ fn take<L: Local>(net: &mut Net<L>, finished: Finished<L>) -> Result<(), NoMemor
     match net.absorb(finished) {
         Absorbed::Taken => Ok(()),
         Absorbed::Short => Err(NoMemory),
-        Absorbed::Stranger(finished) => leave(finished),
+        Absorbed::Stranger(finished) => discard(finished),
     }
 }
 
-/// Takes in all that one job did.
+/// Takes in all that one assignment did.
 pub(crate) fn take_in_all<L: Local>(
     net: &mut Net<L>,
     done: Vec<Finished<L>>,

@@ -57,8 +57,8 @@ fn turn<L: Local, G: Gate, R: Threads + Sync>(
     ensures home { OnOk result (net.new.grants ≡ []) }
     ensures more { OnOk result (steps net.old.tree < steps net.new.tree) }
 {
-    let jobs = give_all(alloc, net, workers, most, round)?;
-    for one in jobs.do_all(rt, gate)? {
+    let assignments = give_all(alloc, net, workers, most, round)?;
+    for one in assignments.do_all(rt, gate)? {
         take_in_all(net, one)?;
     }
     net.redo_all()?;

@@ -4,8 +4,8 @@ ghost use Rattle.shim_board.specs.Chairs.{HasSlot, StandsAs, slots_of};
 ghost use Rattle.shim_workers.specs.Workers.{HasTurn};
 
 use crate::load::{Load, NetBoard, NetChair};
-use crate::pool::Pool;
 use crate::scheduling::schedule;
+use crate::shared_state::SharedState;
 use shim_local::{Local, work};
 use shim_net::Gate;
 use std::sync::Wait;
@@ -67,7 +67,7 @@ fn work_once<L: Local, G: Gate>(
     slots: u64,
     first: u64,
     gate: &G,
-    pool: &Pool,
+    shared_state: &SharedState,
 ) -> bool
     requires chair { HasTurn 0 board.now chair.old }
     requires slots { slots_of board.now ≡ slots }
@@ -79,11 +79,11 @@ fn work_once<L: Local, G: Gate>(
     }
     match board.take_turn(chair) {
         None => false,
-        Some(net) => schedule(board, chair, net, slots, gate, pool),
+        Some(net) => schedule(board, chair, net, slots, gate, shared_state),
     }
 }
 
-/// Works until the run has come to its end or wants memory, and hands the chair back. Each worker begins
+/// Works until the run has come to its end or is out of memory, and hands the chair back. Each worker begins
 /// its search for a piece at slots of its own.
 pub(crate) fn run_worker<L: Local, G: Gate, R: Wait>(
     rt: &R,
@@ -91,22 +91,22 @@ pub(crate) fn run_worker<L: Local, G: Gate, R: Wait>(
     mut chair: NetChair<L>,
     slots: u64,
     gate: &G,
-    pool: &Pool,
+    shared_state: &SharedState,
 ) -> NetChair<L>
     requires chair { HasTurn 0 board.now chair }
     requires slots { slots_of board.now ≡ slots }
     ensures turn { HasTurn 0 board.now result }
     ensures same { StandsAs chair result }
 {
-    let first = pool.begin().wrapping_mul(SLOTS_EACH);
+    let first = shared_state.next_index().wrapping_mul(SLOTS_EACH);
     let mut tries = 0u64;
     for _ in rt.forever() {
-        let news = pool.news();
-        if !pool.is_running() {
+        let epoch = shared_state.epoch();
+        if !shared_state.is_running() {
             break;
         }
-        let found = work_once(board, &mut chair, slots, first, gate, pool);
-        tries = pool.after_look(rt, news, tries, found);
+        let found = work_once(board, &mut chair, slots, first, gate, shared_state);
+        tries = shared_state.after_look(rt, epoch, tries, found);
     }
     chair
 }

@@ -1,16 +1,16 @@
 use Rattle.std.proofs.Common.{◌≡◌, refl, sym, subst}
-use Rattle.shim_command.specs.declared.mode.Telling.TheVariants.{Version2}
-use Rattle.shim_results.specs.Answer.{Answer, AnswersTelling, refused}
-use Rattle.shim_answers.specs.Tasks.{AnswersTold, telling_of}
+use Rattle.shim_command.specs.declared.mode.Description.TheVariants.{Version2}
+use Rattle.shim_results.specs.Answer.{Answer, AnswersDescription, refused}
+use Rattle.shim_answers.specs.Tasks.{AnswersDescribedSource, description_of}
 use Rattle.shim_results.specs.Views.{answer_view}
 use Rattle.shim_results.proofs.ExecuteLemmas.{if_ok_weaker, of_accepted_program, of_refused}
 use Rattle.shim_answers.proofs.execute.answer_up.Goals as goal
 
 pub returns-in_ok-text_in_version_2-in-Ok : goal.returns-in_ok-text_in_version_2-in-Ok
 returns-in_ok-text_in_version_2-in-Ok c =
-    subst (λ (a : Answer). AnswersTold Version2 c.args.bytes.now a) (sym c.told.ensures)
-    (of_accepted_program (AnswersTelling (telling_of Version2)) (λ fault a. a ≡ refused fault) c.args.bytes.now c.in-Ok.program _ c.in-Ok.ensures (λ source. (refl, c.in_ok-text_in_version_2-in-Ok.ensures)))
+    subst (λ (a : Answer). AnswersDescribedSource Version2 c.args.bytes.now a) (sym c.told.ensures)
+    (of_accepted_program (AnswersDescription (description_of Version2)) (λ fault a. a ≡ refused fault) c.args.bytes.now c.in-Ok.program _ c.in-Ok.ensures (λ source. (refl, c.in_ok-text_in_version_2-in-Ok.ensures)))
 
 pub returns-in-Err : goal.returns-in-Err
 returns-in-Err c = if_ok_weaker c.refused.result _ _
-    (λ a is. of_refused (AnswersTelling (telling_of Version2)) (λ fault b. b ≡ refused fault) c.args.bytes.now c.in-Err.fault (answer_view a) is.0 is.1 is.2 c.in-Err.ensures is.3) c.refused.ensures
+    (λ a is. of_refused (AnswersDescription (description_of Version2)) (λ fault b. b ≡ refused fault) c.args.bytes.now c.in-Err.fault (answer_view a) is.0 is.1 is.2 c.in-Err.ensures is.3) c.refused.ensures

@@ -1,16 +1,16 @@
 use Rattle.std.proofs.Common.{arith}
-use Rattle.shim_results.proofs.Causes.{tells_done, tells_failed, tells_blocked}
+use Rattle.shim_results.proofs.Causes.{decides_done, decides_failed, decides_blocked}
 use Rattle.shim_tool.proofs.RowLemmas.{end_row, spent_row, count_row, beginning_row, batch_row, words_row, refused_row, file_row, sink_row, memory_row, journal_row, files_row, complete}
 use Rattle.shim_tool.proofs.call.shim.Goals as goal
 
 pub returns-clause-done : goal.returns-clause-done
-returns-clause-done g c = end_row 0 _ tells_done (omega arith) (λ e. omega (arith, e)) (λ e. omega (arith, e)) _ _ _ _ _ _ c.run_tool-status.ensures
+returns-clause-done g c = end_row 0 _ decides_done (omega arith) (λ e. omega (arith, e)) (λ e. omega (arith, e)) _ _ _ _ _ _ c.run_tool-status.ensures
 
 pub returns-clause-failed : goal.returns-clause-failed
-returns-clause-failed g c = end_row 1 _ tells_failed (omega arith) (λ e. omega (arith, e)) (λ e. omega (arith, e)) _ _ _ _ _ _ c.run_tool-status.ensures
+returns-clause-failed g c = end_row 1 _ decides_failed (omega arith) (λ e. omega (arith, e)) (λ e. omega (arith, e)) _ _ _ _ _ _ c.run_tool-status.ensures
 
 pub returns-clause-blocked : goal.returns-clause-blocked
-returns-clause-blocked g c = end_row 3 _ tells_blocked (omega arith) (λ e. omega (arith, e)) (λ e. omega (arith, e)) _ _ _ _ _ _ c.run_tool-status.ensures
+returns-clause-blocked g c = end_row 3 _ decides_blocked (omega arith) (λ e. omega (arith, e)) (λ e. omega (arith, e)) _ _ _ _ _ _ c.run_tool-status.ensures
 
 pub returns-clause-spent : goal.returns-clause-spent
 returns-clause-spent g c = spent_row _ _ _ _ _ _ c.run_tool-status.ensures

@@ -3,12 +3,12 @@ use Rattle.shim_command.specs.Modes.{ModeRow}
 use Rattle.shim_results.proofs.ExecuteLemmas.{if_ok_weaker}
 use Rattle.shim_tool.specs.PreparedView.{prepared_view}
 use Rattle.shim_tool.specs.Views.{beside_view}
-use Rattle.shim_tool.proofs.Preparing.{each_prepared, reasons_prepared, record_prepared, replay_prepared, told_prepared}
+use Rattle.shim_tool.proofs.Preparing.{each_prepared, reasons_prepared, record_prepared, replay_prepared, described_prepared}
 use Rattle.shim_tool.proofs.prepared.prepare_source.Goals as goal
 
-pub returns-in_ok-answer_telling-in-Tells : goal.returns-in_ok-answer_telling-in-Tells
-returns-in_ok-answer_telling-in-Tells c =
-    told_prepared c.args.job (beside_view c.args.beside) c.args.bytes.now c.in-Tells.telling _ (sym (ap (λ (r : ModeRow). r.task) c.row.ensures) ∙ c.in-Tells.is) c.in_ok-answer_telling-in-Tells.ensures
+pub returns-in_ok-answer_description-in-Describes : goal.returns-in_ok-answer_description-in-Describes
+returns-in_ok-answer_description-in-Describes c =
+    described_prepared c.args.job (beside_view c.args.beside) c.args.bytes.now c.in-Describes.description _ (sym (ap (λ (r : ModeRow). r.task) c.row.ensures) ∙ c.in-Describes.is) c.in_ok-answer_description-in-Describes.ensures
 
 pub prepare_run-requires-clause-runs : goal.prepare_run-requires-clause-runs
 prepare_run-requires-clause-runs c = sym (ap (λ (r : ModeRow). r.task) c.row.ensures) ∙ c.in-Runs.is

@@ -19,26 +19,26 @@ returns-in-None-clause-steps g c = let none : GivesNone g.L.Local.ops c.args.net
 pub returns-in-None-clause-none : goal.returns-in-None-clause-none
 returns-in-None-clause-none g c = let none : GivesNone g.L.Local.ops c.args.net.now c.grant.new.self = search rules in λ _. gave_none g.L.Local.ops c.args.net.now c.grant.new.self none
 
-pub returns-in_ok-deal-in-Some-clause-goes_on : goal.returns-in_ok-deal-in-Some-clause-goes_on
-returns-in_ok-deal-in-Some-clause-goes_on g c =
+pub returns-in_ok-assign-in-Some-clause-goes_on : goal.returns-in_ok-assign-in-Some-clause-goes_on
+returns-in_ok-assign-in-Some-clause-goes_on g c =
     let p = c.in-Some.parcel in
     let gave : Grants g.L.Local.ops c.args.net.now c.grant.new.self c.args.most c.args.slot c.args.round p.pid p.start p.grant = search rules in
     gave_on g.L.Local.ops c.args.net.now c.grant.new.self c.args.most c.args.slot c.args.round p.pid p.start p.grant gave
 
-pub returns-in_ok-deal-in-Some-clause-below : goal.returns-in_ok-deal-in-Some-clause-below
-returns-in_ok-deal-in-Some-clause-below g c =
+pub returns-in_ok-assign-in-Some-clause-below : goal.returns-in_ok-assign-in-Some-clause-below
+returns-in_ok-assign-in-Some-clause-below g c =
     let p = c.in-Some.parcel in
     let gave : Grants g.L.Local.ops c.args.net.now c.grant.new.self c.args.most c.args.slot c.args.round p.pid p.start p.grant = search rules in
     gave_below g.L.Local.ops c.args.net.now c.grant.new.self c.args.most c.args.slot c.args.round p.pid p.start p.grant gave c.requires.below
 
-pub returns-in_ok-deal-in-Some-clause-steps : goal.returns-in_ok-deal-in-Some-clause-steps
-returns-in_ok-deal-in-Some-clause-steps g c =
+pub returns-in_ok-assign-in-Some-clause-steps : goal.returns-in_ok-assign-in-Some-clause-steps
+returns-in_ok-assign-in-Some-clause-steps g c =
     let p = c.in-Some.parcel in
     let gave : Grants g.L.Local.ops c.args.net.now c.grant.new.self c.args.most c.args.slot c.args.round p.pid p.start p.grant = search rules in
     gave_steps g.L.Local.ops c.args.net.now c.grant.new.self c.args.most c.args.slot c.args.round p.pid p.start p.grant gave c.requires.steps
 
-pub returns-in_ok-deal-in-Some-clause-more : goal.returns-in_ok-deal-in-Some-clause-more
-returns-in_ok-deal-in-Some-clause-more g c =
+pub returns-in_ok-assign-in-Some-clause-more : goal.returns-in_ok-assign-in-Some-clause-more
+returns-in_ok-assign-in-Some-clause-more g c =
     let p = c.in-Some.parcel in
     let gave : Grants g.L.Local.ops c.args.net.now c.grant.new.self c.args.most c.args.slot c.args.round p.pid p.start p.grant = search rules in
     λ _. gave_more g.L.Local.ops c.args.net.now c.grant.new.self c.args.most c.args.slot c.args.round p.pid p.start p.grant gave

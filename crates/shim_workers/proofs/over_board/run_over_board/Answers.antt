@@ -4,7 +4,7 @@ use Rattle.shim_board.proofs.board.Board.TheSendSync as boards
 use Rattle.shim_board.proofs.chair.Chair.TheSendSync as chairs
 use Rattle.shim_net.proofs.Sends.{net_send}
 use Rattle.shim_workers.proofs.load.Load.TheSendSync as loads
-use Rattle.shim_workers.proofs.pool.Pool.TheSendSync as pools
+use Rattle.shim_workers.proofs.shared_state.SharedState.TheSendSync as pools
 use Rattle.shim_board.specs.Chairs.{AreAll, IsIdleOn, StandsAs}
 use Rattle.shim_board.proofs.Standing.{stand_as_all}
 use Rattle.shim_workers.proofs.over_board.run_over_board.Lts as lts

@@ -5,7 +5,7 @@ use Rattle.shim_board.proofs.chair.Chair.TheSendSync as chairs
 use Rattle.shim_net.proofs.Sends.{net_send}
 use Rattle.shim_workers.proofs.load.Load.TheSendSync as loads
 use Rattle.shim_workers.proofs.pieces.Pieces.TheSendSync as pieces
-use Rattle.shim_workers.proofs.pool.Pool.TheSendSync as pools
+use Rattle.shim_workers.proofs.shared_state.SharedState.TheSendSync as pools
 use Rattle.shim_workers.proofs.Starting.{mapped_length, mapped_at}
 use Rattle.shim_board.specs.Chairs.{AreAll, IsIdleOn, StandsAs}
 use Rattle.shim_board.proofs.Standing.{stand_as_all}

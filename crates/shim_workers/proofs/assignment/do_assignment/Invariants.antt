@@ -1,6 +1,6 @@
 use Rattle.std.proofs.Common.{◌≤◌, ◌+◌}
 use Rattle.std.specs.Prelude.{vec_len, vec_capacity}
-use Rattle.shim_workers.proofs.job.do_job.Given as goal
+use Rattle.shim_workers.proofs.assignment.do_assignment.Given as goal
 
 -- there is room for what is left
 abbrev pub invariant-loop-parcel : goal.invariant-loop-parcel

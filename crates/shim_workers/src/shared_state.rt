@@ -36,27 +36,27 @@ const WANTED_MEMORY: u64 = 2;
 
 /// What the run has come to, which workers sleep, how long pieces are, and whether they are worth their price.
 #[derive(Drop)]
-pub(crate) struct Pool {
+pub(crate) struct SharedState {
     lengths: Lengths,
     begun: AtomicU64,
     // RUNNING, ENDED or WANTED_MEMORY
     state: AtomicU64,
     // goes up with all that may concern an idle worker, and these sleep on it
-    news: AtomicU64,
+    epoch: AtomicU64,
     asleep: AtomicU64,
     // pieces that came back without being used up, and how many of them it takes
     early: AtomicU64,
     patience: u64,
 }
 
-impl Pool {
-    pub(crate) fn new(lengths: Lengths) -> Pool {
+impl SharedState {
+    pub(crate) fn new(lengths: Lengths) -> SharedState {
         let is_cheap = lengths.in_place() <= FEW_IN_PLACE;
-        Pool {
+        SharedState {
             lengths,
             begun: AtomicU64::new(0),
             state: AtomicU64::new(RUNNING),
-            news: AtomicU64::new(0),
+            epoch: AtomicU64::new(0),
             asleep: AtomicU64::new(0),
             early: AtomicU64::new(0),
             patience: if is_cheap { PATIENCE } else { 0 },
@@ -69,15 +69,15 @@ impl Pool {
     }
 
     /// The number of a worker that begins, from 0.
-    pub(crate) fn begin(&self) -> u64 {
+    pub(crate) fn next_index(&self) -> u64 {
         self.begun.fetch_add(1, Ordering::SeqCst)
     }
 
     // The run has come to this. Idle workers wake, so that they end, too.
     fn stop(&self, state: u64) {
         self.state.store(state, Ordering::SeqCst);
-        let _before = self.news.fetch_add(1, Ordering::SeqCst);
-        self.news.wake_all();
+        let _before = self.epoch.fetch_add(1, Ordering::SeqCst);
+        self.epoch.wake_all();
     }
 
     /// The run has come to its end.
@@ -101,7 +101,7 @@ impl Pool {
     }
 
     /// A piece came back that was not used up.
-    pub(crate) fn came_early(&self) {
+    pub(crate) fn note_early_stop(&self) {
         let _before = self.early.fetch_add(1, Ordering::SeqCst);
     }
 
@@ -114,27 +114,27 @@ impl Pool {
 
     /// What a worker has to know before it looks for work, so that it doesn't sleep over what comes
     /// meanwhile.
-    pub(crate) fn news(&self) -> u64 {
-        self.news.load(Ordering::SeqCst)
+    pub(crate) fn epoch(&self) -> u64 {
+        self.epoch.load(Ordering::SeqCst)
     }
 
     /// There is work for so many more workers: wakes as many of those that sleep.
-    pub(crate) fn call(&self, workers: u64) {
+    pub(crate) fn wake(&self, workers: u64) {
         if workers == 0 {
             return;
         }
-        let _before = self.news.fetch_add(1, Ordering::SeqCst);
+        let _before = self.epoch.fetch_add(1, Ordering::SeqCst);
         let asleep = self.asleep.load(Ordering::SeqCst);
         for _ in 0..workers.min(asleep) {
-            self.news.wake_one();
+            self.epoch.wake_one();
         }
     }
 
-    // Sleeps until something has come since this was the news, and at most so long.
-    fn sleep<R: Wait>(&self, rt: &R, news: u64, micros: u64) {
+    // Sleeps until the epoch is another than this one, and at most so long.
+    fn sleep<R: Wait>(&self, rt: &R, epoch: u64, micros: u64) {
         let _before = self.asleep.fetch_add(1, Ordering::SeqCst);
-        let seen = (news % HALF_A_WORD) as u32; // who sleeps looks at that much of a word
-        self.news
+        let seen = (epoch % HALF_A_WORD) as u32; // who sleeps looks at that much of a word
+        self.epoch
             .park_timeout(rt, seen, Duration::from_micros(micros));
         let _before = self.asleep.fetch_sub(1, Ordering::SeqCst);
     }
@@ -142,7 +142,7 @@ impl Pool {
     // Lets a worker rest that has found nothing to do so many times: first not at all, so that short work
     // is handed over fast, then until others have had the processor, and then until it is called, or for
     // longer each time.
-    fn rest<R: Wait>(&self, rt: &R, news: u64, tries: u64) {
+    fn back_off<R: Wait>(&self, rt: &R, epoch: u64, tries: u64) {
         if tries < SPINS {
             hint::spin_loop();
         } else if tries < TRIES_AWAKE {
@@ -150,7 +150,7 @@ impl Pool {
         } else {
             let sleeps = tries - TRIES_AWAKE + 1;
             let micros = sleeps.saturating_mul(SHORTEST_SLEEP);
-            self.sleep(rt, news, micros.min(LONGEST_SLEEP));
+            self.sleep(rt, epoch, micros.min(LONGEST_SLEEP));
         }
     }
 
@@ -161,11 +161,11 @@ impl Pool {
 
     /// How many times in a row a worker has found nothing to do, behind one more look; before that it was so many
     /// times. Where it found nothing again it rests.
-    pub(crate) fn after_look<R: Wait>(&self, rt: &R, news: u64, tries: u64, found: bool) -> u64 {
+    pub(crate) fn after_look<R: Wait>(&self, rt: &R, epoch: u64, tries: u64, found: bool) -> u64 {
         if found {
             return 0;
         }
-        self.rest(rt, news, tries);
+        self.back_off(rt, epoch, tries);
         tries.saturating_add(1)
     }
 }

@@ -1,9 +1,9 @@
--- What the reads of files saw, and what files that are told hold.
+-- What the reads of files gave, and what files that are told hold.
 use Rattle.std.proofs.Common.{ℕ, ◌≡◌, ◌<◌, ◌≤◌, ◌++◌, List, [], ◌∷◌, length, Option, Some, None, IfSome, IsSomeAnd, IsSome, IsTrue, inl, inr, refl, sym, ◌∙◌, subst, ap, arith}
 use Rattle.shim_edge.specs.Files.{file_of, HasFile}
 use Rattle.shim_tool.specs.Moments.{FilesAt, KeepsFiles}
 use Rattle.shim_tool.specs.Modes.{FileView}
-use Rattle.shim_tool.specs.Reads.{AreContents, ComesToRead, GrewByOneOf, Holds, HoldsAll, HoldsUpTo, IsContent, IsTooLong, ReadsAll, OneReadFailed, ReadFailed, FilesResult, all, longer_file, then_saw, unread_file, longer, unread, whole, KnownFiles}
+use Rattle.shim_tool.specs.Reads.{AreContents, ComesToRead, GrewByOneOf, Holds, HoldsAll, HoldsUpTo, IsContent, IsTooLong, ReadsAll, OneReadFailed, ReadFailed, FilesResult, all, longer_file, then_read, unread_file, longer, unread, whole, KnownFiles}
 
 -- the bytes that were read are those that the files hold
 held_bytes : (held : KnownFiles) (r : FileView) (bytes content : List ℕ) → Holds held r.name content → IsContent r held bytes → bytes ≡ content
@@ -40,27 +40,27 @@ failed_later name before between now keeps same (grew, unheld) = (
 )
 
 -- What reads came to, in one go: all files were read; or one of them failed, or is too long, with those before it read.
-abbrev pub WasSeen : List FileView → FilesAt → FilesAt → FilesResult → Type 0
-WasSeen rs before now (all contents) = AreContents before.held rs contents × (now.failed ≡ before.failed)
-WasSeen rs before now (unread_file r) = ComesToRead before.held rs r × ReadFailed r.name before now
-WasSeen rs before now (longer_file r) = ComesToRead before.held rs r × (now.failed ≡ before.failed) × IsTooLong r before.held
+abbrev pub ReadsGave : List FileView → FilesAt → FilesAt → FilesResult → Type 0
+ReadsGave rs before now (all contents) = AreContents before.held rs contents × (now.failed ≡ before.failed)
+ReadsGave rs before now (unread_file r) = ComesToRead before.held rs r × ReadFailed r.name before now
+ReadsGave rs before now (longer_file r) = ComesToRead before.held rs r × (now.failed ≡ before.failed) × IsTooLong r before.held
 
-seen_later : (r : FileView) (rs : List FileView) (before between now : FilesAt) (bytes : List ℕ) (rest : FilesResult) → KeepsFiles before between → between.failed ≡ before.failed → IsContent r before.held bytes
-    → WasSeen rs between now rest → WasSeen (r ∷ rs) before now (then_saw bytes rest)
-seen_later r rs before between now bytes (all contents) keeps same is (are, later) = ((is, subst (λ (o : KnownFiles). AreContents o rs contents) keeps.held are), later ∙ same)
-seen_later r rs before between now bytes (unread_file x) keeps same is (comes, read) =
+gave_later : (r : FileView) (rs : List FileView) (before between now : FilesAt) (bytes : List ℕ) (rest : FilesResult) → KeepsFiles before between → between.failed ≡ before.failed → IsContent r before.held bytes
+    → ReadsGave rs between now rest → ReadsGave (r ∷ rs) before now (then_read bytes rest)
+gave_later r rs before between now bytes (all contents) keeps same is (are, later) = ((is, subst (λ (o : KnownFiles). AreContents o rs contents) keeps.held are), later ∙ same)
+gave_later r rs before between now bytes (unread_file x) keeps same is (comes, read) =
     (inr (bytes, is, subst (λ (o : KnownFiles). ComesToRead o rs x) keeps.held comes), failed_later x.name before between now keeps same read)
-seen_later r rs before between now bytes (longer_file x) keeps same is (comes, later, long) =
+gave_later r rs before between now bytes (longer_file x) keeps same is (comes, later, long) =
     (inr (bytes, is, subst (λ (o : KnownFiles). ComesToRead o rs x) keeps.held comes), later ∙ same, subst (λ (o : KnownFiles). IsTooLong x o) keeps.held long)
 
-pub was_seen : (rs : List FileView) (before now : FilesAt) (saw : FilesResult) → ReadsAll rs before now saw → WasSeen rs before now saw
-was_seen [] before now saw (is, none) = subst (λ (s : FilesResult). WasSeen [] before now s) (sym none) (tt, ap (λ (f : FilesAt). f.failed) is)
-was_seen (r ∷ rs) before now saw (between, unread, keeps, sees, on) =
-    subst (λ (s : FilesResult). WasSeen (r ∷ rs) before now s) (sym on.1) (inl refl, subst (λ (f : FilesAt). ReadFailed r.name before f) (sym on.0) sees)
-was_seen (r ∷ rs) before now saw (between, longer, keeps, sees, on) =
-    subst (λ (s : FilesResult). WasSeen (r ∷ rs) before now s) (sym on.1) (inl refl, ap (λ (f : FilesAt). f.failed) on.0 ∙ sees.0, sees.1)
-was_seen (r ∷ rs) before now saw (between, whole b, keeps, sees, on) =
-    subst (λ (s : FilesResult). WasSeen (r ∷ rs) before now s) (sym on.2) (seen_later r rs before between now b on.0 keeps sees.0 sees.1 (was_seen rs between now on.0 on.1))
+pub reads_gave : (rs : List FileView) (before now : FilesAt) (files_read : FilesResult) → ReadsAll rs before now files_read → ReadsGave rs before now files_read
+reads_gave [] before now files_read (is, none) = subst (λ (s : FilesResult). ReadsGave [] before now s) (sym none) (tt, ap (λ (f : FilesAt). f.failed) is)
+reads_gave (r ∷ rs) before now files_read (between, unread, keeps, reads_one, on) =
+    subst (λ (s : FilesResult). ReadsGave (r ∷ rs) before now s) (sym on.1) (inl refl, subst (λ (f : FilesAt). ReadFailed r.name before f) (sym on.0) reads_one)
+reads_gave (r ∷ rs) before now files_read (between, longer, keeps, reads_one, on) =
+    subst (λ (s : FilesResult). ReadsGave (r ∷ rs) before now s) (sym on.1) (inl refl, ap (λ (f : FilesAt). f.failed) on.0 ∙ reads_one.0, reads_one.1)
+reads_gave (r ∷ rs) before now files_read (between, whole b, keeps, reads_one, on) =
+    subst (λ (s : FilesResult). ReadsGave (r ∷ rs) before now s) (sym on.2) (gave_later r rs before between now b on.0 keeps reads_one.0 reads_one.1 (reads_gave rs between now on.0 on.1))
 
 -- contents that were read are those that the files hold
 pub same_contents : (held : KnownFiles) (rs : List FileView) (read contents : List (List ℕ)) → AreContents held rs read → HoldsAll held rs contents → read ≡ contents
@@ -116,8 +116,8 @@ grew_later : (r : FileView) (rs : List FileView) (before between now : FilesAt) 
 grew_later r rs before between now same (inl e) = inl (e ∙ same)
 grew_later r rs before between now same (inr (x, among, e)) = inr (x, inr among, e ∙ ap (λ (l : List (List ℕ)). l ++ x.name ∷ []) same)
 
-pub looks_grew : (rs : List FileView) (before now : FilesAt) (saw : FilesResult) → ReadsAll rs before now saw → GrewByOneOf rs before now
-looks_grew [] before now saw (is, none) = inl (ap (λ (f : FilesAt). f.failed) is)
-looks_grew (r ∷ rs) before now saw (between, unread, keeps, sees, on) = inr (r, inl refl, ap (λ (f : FilesAt). f.failed) on.0 ∙ sees.0)
-looks_grew (r ∷ rs) before now saw (between, longer, keeps, sees, on) = inl (ap (λ (f : FilesAt). f.failed) on.0 ∙ sees.0)
-looks_grew (r ∷ rs) before now saw (between, whole b, keeps, sees, on) = grew_later r rs before between now sees.0 (looks_grew rs between now on.0 on.1)
+pub reads_grew : (rs : List FileView) (before now : FilesAt) (files_read : FilesResult) → ReadsAll rs before now files_read → GrewByOneOf rs before now
+reads_grew [] before now files_read (is, none) = inl (ap (λ (f : FilesAt). f.failed) is)
+reads_grew (r ∷ rs) before now files_read (between, unread, keeps, reads_one, on) = inr (r, inl refl, ap (λ (f : FilesAt). f.failed) on.0 ∙ reads_one.0)
+reads_grew (r ∷ rs) before now files_read (between, longer, keeps, reads_one, on) = inl (ap (λ (f : FilesAt). f.failed) on.0 ∙ reads_one.0)
+reads_grew (r ∷ rs) before now files_read (between, whole b, keeps, reads_one, on) = grew_later r rs before between now reads_one.0 (reads_grew rs between now on.0 on.1)
