@@ -1,13 +1,15 @@
-// Trees of small processes: their events one after another, what is seen of a tree behind them, and what
-// is read off it in the end.
+// Trees of small processes: what is read off them, and quiet steps that happen at once.
 ghost use Rattle.std.specs.Prelude.{◌≡◌, ◌≤◌, ◌⊎◌, IfOk, OnOk};
 ghost use Rattle.shim_tests_small.specs.Small.{small_ops};
 ghost use Rattle.shim_semantics.specs.Sound.{SharesItsOwn};
 ghost use Rattle.shim_semantics.specs.Trees.{steps, IsQuiescent};
 
-use shim_base::{Chan, List, NoMemory, Path, Trap, push_decimal};
-use shim_local::{Ended, History, Local, Log, LogWhat, Outcome, OwnSteps, WaitAt};
-use shim_run_log::Event;
+use crate::telling::{
+    add_before_quiet, add_children, add_enabled, add_met, add_number, add_own, add_path, add_quiet,
+    add_view, outcome_word,
+};
+use shim_base::{Chan, List, NoMemory, Path};
+use shim_local::{Ended, Local};
 use shim_tests_small::{Branch, Small, Step};
 use shim_tree::Tree;
 use std::alloc::Global;
@@ -16,203 +18,8 @@ use std::str;
 use std::sync::Arc;
 use std::test::Fail;
 
-pub(crate) fn add_number(told: &mut List<u8>, before: &[u8], number: u64) -> Result<(), NoMemory> {
-    told.extend_from_slice(before)?;
-    push_decimal(told, number)
-}
-
-pub(crate) fn add_path(told: &mut List<u8>, before: &[u8], path: &Path) -> Result<(), NoMemory> {
-    told.extend_from_slice(before)?;
-    told.extend_from_slice(b" root")?;
-    for pair in path.pairs() {
-        add_number(told, b"/", pair.0 as u64)?;
-        add_number(told, b".", pair.1 as u64)?;
-    }
-    Ok(())
-}
-
-fn add_chan(told: &mut List<u8>, before: &[u8], chan: &Chan) -> Result<(), NoMemory> {
-    add_number(told, before, chan.serial() as u64)?;
-    add_path(told, b" of", chan.home())
-}
-
-pub(crate) fn add_value(told: &mut List<u8>, value: i64) -> Result<(), NoMemory> {
-    told.extend_from_slice(b" ")?;
-    if value < 0 {
-        told.extend_from_slice(b"-")?;
-    }
-    push_decimal(told, value.unsigned_abs())
-}
-
-fn add_values(told: &mut List<u8>, values: &[i64]) -> Result<(), NoMemory> {
-    for value in values {
-        add_value(told, *value)?;
-    }
-    Ok(())
-}
-
-fn add_event(told: &mut List<u8>, event: &Event) -> Result<(), NoMemory> {
-    match event {
-        Event::Own(path) => add_path(told, b" own", path)?,
-        Event::Meet(chan) => add_chan(told, b" meet ", chan)?,
-        Event::Poison(path, chan) => add_poison(told, path, chan)?,
-        Event::Close(path) => add_path(told, b" close", path)?,
-        Event::End(path) => add_path(told, b" end", path)?,
-    }
-    told.extend_from_slice(b";")
-}
-
-fn add_poison(told: &mut List<u8>, path: &Path, chan: &Chan) -> Result<(), NoMemory> {
-    add_path(told, b" poison", path)?;
-    add_chan(told, b" on ", chan)
-}
-
-// Tells whether something can happen, and all that can.
-pub(crate) fn add_enabled<L: Local>(told: &mut List<u8>, tree: &Tree<L>) -> Result<(), NoMemory> {
-    if tree.quiescent() {
-        told.extend_from_slice(b" at rest:")?;
-    } else {
-        told.extend_from_slice(b" going:")?;
-    }
-    let events = tree.enabled()?;
-    for event in events.as_slice() {
-        add_event(told, event)?;
-    }
-    Ok(())
-}
-
-// Tells which process has this number among those that stand before a quiet step.
-fn add_quiet<L: Local>(told: &mut List<u8>, tree: &Tree<L>, at: usize) -> Result<(), NoMemory> {
-    match tree.at_quiet(at) {
-        Some(process) => add_path(told, b"", process.path()),
-        None => told.extend_from_slice(b" none"),
-    }
-}
-
-// Tells what the meetings on the root's channel of this serial number gave.
-fn add_met<L: Local>(
-    alloc: Global,
-    told: &mut List<u8>,
-    tree: &Tree<L>,
-    serial: u32,
-) -> Result<(), NoMemory> {
-    let chan = Chan::new(Arc::new(alloc, Path::root(alloc))?, serial, 0);
-    match tree.history(&chan) {
-        Some(values) => add_values(told, values),
-        None => told.extend_from_slice(b" none"),
-    }
-}
-
-// Tells what can be seen of a tree at any time. No tree of these has more than one process at a time that
-// stands before a quiet step.
-fn add_state<L: Local>(alloc: Global, told: &mut List<u8>, tree: &Tree<L>) -> Result<(), NoMemory> {
-    add_enabled(told, tree)?;
-    told.extend_from_slice(b" quiet")?;
-    add_quiet(told, tree, 0)?;
-    add_quiet(told, tree, 1)?;
-    told.extend_from_slice(b"; met")?;
-    add_met(alloc, told, tree, 2)?;
-    told.extend_from_slice(b"; met")?;
-    add_met(alloc, told, tree, 3)?;
-    told.extend_from_slice(b";")
-}
-
-fn add_output(told: &mut List<u8>, output: &[u8]) -> Result<(), NoMemory> {
-    told.extend_from_slice(b" put")?;
-    for byte in output {
-        add_number(told, b" ", *byte as u64)?;
-    }
-    told.extend_from_slice(b";")
-}
-
-fn add_histories(told: &mut List<u8>, histories: &[History]) -> Result<(), NoMemory> {
-    for history in histories {
-        add_chan(told, b" history ", &history.chan)?;
-        add_number(told, b" as ", history.chan.name() as u64)?;
-        told.extend_from_slice(b":")?;
-        add_values(told, history.values.as_slice())?;
-        told.extend_from_slice(b";")?;
-    }
-    Ok(())
-}
-
-fn trap_word(trap: Trap) -> &'static [u8] {
-    match trap {
-        Trap::Overflow => b" overflow",
-        Trap::Zero => b" zero",
-        Trap::Shift => b" shift",
-        Trap::Depth => b" depth",
-    }
-}
-
-fn add_log(told: &mut List<u8>, what: LogWhat) -> Result<(), NoMemory> {
-    match what {
-        LogWhat::Caught(name, line) => {
-            add_number(told, b" caught ", name as u64)?;
-            add_number(told, b" in ", line as u64)
-        }
-        LogWhat::Trap(trap, line) => {
-            told.extend_from_slice(trap_word(trap))?;
-            add_number(told, b" in ", line as u64)
-        }
-    }
-}
-
-fn add_logs(told: &mut List<u8>, logs: &[Log]) -> Result<(), NoMemory> {
-    for log in logs {
-        add_path(told, b" log", &log.path)?;
-        add_log(told, log.what)?;
-        told.extend_from_slice(b";")?;
-    }
-    Ok(())
-}
-
-fn add_waits(told: &mut List<u8>, waits: &[WaitAt]) -> Result<(), NoMemory> {
-    for wait in waits {
-        add_path(told, b" wait", &wait.path)?;
-        add_chan(told, b" at ", &wait.chan)?;
-        told.extend_from_slice(b";")?;
-    }
-    Ok(())
-}
-
-fn add_own(told: &mut List<u8>, own: &[OwnSteps]) -> Result<(), NoMemory> {
-    for process in own {
-        add_path(told, b" stepped", &process.path)?;
-        add_number(told, b" ", process.count)?;
-        told.extend_from_slice(b";")?;
-    }
-    Ok(())
-}
-
-fn add_outcome(told: &mut List<u8>, outcome: Outcome) -> Result<(), NoMemory> {
-    match outcome {
-        Outcome::Done => told.extend_from_slice(b" done"),
-        Outcome::Uncaught(label) => add_number(told, b" uncaught ", label as u64),
-        Outcome::Trapped => told.extend_from_slice(b" trapped"),
-        Outcome::Blocked => told.extend_from_slice(b" blocked"),
-        Outcome::Spent => told.extend_from_slice(b" spent"),
-    }
-}
-
-fn add_ended(told: &mut List<u8>, ended: &Ended) -> Result<(), NoMemory> {
-    add_output(told, ended.output.as_slice())?;
-    add_histories(told, ended.histories.as_slice())?;
-    add_logs(told, ended.logs.as_slice())?;
-    add_waits(told, ended.waits.as_slice())?;
-    add_own(told, ended.own.as_slice())?;
-    add_number(told, b" others ", ended.events)?;
-    add_number(told, b"; steps ", ended.steps)?;
-    told.extend_from_slice(b";")?;
-    add_outcome(told, ended.outcome)
-}
-
-// Does so many first events, or fewer where none is enabled any more, and tells each.
-pub(crate) fn do_events<L: Local>(
-    told: &mut List<u8>,
-    tree: &mut Tree<L>,
-    most: u64,
-) -> Result<(), NoMemory>
+// Does so many first events, or fewer where none is enabled any more.
+fn do_events<L: Local>(tree: &mut Tree<L>, most: u64) -> Result<(), NoMemory>
     requires fresh { steps tree.old ≡ 0 }
     requires few { most ≤ 255 }
     ensures { OnOk result (((steps tree.new ≤ most) × IsQuiescent L.ops tree.new) ⊎ (steps tree.new ≡ most)) }
@@ -220,13 +27,295 @@ pub(crate) fn do_events<L: Local>(
     for _ in 0..most {
         match tree.first()? {
             None => return Ok(()),
-            Some(event) => {
-                add_event(told, &event)?;
-                tree.do_event(&event)?;
-            }
+            Some(event) => tree.do_event(&event)?,
         }
     }
     Ok(())
+}
+
+// A root with these steps to do, on a channel of its own.
+fn root(alloc: Global, left: &[Step]) -> Result<Small, NoMemory>
+    ensures { IfOk result (λ root. SharesItsOwn small_ops root) }
+{
+    let chan = Chan::new(Arc::new(alloc, Path::root(alloc))?, 2, 7);
+    Ok(Small::new(Path::root(alloc), Vec::from_slice(alloc, left)?, chan))
+}
+
+// The tree of that root, to which nothing has happened.
+fn start(alloc: Global, left: &[Step]) -> Result<Tree<Small>, NoMemory>
+    ensures { IfOk result (λ tree. steps tree ≡ 0) }
+{
+    Tree::start(alloc, root(alloc, left)?)
+}
+
+// ---- what is asked of a tree
+
+// What is told of a tree. The pairs are those of the path of a process.
+#[derive(Clone, Copy)]
+enum Ask<'a> {
+    // What came of the process.
+    View(&'a [(u32, u32)]),
+    // Whether it stands before a quiet step.
+    BeforeQuiet(&'a [(u32, u32)]),
+    // The root and its first four children.
+    Children,
+    // What the meetings on the root's channel of this serial number gave.
+    Met(u32),
+    // What so many quiet steps of the process come to, and what is enabled then.
+    Steps(&'a [(u32, u32)], u8),
+}
+
+// The path of these pairs.
+fn path_of(alloc: Global, pairs: &[(u32, u32)]) -> Result<Path, NoMemory> {
+    let mut path = Path::root(alloc);
+    for pair in pairs {
+        path = path.child(pair.0, pair.1)?;
+    }
+    Ok(path)
+}
+
+fn tell_steps<L: Local>(
+    told: &mut List<u8>,
+    tree: &mut Tree<L>,
+    path: &Path,
+    count: u8,
+) -> Result<(), NoMemory>
+    requires { steps tree.old ≤ 255 }
+{
+    match tree.step_on(path, count as u64) {
+        Ok(true) => told.extend_from_slice(b" true")?,
+        Ok(false) => told.extend_from_slice(b" false")?,
+        Err(NoMemory) => told.extend_from_slice(b" no memory")?,
+    }
+    add_enabled(told, tree)
+}
+
+fn tell<L: Local>(told: &mut List<u8>, tree: &mut Tree<L>, ask: Ask<'_>) -> Result<(), NoMemory>
+    requires { steps tree.old ≤ 255 }
+{
+    let alloc = told.allocator();
+    match ask {
+        Ask::View(pairs) => add_view(told, tree, &path_of(alloc, pairs)?),
+        Ask::BeforeQuiet(pairs) => add_before_quiet(told, tree, &path_of(alloc, pairs)?),
+        Ask::Children => add_children(told, tree),
+        Ask::Met(serial) => add_met(told, tree, serial),
+        Ask::Steps(pairs, count) => tell_steps(told, tree, &path_of(alloc, pairs)?, count),
+    }
+}
+
+// What is told of this tree of no events behind so many first ones, or fewer.
+fn told_behind<L: Local>(
+    alloc: Global,
+    tree: &mut Tree<L>,
+    most: u8,
+    ask: Ask<'_>,
+) -> Result<List<u8>, NoMemory>
+    requires { steps tree.old ≡ 0 }
+{
+    do_events(tree, most as u64)?;
+    let mut told = List::new(alloc);
+    tell(&mut told, tree, ask)?;
+    Ok(told)
+}
+
+fn answer(alloc: Global, left: &[Step], most: u8, ask: Ask<'_>) -> Result<List<u8>, NoMemory> {
+    let mut tree = start(alloc, left)?;
+    told_behind(alloc, &mut tree, most, ask)
+}
+
+// How many events happen at most, what is asked then, and what is told.
+type Row<'a> = (u8, Ask<'a>, &'a str);
+
+// Expects these answers of the tree of a root with these steps to do.
+fn expect(rt: &impl Abort, alloc: Global, left: &[Step], rows: &[Row<'_>]) -> Result<(), Fail> {
+    for row in rows {
+        let told = answer(alloc, left, row.0, row.1)?;
+        assert_eq!(rt; str::from_utf8(told.as_slice())?, row.2);
+    }
+    Ok(())
+}
+
+#[test]
+fn view_tells_what_came_of_the_process_of_a_path(rt: HostRuntime) -> Result<(), Fail> {
+    expect(
+        &rt,
+        rt.alloc(),
+        &[Step::Quiet, Step::Fork, Step::Quiet],
+        &[
+            (0, Ask::View(&[]), " live root"),
+            (0, Ask::View(&[(0, 0)]), " none"),
+            (2, Ask::View(&[]), " forked root by 0 into 2"),
+            (2, Ask::View(&[(0, 1)]), " live root/0.1"),
+            (2, Ask::View(&[(0, 2)]), " none"), // there is no such branch
+            (2, Ask::View(&[(1, 0)]), " none"), // it has forked once
+            (2, Ask::View(&[(0, 1), (0, 0)]), " none"),
+            (4, Ask::View(&[(0, 0)]), " ended root/0.0"),
+            (6, Ask::View(&[]), " live root"), // the fork has closed
+            (6, Ask::View(&[(0, 0)]), " none"),
+            (8, Ask::View(&[]), " ended root"),
+        ],
+    )
+}
+
+#[test]
+fn view_tells_the_number_of_the_last_fork(rt: HostRuntime) -> Result<(), Fail> {
+    expect(
+        &rt,
+        rt.alloc(),
+        &[Step::Fork, Step::Fork],
+        &[
+            (1, Ask::View(&[]), " forked root by 0 into 2"),
+            (6, Ask::View(&[]), " forked root by 1 into 2"),
+            (6, Ask::View(&[(1, 0)]), " live root/1.0"),
+            (6, Ask::View(&[(0, 0)]), " none"),
+        ],
+    )
+}
+
+#[test]
+fn view_tells_how_a_process_died(rt: HostRuntime) -> Result<(), Fail> {
+    expect(
+        &rt,
+        rt.alloc(),
+        &[
+            Step::Try(3, 20),
+            Step::Three(Branch::Throw(1, 5), Branch::Next, Branch::Nothing),
+        ],
+        &[
+            (2, Ask::View(&[]), " forked root by 0 into 3"),
+            (2, Ask::View(&[(0, 0)]), " live root/0.0"),
+            (3, Ask::View(&[(0, 0)]), " dead root/0.0 of 1 with 5"),
+            (3, Ask::View(&[(0, 1)]), " live root/0.1"),
+            (4, Ask::View(&[(0, 1)]), " dead root/0.1 of 1 with none"), // it was poisoned
+        ],
+    )
+}
+
+#[test]
+fn root_lends_the_processes_below_it(rt: HostRuntime) -> Result<(), Fail> {
+    expect(
+        &rt,
+        rt.alloc(),
+        &[
+            Step::Try(3, 20),
+            Step::Three(Branch::Throw(1, 5), Branch::Next, Branch::Nothing),
+        ],
+        &[
+            (
+                0,
+                Ask::Children,
+                " root live goes 0; none; none; none; none;",
+            ),
+            (
+                2,
+                Ask::Children,
+                " root goes 3; root/0.0 live goes 0; root/0.1 live goes 0; \
+                 root/0.2 live goes 0; none;",
+            ),
+            (
+                3,
+                Ask::Children,
+                " root goes 3; root/0.0 0; root/0.1 live goes 0; root/0.2 live goes 0; none;",
+            ),
+            (
+                5,
+                Ask::Children,
+                " root goes 3; root/0.0 0; root/0.1 0; root/0.2 0; none;",
+            ),
+            (
+                6,
+                Ask::Children,
+                " root live goes 0; none; none; none; none;",
+            ),
+            (7, Ask::Children, " root 0; none; none; none; none;"),
+        ],
+    )
+}
+
+#[test]
+fn path_tells_whether_its_process_stands_before_a_quiet_step(rt: HostRuntime) -> Result<(), Fail> {
+    expect(
+        &rt,
+        rt.alloc(),
+        &[Step::Quiet, Step::Fork, Step::Quiet],
+        &[
+            (0, Ask::BeforeQuiet(&[]), " true"),
+            (0, Ask::BeforeQuiet(&[(0, 0)]), " false"), // there is no such process
+            (1, Ask::BeforeQuiet(&[]), " false"), // it stands at the fork
+            (2, Ask::BeforeQuiet(&[]), " false"), // it has forked
+            (2, Ask::BeforeQuiet(&[(0, 0)]), " false"), // it waits
+            (6, Ask::BeforeQuiet(&[]), " true"), // the fork has closed
+            (6, Ask::BeforeQuiet(&[(0, 0)]), " false"),
+            (7, Ask::BeforeQuiet(&[]), " false"), // nothing is left to do
+        ],
+    )
+}
+
+#[test]
+fn history_lends_what_the_meetings_on_a_channel_gave(rt: HostRuntime) -> Result<(), Fail> {
+    expect(
+        &rt,
+        rt.alloc(),
+        &[Step::Try(3, 20), Step::Next, Step::Throw(1, 7), Step::Next],
+        &[
+            (1, Ask::Met(2), " none"),
+            (2, Ask::Met(2), " 0"),
+            (255, Ask::Met(2), " 0 7"),
+            (255, Ask::Met(3), " none"),
+        ],
+    )
+}
+
+#[test]
+fn steps_on_a_path_are_none_or_stop_at_the_last_quiet_one(rt: HostRuntime) -> Result<(), Fail> {
+    expect(
+        &rt,
+        rt.alloc(),
+        &[Step::Quiet, Step::Quiet],
+        &[
+            (0, Ask::Steps(&[], 0), " true going: own root;"),
+            (0, Ask::Steps(&[(0, 0)], 0), " true going: own root;"), // there is no such process
+            (0, Ask::Steps(&[], 3), " false going: end root;"), // one too many
+        ],
+    )
+}
+
+#[test]
+fn steps_on_a_path_may_want_memory(rt: HostRuntime) -> Result<(), Fail> {
+    expect(
+        &rt,
+        rt.alloc(),
+        &[
+            Step::Try(1, 1),
+            Step::Try(2, 2),
+            Step::Try(3, 3),
+            Step::Try(4, 4),
+        ],
+        &[
+            (0, Ask::Steps(&[], 3), " true going: own root;"),
+            (0, Ask::Steps(&[], 4), " no memory going: own root;"),
+        ],
+    )
+}
+
+// ---- the end, and quiet steps at once
+
+fn add_ended(told: &mut List<u8>, ended: &Ended) -> Result<(), NoMemory> {
+    add_own(told, ended.own.as_slice())?;
+    add_number(told, b" others ", ended.events)?;
+    add_number(told, b"; logs ", ended.logs.len() as u64)?;
+    add_number(told, b"; steps ", ended.steps)?;
+    told.extend_from_slice(b"; ")?;
+    told.extend_from_slice(outcome_word(ended.outcome))
+}
+
+// Tells what can happen to a tree, which processes stand before a quiet step, and what is read off it.
+fn tell_end<L: Local>(told: &mut List<u8>, tree: &Tree<L>, budget: u64) -> Result<(), NoMemory>
+    requires { ((steps tree.now ≤ budget) × IsQuiescent L.ops tree.now) ⊎ (steps tree.now ≡ budget) }
+{
+    add_enabled(told, tree)?;
+    add_quiet(told, tree)?;
+    add_ended(told, &tree.ended(budget)?)
 }
 
 // Takes up to so many quiet steps at once of the process that has this number among those before one,
@@ -246,328 +335,60 @@ fn advance_one<L: Local>(tree: &mut Tree<L>, at: usize, most: u64) -> Result<u64
     Ok(quiet.taken)
 }
 
-// A root with these steps to do, on a channel of its own.
-pub(crate) fn root(alloc: Global, left: &[Step]) -> Result<Small, NoMemory>
-    ensures { IfOk result (λ root. SharesItsOwn small_ops root) }
+// How something happens to a tree.
+#[derive(Clone, Copy)]
+enum Way {
+    // So many first events, or fewer.
+    Events(u8),
+    // Up to so many quiet steps at once of the process that has this number among those before one.
+    AtOnce(usize, u8),
+}
+
+// Lets that happen to a tree of no events, and tells its end.
+fn tell_way<L: Local>(told: &mut List<u8>, tree: &mut Tree<L>, way: Way) -> Result<(), NoMemory>
+    requires { steps tree.old ≡ 0 }
 {
-    let chan = Chan::new(Arc::new(alloc, Path::root(alloc))?, 2, 7);
-    Ok(Small::new(Path::root(alloc), Vec::from_slice(alloc, left)?, chan))
-}
-
-// All that is told of the tree of a root with these steps to do, whose first events happen, so many at most.
-fn tell(alloc: Global, left: &[Step], most: u8) -> Result<List<u8>, NoMemory> {
-    let mut tree = Tree::start(alloc, root(alloc, left)?)?;
-    let mut told = List::new(alloc);
-    do_events(&mut told, &mut tree, most as u64)?;
-    add_state(alloc, &mut told, &tree)?;
-    let ended = tree.ended(most as u64)?;
-    add_ended(&mut told, &ended)?;
-    Ok(told)
-}
-
-// All that is told of the tree of a root with these steps to do, in which the process of this number takes
-// quiet steps at once, so many at most, and nothing else happens.
-fn tell_advanced(alloc: Global, left: &[Step], at: usize, most: u8) -> Result<List<u8>, NoMemory> {
-    let mut tree = Tree::start(alloc, root(alloc, left)?)?;
-    let mut told = List::new(alloc);
-    let taken = advance_one(&mut tree, at, most as u64)?;
-    add_state(alloc, &mut told, &tree)?;
-    let ended = tree.ended(taken)?;
-    add_ended(&mut told, &ended)?;
-    Ok(told)
-}
-
-// Steps of a root, how many events happen at most, and what is told then.
-type Row<'a> = (&'a [Step], u8, &'a str);
-
-fn expect(rt: &impl Abort, alloc: Global, rows: &[Row<'_>]) -> Result<(), Fail> {
-    for row in rows {
-        let told = tell(alloc, row.0, row.1)?;
-        assert_eq!(rt; str::from_utf8(told.as_slice())?, row.2);
+    match way {
+        Way::Events(most) => {
+            do_events(tree, most as u64)?;
+            tell_end(told, tree, most as u64)
+        }
+        Way::AtOnce(at, most) => {
+            let taken = advance_one(tree, at, most as u64)?;
+            tell_end(told, tree, taken)
+        }
     }
-    Ok(())
 }
 
-// The number of a process, how many quiet steps it takes at once at most, how many it takes, and what is
-// told then.
-type AtOnce<'a> = (usize, u8, u8, &'a str);
+fn end_by(alloc: Global, left: &[Step], way: Way) -> Result<List<u8>, NoMemory> {
+    let mut told = List::new(alloc);
+    let mut tree = start(alloc, left)?;
+    tell_way(&mut told, &mut tree, way)?;
+    Ok(told)
+}
 
-// Expects these texts of the tree of a root with these steps, and that as many events tell the same behind
-// them.
-fn expect_at_once(
+// The steps of a root, ways, and what is told behind each of them.
+type Ends<'a> = (&'a [Step], &'a [Way], &'a str);
+
+fn expect_told(
     rt: &impl Abort,
     alloc: Global,
     left: &[Step],
-    rows: &[AtOnce<'_>],
+    ways: &[Way],
+    text: &str,
 ) -> Result<(), Fail> {
-    for row in rows {
-        let told = tell_advanced(alloc, left, row.0, row.1)?;
-        assert_eq!(rt; str::from_utf8(told.as_slice())?, row.3);
-        let one_by_one = tell(alloc, left, row.2)?;
-        assert!(rt; one_by_one.as_slice().ends_with(told.as_slice()));
+    for way in ways {
+        let told = end_by(alloc, left, *way)?;
+        assert_eq!(rt; str::from_utf8(told.as_slice())?, text);
     }
     Ok(())
 }
 
-#[test]
-fn first_events_go_through_a_fork_and_meetings(rt: HostRuntime) -> Result<(), Fail> {
-    let alloc = rt.alloc();
-    let steps = [Step::Quiet, Step::Fork, Step::Next, Step::Put];
-    expect(
-        &rt,
-        alloc,
-        &[
-            (
-                &steps,
-                0,
-                " going: own root; quiet root none; met none; met none; \
-                 put; others 0; steps 0; spent",
-            ),
-            (
-                &steps,
-                3,
-                " own root; own root; meet 2 of root; \
-                 going: end root/0.0; end root/0.1; quiet none none; met 0; met none; \
-                 put; history 2 of root as 7: 0; stepped root 2; others 1; steps 3; spent",
-            ),
-            (
-                &steps,
-                255,
-                " own root; own root; meet 2 of root; end root/0.0; end root/0.1; \
-                 close root; meet 2 of root; own root; end root; \
-                 at rest: quiet none none; met 0 0; met none; \
-                 put 0; history 2 of root as 7: 0 0; stepped root 3; others 6; steps 9; done",
-            ),
-        ],
-    )
-}
-
-#[test]
-fn second_fork_has_the_next_number(rt: HostRuntime) -> Result<(), Fail> {
-    expect(
-        &rt,
-        rt.alloc(),
-        &[(
-            &[Step::Fork, Step::Fork],
-            8,
-            " own root; meet 2 of root; end root/0.0; end root/0.1; close root; \
-             own root; meet 2 of root; end root/1.0; \
-             going: end root/1.1; quiet none none; met 0 0; met none; \
-             put; history 2 of root as 7: 0 0; stepped root 2; others 6; steps 8; spent",
-        )],
-    )
-}
-
-#[test]
-fn budget_that_just_suffices_is_not_spent(rt: HostRuntime) -> Result<(), Fail> {
-    expect(
-        &rt,
-        rt.alloc(),
-        &[
-            (
-                &[Step::Quiet],
-                1,
-                " own root; \
-                 going: end root; quiet none none; met none; met none; \
-                 put; stepped root 1; others 0; steps 1; spent",
-            ),
-            (
-                &[Step::Quiet],
-                2,
-                " own root; end root; \
-                 at rest: quiet none none; met none; met none; \
-                 put; stepped root 1; others 1; steps 2; done",
-            ),
-        ],
-    )
-}
-
-#[test]
-fn exceptions_are_caught_and_logged_in_order(rt: HostRuntime) -> Result<(), Fail> {
-    expect(
-        &rt,
-        rt.alloc(),
-        &[
-            (
-                &[Step::Try(3, 20), Step::Quiet, Step::Throw(1, 0), Step::Put],
-                9,
-                " own root; own root; own root; own root; end root; \
-                 at rest: quiet none none; met none; met none; \
-                 put 0; log root caught 3 in 20; stepped root 4; others 1; steps 5; done",
-            ),
-            (
-                &[
-                    Step::Try(3, 20),
-                    Step::Throw(1, 0),
-                    Step::Try(4, 21),
-                    Step::Throw(1, 0),
-                    Step::Trap,
-                ],
-                9,
-                " own root; own root; own root; own root; own root; \
-                 at rest: quiet none none; met none; met none; \
-                 put; log root caught 3 in 20; log root caught 4 in 21; log root zero in 1; \
-                 stepped root 5; others 0; steps 5; trapped",
-            ),
-        ],
-    )
-}
-
-#[test]
-fn root_dies_of_a_trap_and_of_its_label(rt: HostRuntime) -> Result<(), Fail> {
-    let trapped = " own root; \
-         at rest: quiet none none; met none; met none; \
-         put; log root zero in 1; stepped root 1; others 0; steps 1; trapped";
-    expect(
-        &rt,
-        rt.alloc(),
-        &[
-            (&[Step::Trap], 9, trapped),
-            (&[Step::Throw(1, 0)], 9, trapped),
-            (
-                &[Step::Throw(0, 0)],
-                9,
-                " own root; \
-                 at rest: quiet none none; met none; met none; \
-                 put; stepped root 1; others 0; steps 1; trapped",
-            ),
-        ],
-    )
-}
-
-#[test]
-fn handler_is_given_the_number_of_the_throw(rt: HostRuntime) -> Result<(), Fail> {
-    expect(
-        &rt,
-        rt.alloc(),
-        &[
-            (
-                &[Step::Try(3, 20), Step::Throw(1, 7), Step::Next],
-                9,
-                " own root; own root; meet 2 of root; end root; \
-                 at rest: quiet none none; met 7; met none; \
-                 put; history 2 of root as 7: 7; log root caught 3 in 20; \
-                 stepped root 2; others 2; steps 4; done",
-            ),
-            (
-                &[
-                    Step::Try(3, 20),
-                    Step::Three(Branch::Outer(1, 5), Branch::Nothing, Branch::Nothing),
-                    Step::Next,
-                ],
-                20,
-                " own root; own root; own root/0.0; own root/0.0/0.0; \
-                 end root/0.0/0.1; end root/0.0/0.2; close root/0.0; end root/0.1; end root/0.2; \
-                 close root; meet 2 of root; end root; \
-                 at rest: quiet none none; met 5; met none; \
-                 put; history 2 of root as 7: 5; log root caught 3 in 20; \
-                 stepped root 2; stepped root/0.0 1; stepped root/0.0/0.0 1; others 8; steps 12; done",
-            ),
-        ],
-    )
-}
-
-#[test]
-fn of_one_label_the_leftmost_throw_gives_the_number(rt: HostRuntime) -> Result<(), Fail> {
-    expect(
-        &rt,
-        rt.alloc(),
-        &[
-            (
-                &[
-                    Step::Try(3, 20),
-                    Step::Three(Branch::Next, Branch::Throw(1, 7), Branch::Throw(1, 9)),
-                    Step::Next,
-                ],
-                9,
-                " own root; own root; own root/0.1; poison root/0.0 on 2 of root; own root/0.2; \
-                 close root; meet 2 of root; end root; \
-                 at rest: quiet none none; met 7; met none; \
-                 put; history 2 of root as 7: 7; log root caught 3 in 20; \
-                 stepped root 2; stepped root/0.1 1; stepped root/0.2 1; others 4; steps 8; done",
-            ),
-            // the leftmost number is not the least
-            (
-                &[
-                    Step::Try(3, 20),
-                    Step::Three(Branch::Throw(1, 9), Branch::Throw(1, 7), Branch::Nothing),
-                    Step::Next,
-                ],
-                9,
-                " own root; own root; own root/0.0; own root/0.1; end root/0.2; \
-                 close root; meet 2 of root; end root; \
-                 at rest: quiet none none; met 9; met none; \
-                 put; history 2 of root as 7: 9; log root caught 3 in 20; \
-                 stepped root 2; stepped root/0.0 1; stepped root/0.1 1; others 4; steps 8; done",
-            ),
-            // a poisoned branch to the left of the only throw
-            (
-                &[
-                    Step::Try(3, 20),
-                    Step::Three(Branch::Next, Branch::Throw(1, 9), Branch::Nothing),
-                    Step::Next,
-                ],
-                9,
-                " own root; own root; own root/0.1; poison root/0.0 on 2 of root; end root/0.2; \
-                 close root; meet 2 of root; end root; \
-                 at rest: quiet none none; met 9; met none; \
-                 put; history 2 of root as 7: 9; log root caught 3 in 20; \
-                 stepped root 2; stepped root/0.1 1; others 5; steps 8; done",
-            ),
-        ],
-    )
-}
-
-#[test]
-fn outermost_label_gives_the_number(rt: HostRuntime) -> Result<(), Fail> {
-    expect(
-        &rt,
-        rt.alloc(),
-        &[(
-            &[
-                Step::Try(3, 20),
-                Step::Try(4, 21),
-                Step::Three(Branch::Throw(2, 7), Branch::Throw(1, 9), Branch::Nothing),
-                Step::Next,
-            ],
-            9,
-            " own root; own root; own root; own root/0.0; own root/0.1; end root/0.2; \
-             close root; meet 2 of root; end root; \
-             at rest: quiet none none; met 9; met none; \
-             put; history 2 of root as 7: 9; log root caught 3 in 20; \
-             stepped root 3; stepped root/0.0 1; stepped root/0.1 1; others 4; steps 9; done",
-        )],
-    )
-}
-
-#[test]
-fn throw_whose_expression_traps_is_caught_by_nobody(rt: HostRuntime) -> Result<(), Fail> {
-    expect(
-        &rt,
-        rt.alloc(),
-        &[(
-            &[Step::Try(3, 20), Step::ThrowTrap(1), Step::Put],
-            9,
-            " own root; own root; own root; \
-             at rest: quiet none none; met none; met none; \
-             put; log root zero in 1; stepped root 3; others 0; steps 3; trapped",
-        )],
-    )
-}
-
-#[test]
-fn put_and_fork_that_trap_are_steps(rt: HostRuntime) -> Result<(), Fail> {
-    let trapped = " own root; own root; \
-         at rest: quiet none none; met none; met none; \
-         put; log root zero in 1; stepped root 2; others 0; steps 2; trapped";
-    expect(
-        &rt,
-        rt.alloc(),
-        &[
-            (&[Step::Put, Step::Trap], 9, trapped),
-            (&[Step::Fork, Step::Trap], 9, trapped),
-        ],
-    )
+fn expect_ends(rt: &impl Abort, alloc: Global, rows: &[Ends<'_>]) -> Result<(), Fail> {
+    for row in rows {
+        expect_told(rt, alloc, row.0, row.1, row.2)?;
+    }
+    Ok(())
 }
 
 #[test]
@@ -578,83 +399,46 @@ fn quiet_steps_at_once_are_as_one_after_another(rt: HostRuntime) -> Result<(), F
         Step::Quiet,
         Step::Throw(1, 0),
     ];
-    let none = " going: own root; quiet root none; met none; met none; \
-         put; others 0; steps 0; spent";
-    expect_at_once(
+    expect_ends(
         &rt,
         rt.alloc(),
-        &steps,
         &[
-            (1, 9, 0, none),
-            (0, 0, 0, none),
             (
-                0,
-                2,
-                2,
-                " going: own root; quiet root none; met none; met none; \
-                 put; stepped root 2; others 0; steps 2; spent",
+                &steps,
+                &[Way::Events(0), Way::AtOnce(1, 9), Way::AtOnce(0, 0)],
+                " going: own root; quiet root none; others 0; logs 0; steps 0; spent",
             ),
             (
-                0,
-                9,
-                3,
-                " going: own root; quiet none none; met none; met none; \
-                 put; stepped root 3; others 0; steps 3; spent",
+                &steps,
+                &[Way::Events(2), Way::AtOnce(0, 2)],
+                " going: own root; quiet root none; stepped root 2; others 0; logs 0; steps 2; spent",
+            ),
+            (
+                &steps,
+                &[Way::Events(3), Way::AtOnce(0, 9)],
+                " going: own root; quiet none none; stepped root 3; others 0; logs 0; steps 3; spent",
             ),
         ],
     )
 }
 
-// Whether the process of the path of these pairs stands before a quiet step, in the tree of a root with
-// these steps to do, whose first events happen, so many at most.
-fn is_before_quiet(
-    alloc: Global,
-    left: &[Step],
-    most: u8,
-    pairs: &[(u32, u32)],
-) -> Result<bool, NoMemory> {
-    let mut tree = Tree::start(alloc, root(alloc, left)?)?;
-    let mut told = List::new(alloc);
-    do_events(&mut told, &mut tree, most as u64)?;
-    let mut path = Path::root(alloc);
-    for pair in pairs {
-        path = path.child(pair.0, pair.1)?;
-    }
-    Ok(tree.is_before_quiet(&path))
-}
-
-// How many events happen at most, the pairs of a path, and whether its process stands before a quiet step
-// then.
-type BeforeQuiet<'a> = (u8, &'a [(u32, u32)], bool);
-
-fn expect_before_quiet(
-    rt: &impl Abort,
-    alloc: Global,
-    left: &[Step],
-    rows: &[BeforeQuiet<'_>],
-) -> Result<(), Fail> {
-    for row in rows {
-        assert!(rt; is_before_quiet(alloc, left, row.0, row.1)? == row.2);
-    }
-    Ok(())
-}
-
+// No source throws the label of a trap, or one that isn't in force.
 #[test]
-fn path_tells_whether_its_process_stands_before_a_quiet_step(rt: HostRuntime) -> Result<(), Fail> {
-    let steps = [Step::Quiet, Step::Fork, Step::Quiet];
-    expect_before_quiet(
+fn root_dies_of_a_throw_that_no_source_has(rt: HostRuntime) -> Result<(), Fail> {
+    expect_ends(
         &rt,
         rt.alloc(),
-        &steps,
         &[
-            (0, &[], true),
-            (0, &[(0, 0)], false), // there is no such process
-            (1, &[], false), // it stands at the fork
-            (2, &[], false), // it has forked
-            (2, &[(0, 0)], false), // it waits
-            (6, &[], true), // the fork has closed
-            (6, &[(0, 0)], false),
-            (7, &[], false), // nothing is left to do
+            (
+                &[Step::Throw(1, 0)],
+                &[Way::Events(9)],
+                " at rest: quiet none none; stepped root 1; others 0; logs 1; steps 1; trapped",
+            ),
+            (
+                &[Step::Throw(0, 0)],
+                &[Way::Events(9)],
+                " at rest: quiet none none; stepped root 1; others 0; logs 0; steps 1; trapped",
+            ),
         ],
     )
 }

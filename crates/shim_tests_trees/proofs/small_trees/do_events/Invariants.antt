@@ -4,4 +4,4 @@ use Rattle.shim_tests_trees.proofs.small_trees.do_events.Given as goal
 
 -- each event counted one step
 abbrev pub invariant-loop : goal.invariant-loop
-invariant-loop g l = record { steps : steps l.tree ≡ l.counter }
+invariant-loop g l = steps l.tree ≡ l.counter
