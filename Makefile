@@ -29,7 +29,7 @@ try:
 
 test: export WANTED := $(value CASE)
 test: built
-	@bench/robust/cases.py "$$WANTED"
+	@tools/tests/cases.py "$$WANTED"
 
 gate:
 	.ci/run

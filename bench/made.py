@@ -10,6 +10,7 @@ import random
 
 NAMES = ["a", "b", "c", "d", "e"]
 TYPES = ["int", "int8", "uint8", "int16", "bool", "int32"]
+KINDS = ["set", "set", "next", "next", "next", "put", "if", "loop", "fork", "fork", "try", "throw"]
 OPERATORS = ["+", "-", "*", "^", "&", "|", "<", "==", "&&", "||"]
 
 
@@ -34,8 +35,8 @@ class Maker:
 
     def block(self, own, out, caught, depth, looped):
         """Some statements: what may be assigned to, whether the output is there, which exceptions are caught."""
-        statements = [self.statement(own, out, caught, depth, looped) for _ in range(self.random.randrange(1, 5))]
-        return " ".join(statements)
+        count = self.random.randrange(1, 5)
+        return " ".join(self.statement(own, out, caught, depth, looped) for _ in range(count))
 
     def branches(self, own, out, caught, depth, looped):
         count = self.random.choice([2, 2, 2, 3, 4])
@@ -43,17 +44,13 @@ class Maker:
         for name in own:
             self.random.choice(parts).append(name)
         with_output = self.random.randrange(count)
-        blocks = []
-        for number, part in enumerate(parts):
-            body = self.block(part, out and number == with_output, caught, depth + 1, looped)
-            blocks.append("{ " + body + " }")
-        return " par ".join(blocks)
+        blocks = (self.block(part, out and number == with_output, caught, depth + 1, looped)
+                  for number, part in enumerate(parts))
+        return " par ".join("{ " + block + " }" for block in blocks)
 
     def statement(self, own, out, caught, depth, looped):
         self.left -= 1
-        kind = self.random.choice(
-            ["set", "set", "next", "next", "next", "put", "if", "loop", "fork", "fork", "try", "throw"]
-        )
+        kind = self.random.choice(KINDS)
         if self.left < 0 or depth > 4:
             kind = self.random.choice(["set", "next", "put"])
         if kind == "set" and own:

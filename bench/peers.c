@@ -106,16 +106,16 @@ static int is_word(unsigned char b) {
   return (b >= 'a' && b <= 'z') || (b >= 'A' && b <= 'Z') || (b >= '0' && b <= '9') || b == '_';
 }
 
-static size_t words(FILE *file) {
+static long words(FILE *file) {
   static unsigned char text[1 << 21];
-  size_t size = fread(text, 1, sizeof text, file), begun = 0;
-  for (size_t i = 0; i < size; i++) begun += is_word(text[i]) && !(i && is_word(text[i - 1]));
+  long length = (long)fread(text, 1, sizeof text, file), begun = 0;
+  for (long i = 0; i < length; i++) begun += is_word(text[i]) && !(i && is_word(text[i - 1]));
   return begun;
 }
 
-static uint32_t sum_of(FILE *file, long left) {
+static long sum_of(FILE *file, long left) {
   uint32_t total = 0;
-  for (int byte = getc(file); left > 0 && byte != EOF; left--) { total += (uint32_t)byte; byte = getc(file); }
+  for (int byte = getc(file); left > 0 && byte != EOF; left--, byte = getc(file)) total += (uint32_t)byte;
   return total;
 }
 
@@ -148,27 +148,24 @@ int main(int argc, char **argv) {
   if (argc < 3) return 2;
   const char *work = argv[1];
   if (!strcmp(work, "launch") && argc > 3) return launch(argv[2], argv + 3);
+  long result = 0;
   size = atol(argv[argc - 1]);
   if (!strcmp(work, "pipe")) {
     run_all((job *[]){counter, tripler, summer}, 3);
-    printf("%d\n", sum);
-    return 0;
-  }
-  if (!strcmp(work, "count")) {
+    result = sum;
+  } else if (!strcmp(work, "count")) {
     times = atol(argv[3]) / atoi(argv[2]);
     run_all((job *[]){count_up, count_up, count_up, count_up}, atoi(argv[2]));
-    printf("%ld\n", counted);
-    return 0;
-  }
-  if (!strcmp(work, "queues")) {
+    result = counted;
+  } else if (!strcmp(work, "queues")) {
     is_done = size == 0;
     run_all((job *[]){exchange, exchange, exchange, exchange}, atoi(argv[2]));
-    printf("%ld\n", pieces_collected);
-    return 0;
+    result = pieces_collected;
+  } else {
+    FILE *file = fopen(argv[2], "rb");
+    if (!file) return 2;
+    result = strcmp(work, "sum") ? words(file) : sum_of(file, size);
   }
-  FILE *file = fopen(argv[2], "rb");
-  if (!file) return 2;
-  if (!strcmp(work, "words")) printf("%zu\n", words(file));
-  if (!strcmp(work, "sum")) printf("%u\n", sum_of(file, size));
+  printf("%ld\n", result);
   return 0;
 }

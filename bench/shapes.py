@@ -42,18 +42,18 @@ CODE = ["while (x < y && x != 9) { x = x + y * 3; }\n", "if (x || y) { y = x - 1
 TOKENS = "  level = level + (step << 3) * 0x1F; // a ramp\n  next level; /* all meet */ put wire, level >> 8;\n"
 
 
+def in_shim(body, size, main="void main() { }"):
+    """As many functions with this body as fit, and this `main` behind them."""
+    return filled("", "void f@(int n, int &r) { int a; int b; " + body, main, size, 1000)
+
+
 def read_in_both(name, size):
     """A text of that shape for shim, and one for C. `statements` is run, too; the `main` of the others does nothing."""
     if name == "statements":
         return listed(size, ["x = x + y + 123;\n"])
     here, there = READ[name]
-    return (filled("", "void f@(int n, int &r) { int a; int b; " + here, "void main() { }", size, 1000),
-            filled("", "void f@(int n, int *r) { int a, b = 0; " + there, "void main() { }", size, 1000))
-
-
-def beside(main, size):
-    """This `main` behind as many ordinary functions as fit."""
-    return filled("", "void f@(int n, int &r) { int a; int b; " + ORDINARY, main, size, 1000)
+    in_c = filled("", "void f@(int n, int *r) { int a, b = 0; " + there, "void main() { }", size, 1000)
+    return in_shim(here, size), in_c
 
 
 def listed(size, parts):
@@ -81,19 +81,12 @@ def loop(turns, blocks=0):
     return "void main(ostream &o) { int i; int s; %s%s%s put o, s; }\n" % ("if (1) { " * blocks, text, " }" * blocks)
 
 
-COUNTING = "void main(ostream &o) { int k; while (k < %d) { k = k + 1; } put o, k; }\n" % TURNS
 XOR_IN_LUA = IN_LUA % ("i, s = %d, 0" % TURNS, "i ~= 0", "s = s ~ i; i = i - 1", "s")
 CALLED = """void inner(int n, int &s) { int i; i = n; while (i) { s = s ^ i; i = i - 1; } }
 void middle(int n, int &s) { inner(n, s); }
 void outer(int n, int &s) { middle(n, s); }
 void main(ostream &o) { int s; outer(%d, s); put o, s; }
 """ % TURNS
-CALLED_IN_LUA = """local function inner(n, s) local i = n; while i ~= 0 do s = s ~ i; i = i - 1 end; return s end
-local function middle(n, s) local r = inner(n, s); return r end
-local function outer(n, s) local r = middle(n, s); return r end
-io.write(string.char(outer(%d, 0) & 0xff))
-""" % TURNS
-EIGHT_BITS = "void main(ostream &o) { int i; int8 s; i = %d; while (i) { s = s + i; i = i - 1; } put o, s; }\n" % TURNS
 CRC16 = """void main(istream &in, ostream &o) {
   uint16 crc; int byte; int k; crc = 65535; byte = get in;
   while (byte != -1) {
@@ -132,12 +125,14 @@ SORT_IN_LUA = sort(
     "if v%d > v%d then t = v%d; v%d = v%d; v%d = t end\n", "x = (x * 73 + 41) & 1023; v%d = x\n", ", ",
     "local x, t, r = 7, 0, 700\nlocal %s\nwhile r ~= 0 do\n%sr = r - 1\nend\nio.write(string.char(v31 & 0xff))\n")
 MACHINE = {
-    "counting": (COUNTING, IN_LUA % ("k = 0", "k < %d" % TURNS, "k = k + 1", "k"),
+    "counting": ("void main(ostream &o) { int k; while (k < %d) { k = k + 1; } put o, k; }\n" % TURNS,
+                 IN_LUA % ("k = 0", "k < %d" % TURNS, "k = k + 1", "k"),
                  IN_PYTHON % ("k = 0", "k < %d" % TURNS, "k = k + 1", "k")),
     "xor": (loop(TURNS), XOR_IN_LUA, IN_PYTHON % ("i, s = %d, 0" % TURNS, "i", "s = s ^ i; i = i - 1", "s")),
     "in 30 blocks": (loop(TURNS, 30), XOR_IN_LUA),
-    "in 3 functions": (CALLED, CALLED_IN_LUA),
-    "int8": (EIGHT_BITS, XOR_IN_LUA.replace("s ~ i", "((s + i + 128) & 0xff) - 128")),
+    "in 3 functions": (CALLED, XOR_IN_LUA),
+    "int8": (loop(TURNS).replace("int s", "int8 s").replace("^", "+"),
+             XOR_IN_LUA.replace("s ~ i", "((s + i + 128) & 0xff) - 128")),
     "crc16": (CRC16, CRC16_IN_LUA),
     "sort": (SORT, SORT_IN_LUA),
     # Forks in each of which one throws, one is poisoned, and the throw is caught outside.
@@ -149,15 +144,10 @@ put o, k; }
 
 
 HANDLERS = "shim 2; void main() { int k; while (k < %d) { try { } catch (%s) { } k = k + 1; } }\n"
-
-
-def forks_in_turn(turns):
-    return "void main() { int k; int a; int b; while (k < %d) { { a = k; } par { b = k; } k = k + 1; } }\n" % turns
-
-
 # A function that forks into itself twice, 62 levels down, beside 60 that wait.
 DEEP_FORKS = ("void f(int n) { if (n > 0) { f(n - 1); par f(n - 1); } }\n"
               + "void main() { int c; " + "{ next c; } par " * 60 + "{ f(62); next c; } }\n")
+IDLE, WITH_INPUT = "void main() { }\n", "void main(istream &in) { }\n"
 SUM_OF_INPUT = """void main(istream &in) {
   int byte; int sum; byte = get in;
   while (byte != -1) { sum = sum + byte; byte = get in; }
@@ -172,10 +162,13 @@ PIPE = """void main() {
   par { int k; int s; while (k < n) { next b; s = (s + b) % 1000000; k = k + 1; } }
 }
 """
-CROSSED = "int a; int b; { next a; next b; } par { next b; next a; }"
 # What a text has more of, of which the memory is measured.
 PARTS = {"statements": "a=1;", "forks": "{}par{}", "forks that take one": "{}par{a=1;}",
          "forks that take two": "{}par{a=1;b=1;}"}
+
+
+def forks_in_turn(turns):
+    return "void main() { int k; int a; int b; while (k < %d) { { a = k; } par { b = k; } k = k + 1; } }\n" % turns
 
 
 def split(name, leaf, main, given=""):
@@ -205,22 +198,23 @@ def one_channel(count):
     return split("wait", "next c;", main, ", int c")
 
 
-def pairs(count):
-    return split("pair", CROSSED, "pair(%d);" % (count // 2))
+def ring(size):
+    """So many of which each waits for the next one."""
+    names = ["c%d" % number for number in range(size)]
+    waits = ["{ next %s; next %s; }" % pair for pair in zip(names, [*names[1:], names[0]])]
+    return "int %s; %s" % (", ".join(names), " par ".join(waits))
 
 
-def rings(count):
-    names = ["c%d" % k for k in range(64)]
-    branches = " par ".join("{ next %s; next %s; }" % (names[k], names[(k + 1) % 64]) for k in range(64))
-    return split("ring", " ".join("int %s;" % name for name in names) + " " + branches, "ring(%d);" % (count // 64))
+def rings(size):
+    return lambda count: split("ring", ring(size), "ring(%d);" % (count // size))
 
 
 def nested_pairs(count):
-    deep = "void deep(int k) { if (k < 1) { %s } else { { deep(k - 1); } par { } } }\n" % CROSSED
+    deep = "void deep(int k) { if (k < 1) { %s } else { { deep(k - 1); } par { } } }\n" % ring(2)
     return deep + split("pair", "deep(24);", "pair(%d);" % (count // 2))
 
 
-BLOCKED = {"one": one_channel, "pairs": pairs, "rings": rings, "nested": nested_pairs}
+BLOCKED = {"one": one_channel, "pairs": rings(2), "rings": rings(64), "nested": nested_pairs}
 # What `ref` measures, programs that it walks far in or that hold much: the text, and the modes that run it.
 SLOW = {
     **{"20,000 steps beside %d that wait" % waits: (beside_waiting(waits), ["ref", "run 1"])
@@ -271,12 +265,6 @@ def thrower(names):
 def thrown(names, part):
     """The part in 61 `try`: the first name is that of the innermost one."""
     return thrower(names) + "void main() {" + "try{" * 61, part, "".join("}catch(%s){}" % name for name in names) + "}"
-
-
-def of_1_mib(name):
-    text = filled(*TEXTS[name])
-    assert len(text) == MIB, (name, len(text))
-    return text
 
 
 TEXTS = {

@@ -6,7 +6,9 @@ _shim() {
   local options='--input --workers --budget --quantum --size --journal --steal'
   local plain=() skip=0 i
   if [[ $tool = shim-draw ]]; then
-    modes='run why' options='--input --journal --budget --from --to --channels --output --help'
+    modes='run why' options='--input --budget --output --help'
+    # A graph of waits is of the whole run, and of no journal.
+    [[ " ${COMP_WORDS[*]} " = *' why '* ]] || options+=' --journal --from --to --channels'
   fi
   [[ $tool = shim-see ]] && options+=' --raw --help --version'
   # `--workers=4` stands in three words, since bash parts words at the sign.

@@ -1,5 +1,4 @@
-"""What the scripts of this folder share: their words, calls of ./shim with limits, examples, made programs, and the
-cases of the tool.
+"""What the scripts of this folder share: their words, calls of ./shim with limits, and how answers are compared.
 
 SHIM names the program, ./shim where nothing is said. A script ends with 1 where something differs, and with 2 where
 its words are none or there is no program.
@@ -8,21 +7,18 @@ import argparse
 import collections
 import glob
 import os
-import re
 import shutil
 import subprocess
 import sys
 import tempfile
-import threading
-import time
 
 TOP = os.path.dirname(os.path.dirname(os.path.dirname(os.path.realpath(__file__))))
 SHIM = os.path.realpath(os.environ.get("SHIM", os.path.join(TOP, "shim")))
-sys.path[:0] = [os.path.join(TOP, "bench"), os.path.join(TOP, "tools")]
-import made  # noqa: E402
+sys.path[:0] = [os.path.join(TOP, folder) for folder in ("bench", "tools", "tools/tests")]
+NOBODY = ["setpriv", "--reuid=65534", "--regid=65534", "--clear-groups"]
+COPY = "void main(istream &i, ostream &o) { int c; c = get i; while (c != -1) { put o, c; c = get i; } }\n"
 
-Answer = collections.namedtuple("Answer", "words status text error seconds kib")
-Case = collections.namedtuple("Case", "title lines files failing status text")
+Answer = collections.namedtuple("Answer", "words status text error")
 
 
 def words_of(**numbers):
@@ -64,24 +60,18 @@ def write(name, text):
 def ask(*words, before=(), seconds=60, **more):
     """What shim answers, started by the words before it, in this folder. The status of one that a signal ended, as
     after too many seconds, is negative. What goes elsewhere, as `more` may say, is in no text."""
-    begin = time.monotonic()
     with open("out", "wb") as out, open("err", "wb") as err:
         child = subprocess.Popen([*before, SHIM, *words], **{"stdout": out, "stderr": err, **more})
-    timer = threading.Timer(seconds, child.kill)
-    timer.start()
-    _, how, usage = os.wait4(child.pid, 0)
-    timer.cancel()
-    child.returncode = os.WEXITSTATUS(how) if os.WIFEXITED(how) else -os.WTERMSIG(how)
-    return Answer(words, child.returncode, read("out"), read("err"), time.monotonic() - begin, usage.ru_maxrss)
-
-
-def same(one, other):
-    """Whether an answer is another one, or what a case wants, and has nothing on standard error."""
-    return (one.status, one.text, one.error) == (other.status, other.text, b"")
+    try:
+        child.wait(seconds)
+    except subprocess.TimeoutExpired:
+        child.kill()
+        child.wait()
+    return Answer(words, child.returncode, read("out"), read("err"))
 
 
 def has_no_memory(answer):
-    return (answer.status, answer.text, answer.error) == (8, b"no memory\n", b"")
+    return answer[1:] == (8, b"no memory\n", b"")
 
 
 def told(answer):
@@ -89,15 +79,15 @@ def told(answer):
     return "shim %s: status %d\n%s" % (" ".join(answer.words), answer.status, text)
 
 
-def differs(what, answer):
+def differs(what, answer, wanted="as it should be"):
     """Tells of an answer that is none, and ends the script."""
-    sys.exit("differs: %s: %s" % (what, told(answer)))
+    sys.exit("differs: %s: %s\nand not %s" % (what, told(answer), wanted))
 
 
-def compare(what, answer, wanted):
-    """Ends the script where an answer isn't the wanted one."""
-    if not same(answer, wanted):
-        differs("%s: not %s\nbut" % (what, told(wanted)), answer)
+def compare(what, answer, status, text):
+    """Ends the script where an answer isn't this one, or has something on standard error."""
+    if answer[1:] != (status, text, b""):
+        differs(what, answer, "status %d\n%s" % (status, text[-2000:].decode(errors="replace")))
 
 
 def example(name):
@@ -109,31 +99,3 @@ def examples():
     for path in sorted(glob.glob(os.path.join(TOP, "examples", "*.shim"))):
         text = path[: -len(".shim")] + ".txt"
         yield [path, *(["--input", text] if os.path.exists(text) else [])]
-
-
-def body_of(form, body):
-    """What a part of a case has: lines as they are, without the last line break, or bytes by their digits."""
-    body = re.sub(rb"^=== repeat (\d+) (.*)$", lambda it: it[2] * int(it[1]), body, flags=re.M)
-    if form == "hex":
-        return bytes.fromhex(body.decode())
-    return body[:-1] if form == "bare" else body
-
-
-def cases():
-    """The cases of the tool: of each its lines of words, files, whether only the crate can run it, status and text."""
-    for path in sorted(glob.glob(os.path.join(TOP, "crates/shim_conformance/data/*.cases"))):
-        for part in re.split(rb"^=== case ", read(path), flags=re.M)[1:]:
-            title, *sections = re.split(rb"^=== (?!repeat )", part, flags=re.M)
-            lines, files, failing, right = [], {}, False, {}
-            for section in sections:
-                head, _, body = section.partition(b"\n")
-                kind, _, value = head.decode().partition(" ")
-                if kind == "words":
-                    lines.append(value)
-                elif kind in ("file", "bare", "hex"):
-                    files[value] = body_of(kind, body)
-                elif kind in ("status", "text"):
-                    right[kind] = int(value) if kind == "status" else body_of(value, body)
-                elif kind != "end":  # reads or writes that fail, or what lies inside
-                    failing = True
-            yield Case(title.decode().strip(), lines, files, failing, **right)

@@ -2,8 +2,8 @@
 """Whether ./shim answers as ever, or writes `no memory` and ends with 8, where the system refuses what it asks for.
 
 `alloc` lets the first, second, .. allocation fail, until runs make no more of them; then that allocation and each
-behind it. Runs by several workers make more or fewer allocations by chance, so there ten numbers in a row have to
-come to nothing. Wants gcc. With WORDS it does so for this call of shim alone, and without for those below.
+behind it. Runs by several workers make more or fewer allocations by chance, so ten numbers in a row have to come to
+nothing. Wants gcc. With WORDS it does so for this call of shim alone, and without for those below.
 
 `memory` limits the address space, from the least with which the system starts the program at all upward in small
 steps, until it answered as ever eight times in a row, and then with twice as much again and again. Tells from where
@@ -26,23 +26,24 @@ import subprocess
 import sys
 
 import common
+import shapes
 
-# Refuses one call of the C library's allocator, by its number, or all from it on, and says whether that call was made.
+# Refuses one call of the C library's allocator, by its number, or more from it on, and leaves a file where it did.
 REFUSE = """
 #define _GNU_SOURCE
 #include <dlfcn.h>
 #include <errno.h>
+#include <fcntl.h>
 #include <stdatomic.h>
 #include <stdlib.h>
 #include <unistd.h>
 static atomic_long made;
-static long first, last, out;
-static long of(const char *name) { const char *text = getenv(name); return text ? atol(text) : 0; }
-__attribute__((constructor)) static void begin(void) { first = of("FIRST"); last = of("LAST"); out = of("OUT"); }
+static long first = 1, last;
+__attribute__((constructor)) static void begin(void) { first = atol(getenv("FIRST")); last = atol(getenv("LAST")); }
 static int refuses(void) {
-  long now = first ? atomic_fetch_add(&made, 1) + 1 : 0;
+  long now = atomic_fetch_add(&made, 1) + 1;
   if (now < first || now > last) return 0;
-  if (now == first && write((int)out, "!", 1) != 1) _exit(99);
+  if (now == first) close(creat("refused", 0600));
   errno = ENOMEM;
   return 1;
 }
@@ -59,58 +60,41 @@ ALLOCATOR(void *, aligned_alloc, NULL, (size_t a, size_t n), a, n)
 ALLOCATOR(int, posix_memalign, ENOMEM, (void **p, size_t a, size_t n), p, a, n)
 """
 FILES = {
-    "bytes": "AB",
-    "zeros": "\0" * 3000,
-    **{name: common.example(name) for name in ("filter.shim", "meeting.shim", "packing.shim")},
-    "poison.shim": "void main() { int a; try { { next a = 1; throw T; } par { while (1) next a; } } catch (T) { } }",
+    "zeros": bytes(3000),
+    "refused.shim": "void main() { x = 1; }",
+    "copy.shim": common.COPY,
     "catch.shim":
         "shim 2; void main(ostream &o) { int k; while (k < 3) { try { { throw T(k); } par { throw T(9); } } "
         "catch (T x) { { next x = x + 1; } par { next x; } put o, x; } k = k + 1; } }",
-    "refused.shim": "void main() { x = 1; }",
-    "copy.shim": "void main(istream &i, ostream &o) { int c; c = get i; while (c != -1) { put o, c + 1; c = get i; } }",
     "deep.shim": "void f(int n) { if (n > 0) { f(n - 1); par { } } } void main() { f(64); }",
-    "tree.shim":
-        "void node(int n, int &r) { if (n < 2) { r = 1; } else { int a; int b; node(n / 2, a); par node(n - n / 2, b); "
-        "r = a + b; } } void main() { int r; node(1000, r); next r; }",
     "blocks.shim": "void main() {\n" + ("{" * 63 + "}" * 63 + "\n") * 500 + "}\n",
     "long.shim": "void f(int a) {" + "a=a;" * 5000 + "} void main() { int c; f(c); par f(c); }",
 }
-# What `alloc` and `memory` call: lines by themselves, lines by some numbers of workers, and these numbers.
-CALLS = {
-    "alloc": (
-        ["gen tree --size 200 --quantum 1 --workers 4 --steal", "why packing.shim", "check refused.shim",
-         "check nowhere", "no"] + [mode + name + ".shim" + input for name in ("meeting", "poison", "catch", "filter")
-           for mode, input in (("ref ", " --input bytes"), ("check ", ""), ("code ", ""), ("up ", ""))],
-        ["run meeting.shim", "run poison.shim", "run catch.shim", "run filter.shim --input bytes",
-         "run filter.shim --input bytes --budget 31", "gen storm --size 10",
-         "batch filter.shim bytes bytes bytes bytes"], (1, 4)),
-    "memory": (
-        ["check filter.shim", "code filter.shim", "up filter.shim", "ref filter.shim --input bytes", "why packing.shim",
-         "why filter.shim --input bytes", "check blocks.shim", "check long.shim", "ref deep.shim",
-         "ref long.shim --budget 2000"],
-        ["run filter.shim --input bytes", "run copy.shim --input zeros", "run deep.shim", "run tree.shim",
-         "run blocks.shim", "gen storm --size 10", "batch copy.shim bytes zeros bytes"], (1, 2, 4, 16)),
-}
-STACKS = {
-    "parentheses": "void main(ostream o) { put o, " + "(" * 63 + "1" + ")" * 63 + "; }",
-    "blocks": "void main() { " + "{ " * 63 + "}" * 63 + " }",
-    "signs": "void main() { int x = " + "-" * 63 + "1; }",
-    "ifs": "void main() { " + "if (1) " * 62 + "; }",
-    "elses": "void main() { if (1) ; " + "else if (1) ; " * 61 + "; }",
-    "branches": "void main() { " + "{} par { " * 62 + "}" * 62 + " }",
-    "tries": "void main() { " + "try { " * 62 + "} catch (T) { } " * 62 + " }",
-    "ands": "void main(ostream o) { put o, 1" + " && 1" * 256 + "; }",
-}
-ALONE = ["setpriv", "--reuid=65534", "--regid=65534", "--clear-groups", "prlimit", "--nproc=1"]
+# What `alloc` and `memory` call beside the examples: by itself, and by some numbers of workers.
+ALONE = ["no", "check nowhere", "check refused.shim", "gen tree --size 200 --quantum 1 --workers 4 --steal"]
+BY_WORKERS = ["run catch.shim", "run copy.shim --input refused.shim --budget 31", "gen storm --size 10",
+              "batch copy.shim refused.shim copy.shim refused.shim"]
+# For `memory` alone: they have more allocations than can be refused one by one.
+LARGE = ["check blocks.shim", "check long.shim", "ref deep.shim", "ref long.shim --budget 2000"]
+LARGE_BY_WORKERS = ["run copy.shim --input zeros", "run deep.shim", "run blocks.shim", "gen tree --size 1000",
+                    "batch copy.shim zeros refused.shim zeros"]
+# The shapes of bench/shapes.py whose stack is told, each once.
+NESTED = ["parentheses", "blocks", "signs", "ifs", "elses", "nested forks", "tries", "both sides"]
 
 
 def calls(given):
     """The words of all calls, each with the answer where nothing is refused, which has to be one."""
-    alone, by_workers, numbers = CALLS[given.fault]
-    lines = alone + ["%s --workers %d" % (line, number) for number in numbers for line in by_workers]
+    is_memory = given.fault == "memory"
+    alone = [line.split() for line in ALONE + LARGE * is_memory]
+    by_workers = [line.split() for line in BY_WORKERS + LARGE_BY_WORKERS * is_memory]
+    for path, *fed in common.examples():
+        alone += [["check", path], ["code", path], ["up", path], ["ref", path, *fed], ["why", path, *fed]]
+        by_workers.append(["run", path, *fed])
+    for number in ("1", "2", "4", "16") if is_memory else ("1", "4"):
+        alone += [[*words, "--workers", number] for words in by_workers]
     paths = [os.path.join(START, word) for word in given.words]
     here = [path if os.path.exists(path) else word for path, word in zip(paths, given.words)]
-    for words in [here] if here else map(str.split, lines[: given.most]):
+    for words in [here] if here else alone[: given.most]:
         wanted = common.ask(*words)
         if not 0 <= wanted.status <= 7:
             common.differs("with all memory", wanted)
@@ -121,37 +105,35 @@ def is_as_ever(what, answer, wanted):
     """Whether an answer is the one with all memory, and not that there is none. Any other ends the script."""
     if common.has_no_memory(answer):
         return False
-    common.compare(what, answer, wanted)
+    common.compare(what, answer, *wanted[1:3])
     return True
 
 
-def refuse_each(words, wanted, quiet, more):
-    """Refuses allocation after allocation, each with so many behind it, until so many runs in a row make no more of
-    them: how many there were, and how many runs ended for want of memory."""
+def refuse_each(words, wanted, more):
+    """Refuses allocation after allocation, each with so many behind it, until ten runs in a row make no more of them:
+    how many there were, and how many runs ended for want of memory."""
     idle = without = 0
     for number in itertools.count(1):
-        with open("refused", "wb") as refused:
-            environment = {**os.environ, "LD_PRELOAD": os.path.abspath("refuse.so"), "FIRST": str(number),
-                           "LAST": str(number + more), "OUT": str(refused.fileno())}
-            answer = common.ask(*words, env=environment, pass_fds=[refused.fileno()])
-        idle = 0 if os.path.getsize("refused") else idle + 1
-        if idle:
-            common.compare("with nothing refused behind %d" % number, answer, wanted)
-        elif not is_as_ever("with allocation %d refused" % number, answer, wanted):
-            without += 1
-        if idle == quiet:
-            return number - quiet, without
+        answer = common.ask(*words, env={**os.environ, "LD_PRELOAD": os.path.abspath("refuse.so"),
+                                         "FIRST": str(number), "LAST": str(number + more)})
+        if os.path.exists("refused"):
+            os.remove("refused")
+            idle = 0
+            without += not is_as_ever("with allocation %d refused" % number, answer, wanted)
+        else:
+            idle += 1
+            common.compare("with nothing refused behind %d" % number, answer, *wanted[1:3])
+        if idle == 10:
+            return number - idle, without
 
 
 def alloc(given):
     subprocess.run(["gcc", "-O1", "-shared", "-fPIC", "-x", "c", "-o", "refuse.so", "-", "-ldl"],
                    input=REFUSE.encode(), check=True)
     for words, wanted in calls(given):
-        line = " ".join(words)
-        by_one = words[0] not in ("run", "gen", "batch", "trace") or "--workers 1" in (line + " ").replace("=", " ")
-        one, each = (refuse_each(words, wanted, 1 if by_one else 10, more) for more in (0, 1 << 60))
+        one, each = (refuse_each(words, wanted, more) for more in (0, 1 << 60))
         print("%s: %d allocations, of which %d ended with 8 when refused alone, and %d with each one behind them"
-              % (line, *one, each[1]), flush=True)
+              % (" ".join(words), *one, each[1]), flush=True)
 
 
 def limited(what, kib, *words):
@@ -187,37 +169,44 @@ def memory(given):
 
 
 def stack(_given):
-    for name, text in {**STACKS, "meeting": common.example("meeting.shim")}.items():
-        common.write(name, text)
-        ample = limited("stack", 8192, "run", name)
+    texts = {name: "".join(shapes.TEXTS[name]) for name in NESTED}
+    texts["both sides, put"] = "void main(ostream o) { put o, 1" + " && 1" * 256 + "; }"
+    texts["meeting"] = common.example("meeting.shim")
+    for name, text in texts.items():
+        common.write("nested.shim", text)
+        ample = limited("stack", 8192, "run", "nested.shim")
         least = next(kib for kib in itertools.count(32, 32)
-                     if all(common.same(limited("stack", kib, "run", name), ample) for _ in range(10)))
+                     if all(limited("stack", kib, "run", "nested.shim") == ample for _ in range(10)))
         print("%s: %d KiB (%s)" % (name, least, ample.text.decode().splitlines()[0]), flush=True)
 
 
 def threads(_given):
+    alone = [*common.NOBODY, "prlimit", "--nproc=1"]
     os.chmod(".", 0o777)
     common.SHIM = shutil.copy(common.SHIM, os.path.abspath("shim"))
     for words in common.examples():
         # their own copies, since another user reads them
         words[::2] = [common.write(os.path.basename(path), common.read(path)) for path in words[::2]]
-        came = common.ask("run", *words, "--workers", "16", before=ALONE)
-        common.compare("without a thread", came, common.ask("ref", *words))
+        wanted = common.ask("ref", *words)
+        common.compare("without a thread", common.ask("run", *words, "--workers", "16", before=alone), *wanted[1:3])
     start = "import threading; threading.Thread(target=print).start()"
-    if subprocess.run([*ALONE, sys.executable, "-c", start], stderr=subprocess.DEVNULL).returncode == 0:
+    if subprocess.run([*alone, sys.executable, "-c", start], stderr=subprocess.DEVNULL).returncode == 0:
         sys.exit("nothing was refused: that user may start threads")
     print("each example with 16 workers and no thread beside the first: as it should be")
+
+
+FAULTS = {"alloc": alloc, "memory": memory, "stack": stack, "threads": threads}
 
 
 def main(given):
     for name, text in FILES.items():
         common.write(name, text)
-    {"alloc": alloc, "memory": memory, "stack": stack, "threads": threads}[given.fault](given)
+    FAULTS[given.fault](given)
 
 
 START = os.getcwd()
 if __name__ == "__main__":
     words = common.words_of(step=64, most=1000)
-    words.add_argument("fault", choices=["alloc", "memory", "stack", "threads"])
+    words.add_argument("fault", choices=FAULTS)
     words.add_argument("words", nargs=argparse.REMAINDER, help="a call of shim, in place of all")
     common.start(main, words)

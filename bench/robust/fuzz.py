@@ -24,7 +24,9 @@ import re
 import sys
 
 import common
+import cases
 import grammar
+import made
 from shimtools import journals, runs, syntax
 
 LIMITS = ["prlimit", "--as=%d" % (4 << 30), "--core=0"]
@@ -75,7 +77,7 @@ PARAMETER = rb"\b(\w*int\w*|bool)( &)?(?= \w+ ?[,)])"
 def known_texts():
     """The texts that run, and those that are refused."""
     running, refused = {common.read(path) for path, *_ in common.examples()}, set()
-    for case in common.cases():
+    for case in cases.cases():
         if not re.match(r"the first \d+ bytes of ", case.title):  # which are too many
             texts = running if case.status in (0, 1, 3, 4) else refused
             texts.update(text for text in case.files.values() if 8 < len(text) < 20000)
@@ -84,7 +86,7 @@ def known_texts():
 
 def base(dice, known):
     if dice.random() < 0.45:
-        return common.made.Maker(dice.randrange(1 << 30)).program().encode()
+        return made.Maker(dice.randrange(1 << 30)).program().encode()
     return dice.choice(known[dice.random() > 0.8])
 
 
@@ -206,48 +208,12 @@ class Job:
                 common.write("k", self.dice.choice(OF_JOURNALS)(self.dice, answer.text))
 
 
-PATH = r"main(?:/\d+\.\d+)*"
 NAMED = r"[A-Za-z_][A-Za-z0-9_]{0,63}"
-SPENT = re.compile(
-    rf"output (?:0|[1-9]\d* (?:[0-9a-f]{{2}})+)\n(?:chan {PATH}#\d+ {NAMED} :(?: -?\d+)+\n)*"
-    rf"(?:catch {PATH} {NAMED} \d+\n|trap {PATH} (?:overflow|zero|shift|depth) \d+\n)*"
-    rf"(?P<counts>(?:steps {PATH} \d+\n)*events \d+\n)end spent (?P<steps>\d+)\n")
 CODE = re.compile(r"(?:unit [A-Za-z0-9_.]+\n(?:\d+ [a-z]+(?: [a-z0-9-]+)*\n)+)+")
 OF_PROGRAM = re.compile(
     rf"refused (?:\d+ (?:unknown name|unknown function|unknown exception|twice|arity|wrong kind|alias) {NAMED}"
     rf"|1 no main|\d+ main parameters|\d+ two writers {NAMED} \d+ \d+)\n")
 LINE = re.compile(r"^(catch \S+ \S+|trap \S+ \S+|\d+ mark \S+) \d+$", re.MULTILINE)
-
-
-def is_spent(text, budget):
-    """Whether this is the report of a run that this budget stopped."""
-    report = SPENT.fullmatch(text)
-    return report and budget == int(report["steps"]) == sum(map(int, re.findall(r"(\d+)\n", report["counts"])))
-
-
-def reasons(run):
-    """What `why` tells behind the report of a blocked run: of each process that waits, for whom, and a cycle."""
-    waiting = [process for process in run.below(run.root) if process.state == "live"]
-    text, by = "", {}
-    for process in waiting:
-        key = process.at.channel.key()
-
-        def holds(one):
-            if one.state == "live":
-                return one.at.channel.key() != key
-            return one.state == "forked" and all(
-                child.state in ("ended", "dead") for child in one.children if key in child.shared)
-        holder = next(one for one in run.below(run.root) if key in one.shared and holds(one))
-        by[process] = next(one for one in run.below(holder) if one.state == "live")
-        names = process.text(), holder.text(), by[process].text(), by[process].at.channel.text()
-        text += "because %s %s %s %s\n" % names
-    seen, at = [], waiting[0]
-    while at not in seen:
-        seen.append(at)
-        at = by[at]
-    cycle = seen[seen.index(at) :]
-    least = cycle.index(min(cycle, key=lambda process: process.path))
-    return text + "cycle %s\n" % " ".join(process.text() for process in cycle[least:] + cycle[:least])
 
 
 class Oracle:
@@ -267,9 +233,9 @@ class Oracle:
         run = runs.Run(self.functions, input)
         runs.by_first_events(run, self.job.budget)
         how = run.ended()
-        if how == "spent" and mode in ("run", "batch") and is_spent(text, self.job.budget):
+        if how == "spent" and mode in ("run", "batch") and runs.is_spent(text, self.job.budget):
             return 4, text
-        return runs.STATUS[how], run.report() + (reasons(run) if (mode, how) == ("why", "blocked") else "")
+        return runs.STATUS[how], run.report() + (runs.reasons(run) if (mode, how) == ("why", "blocked") else "")
 
     def replayed(self, journal):
         run = runs.Run(self.functions, self.job.input)
@@ -335,25 +301,11 @@ def wrong(job, answers):
 
 
 def main(given):
-    known = known_texts()
+    known, counts, found = known_texts(), collections.defaultdict(collections.Counter), 0
     if given.show is not None:
         job = Job(given.seed, given.show, known)
         sys.stdout.buffer.write(job.text)
         return print(*job.calls, sep="\n", file=sys.stderr)
-    counts = collections.defaultdict(collections.Counter)
-    try:
-        found = search(given, known, counts)
-    finally:
-        for mode, statuses in counts.items():
-            told = ("%d with status %d" % (statuses[status], status) for status in sorted(statuses))
-            print("%s: %s" % (mode, ", ".join(told)))
-    if found:
-        sys.exit("%d texts have a wrong answer" % found)
-
-
-def search(given, known, counts):
-    """Counts the answers to each text by mode and status, and tells how many texts have a wrong one."""
-    found = 0
     for number in range(given.first, given.first + given.texts):
         job = Job(given.seed, number, known)
         answers = list(job.answers())
@@ -366,7 +318,10 @@ def search(given, known, counts):
             common.write(os.path.join(common.TOP, "found", "%d-%d.shim" % (given.seed, number)), job.text)
             found += 1
     print("%d texts of seed %d from number %d" % (given.texts, given.seed, given.first))
-    return found
+    for mode, statuses in counts.items():
+        print("%s: %s" % (mode, ", ".join("%d with status %d" % (statuses[one], one) for one in sorted(statuses))))
+    if found:
+        sys.exit("%d texts have a wrong answer" % found)
 
 
 if __name__ == "__main__":

@@ -18,9 +18,8 @@ from shimtools import syntax
 NEW_TYPE = "int64"  # a type in version 2, and a name in version 1
 TIGHTNESS = {sign: 10 - row for row, signs in enumerate(syntax.ROWS, 1) for sign in signs}
 TIGHTEST = 10
-MOST = {"functions": 1024, "parameters": 32, "throws": 16, "locals": 64, "branches": 64, "operators": 256,
-        "arguments": 32}
-DEEPEST = 64
+MOST = {"level": 64, "functions": 1024, "parameters": 32, "throws": 16, "locals": 64, "branches": 64,
+        "operators": 256, "arguments": 32}
 RENAMED = "\0"  # stands for a name `int64` until the whole text is read
 
 # Of each rule what it reads, one way or another, as the next token decides. A word with a great letter is a rule, and
@@ -109,26 +108,22 @@ class Parser:
         self.at, self.kind, self.value = token.at, token.kind, "int32" if token.text == "int" else token.text
         if self.kind in ("number", "constant"):
             self.kind, self.value = "number", str(token.value())
-            if token.value() >= 1 << 63:
+            if token.value() > syntax.GREATEST:
                 self.refuse("big number %d")
-        if self.kind in ("keyword", "sign"):
+        elif self.kind in ("keyword", "sign"):
             self.kind = token.text
-        if self.kind == "name" and len(token.text) > 64:
+        elif self.kind == "name" and len(token.text) > 64:
             self.refuse("long name %d")
 
     def take(self, *kinds):
         """Takes a token of one of these kinds."""
         if self.kind not in kinds:
             self.refuse("unexpected %d")
-        levels = [number for what, number in self.due if what == "level"]
-        self.deepest = max([self.deepest, *levels])
-        if levels and max(levels) > DEEPEST:
-            self.refuse("too deep")
-        for what, number in self.due:
-            if what != "level" and number > MOST[what]:
-                self.refuse("too many " + what)
-        self.due = []
-        text = self.value
+        for what, number in sorted(self.due, key=lambda one: one[0] != "level"):
+            if number > MOST[what]:
+                self.refuse("too deep" if what == "level" else "too many " + what)
+        self.deepest = max([self.deepest, *(number for what, number in self.due if what == "level")])
+        self.due, text = [], self.value
         if self.kind == "name":
             self.names.add(text)
             text = RENAMED if text == NEW_TYPE else text
@@ -274,15 +269,14 @@ def main():
     source = common.read(given.source)
     if given.title is None:
         text, fault, _ = read(source)
-        print(fault or text, end="\n" if fault else "")
+        print(text or fault + "\n", end="")
         return 5 if fault else 0
     print("# Each beginning of a source that lacks its last byte or more, as bench/robust/grammar.py makes and answers "
           "them.")
-    for length in range(len(source.rstrip())):
-        prefix = source[:length]
-        print("\n" * (length > 0) + "=== case the first %d bytes of %s" % (length, given.title))
-        print("=== words {run|check} p.shim\n=== bare p.shim\n" + (prefix.decode() + "\n") * (length > 0), end="")
-        print("=== status 5\n=== text\n%s\n=== end" % (read(prefix)[1] or "refused 1 no main"))
+    for text in (source[:length] for length in range(len(source.rstrip()))):
+        print("\n" * bool(text) + "=== case the first %d bytes of %s" % (len(text), given.title))
+        print("=== words {run|check} p.shim\n=== bare p.shim\n" + (text.decode() + "\n") * bool(text), end="")
+        print("=== status 5\n=== text\n%s\n=== end" % (read(text)[1] or "refused 1 no main"))
     return 0
 
 

@@ -2,10 +2,9 @@
 import re
 
 from . import runs
+from .runs import NUMBER, PATH
 
 MOST = 4_000_000
-NUMBER = r"(?:0|[1-9][0-9]*)"
-PATH = r"main(?:/%s\.%s)*" % (NUMBER, NUMBER)
 LINE = {
     "quiet": re.compile(r"quiet (%s) ([1-9][0-9]*)" % PATH),
     "own": re.compile(r"own (%s)" % PATH),

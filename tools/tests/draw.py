@@ -152,7 +152,7 @@ def main():
         text, error, status = call(DRAW, "run", alone, "--budget", "50")
         same("a run of which nothing is drawn", (bars(text), text.splitlines()[-2], error, status), ([("participant", "p"), ("activate", "p")], "== end spent 50 ==", "", 0))
         same("Ctrl-C", call("bash", "-c", command, "bash", DRAW, alone), ("", "shim-draw: stopped: nothing is drawn\n", 130))
-    same("no such channel", call(DRAW, "run", *filter, "--channels", "nothing")[1:], ("shim-draw: none of nothing has a meeting there\n", 1))
+    same("no such channel", call(DRAW, "run", *filter, "--channels", "nothing")[1:], ("shim-draw: none of nothing has a rendezvous there\n", 1))
     same("without arguments", call(DRAW)[1].splitlines()[-1], "shim-draw: error: the following arguments are required: {run,why}, FILE")
     # Waits, what isn't blocked, and options of `run`.
     for name, value in (("--journal", "nowhere"), ("--from", "0"), ("--to", "5"), ("--channels", "tray")):

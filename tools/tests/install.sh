@@ -95,6 +95,8 @@ END
   same 'bash: no input of another mode' "$(b shim run filter.shim f)" ' '
   same 'bash: shim-see' "$(b shim-see --r)" '--raw '
   same 'bash: shim-draw' "$(b shim-draw '')" 'run why '
+  same 'bash: options of a sequence diagram' "$(b shim-draw run hello.shim --)" '--budget --channels --from --help --input --journal --output --to '
+  same 'bash: options of a graph of waits' "$(b shim-draw why hello.shim --)" '--budget --help --input --output '
 done
 if has zsh; then
   # zsh completes at a terminal alone, so it is given one by its own zpty.

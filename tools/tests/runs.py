@@ -1,6 +1,6 @@
 #!/usr/bin/env python3
 """Holds the runs of tools/shimtools against the program's own cases and examples: the report of each, byte for byte,
-and that its journal, read back and followed, leads to the same report. The cases are those of
+the reasons of `why` behind it, and that its journal, read back and followed, leads to the same report. The cases are those of
 crates/shim_conformance/data whose mode is `run` or `ref` and whose text is a report, and those of `batch` whose text is
 reports. Ends with 1 at the first difference, and names it.
 
@@ -16,41 +16,8 @@ import tempfile
 
 TOP = os.path.dirname(os.path.dirname(os.path.dirname(os.path.realpath(__file__))))
 sys.path.insert(0, os.path.join(TOP, "tools"))
+import cases  # noqa: E402
 from shimtools import journals, runs, syntax  # noqa: E402
-
-
-def body_of(kind, body):
-    """What a part of a case has: lines as they are, without the last end of a line, or bytes by their digits."""
-    lines = []
-    for line in body.splitlines(keepends=True):
-        repeated = re.match(rb"=== repeat (\d+) (.*\n)", line)
-        lines += [repeated[2]] * int(repeated[1]) if repeated else [line]
-    body = b"".join(lines)
-    if kind == "hex":
-        return bytes.fromhex(body.decode())
-    return body[:-1] if kind == "bare" else body
-
-
-def cases(path):
-    """The cases of a file: name, lines of words, files by name, text."""
-    with open(path, "rb") as it:
-        text = it.read()
-    for part in re.split(rb"^=== case ", text, flags=re.M)[1:]:
-        name, rest = part.split(b"\n", 1)
-        words, files, told = [], {}, None
-        for section in re.split(rb"^=== (?!repeat )", rest, flags=re.M)[1:]:
-            head, _, body = section.partition(b"\n")
-            kind, _, value = head.decode("latin-1").partition(" ")
-            if kind == "words":
-                words.append(value)
-            elif kind in ("file", "bare", "hex"):
-                files[value] = body_of(kind, body)
-            elif kind == "text":
-                told = body_of(value, body)
-            elif kind.startswith("failing-"):
-                told = None
-                break
-        yield name.decode(), words, files, told
 
 
 def same(what, source, input, budget, text):
@@ -58,11 +25,12 @@ def same(what, source, input, budget, text):
     functions = syntax.program(source)
     run = runs.Run(functions, input)
     entries = journals.of_first_events(run, budget)
-    if run.report().encode() != text:
-        sys.exit("differs: %s\nwanted:\n%s\ncame:\n%s" % (what, text.decode("latin-1"), run.report()))
+    told = run.report() + (runs.reasons(run) if b"\nbecause " in text else "")
+    if told.encode() != text:
+        sys.exit("differs: %s\nwanted:\n%s\ncame:\n%s" % (what, text.decode("latin-1"), told))
     again = runs.Run(functions, input)
     journals.follow(again, journals.written(budget, entries))
-    if again.report().encode() != text:
+    if again.report() != run.report():
         sys.exit("differs: %s, over its journal" % what)
 
 
@@ -91,35 +59,30 @@ def same_batch(what, line, files, text):
 def main():
     most = int(sys.argv[1]) if len(sys.argv) > 1 else 20_000
     taken = left = 0
-    folder = os.path.join(TOP, "crates", "shim_conformance", "data")
-    for file in sorted(os.listdir(folder)):
-        if not file.endswith(".cases"):
+    for case in cases.cases():
+        words, files, text = case.lines, case.files, case.text
+        if case.is_inside or not text.startswith((b"input ", b"output ")):
             continue
-        for name, words, files, text in cases(os.path.join(folder, file)):
-            if text is not None and text.startswith(b"input "):
-                if most < max(int(end) for end in re.findall(rb"(?m)^end .*?(\d+)$", text)):
-                    left += 1
-                    continue
-                for line in words:
-                    same_batch("%s, %s" % (file, name), line, files, text)
-                taken += 1
-                continue
-            if text is None or not text.startswith(b"output "):
-                continue
-            text = text.split(b"because ")[0]
-            end = text.splitlines()[-1].split()
-            line = next((w for w in words if re.match(r"(\{?ref|\{run\|ref\}|why)", w)), None)
-            if line is None:
-                continue
-            given = line.split()
-            option = lambda which: next((given[i + 1] for i, w in enumerate(given) if w == which), None)
-            budget = re.sub(r"[{}].*|\|.*", "", (option("--budget") or "1000000").lstrip("{"))
-            if "{" in given[1] or given[1] not in files or not budget.isdigit() or int(end[-1]) > most:
+        if text.startswith(b"input "):
+            if most < max(int(end) for end in re.findall(rb"(?m)^end .*?(\d+)$", text)):
                 left += 1
                 continue
-            input = files.get(option("--input"), b"")
-            same("%s, %s" % (file, name), files[given[1]], input, int(budget), text)
+            for line in words:
+                same_batch(case.title, line, files, text)
             taken += 1
+            continue
+        end = re.findall(rb"(?m)^end .*", text)[-1].split()
+        line = next((w for w in words if re.match(r"(\{?ref|\{run\|ref\}|why)", w)), None)
+        if line is None:
+            continue
+        given = line.split()
+        option = lambda which: next((given[i + 1] for i, w in enumerate(given) if w == which), None)
+        budget = re.sub(r"[{}].*|\|.*", "", (option("--budget") or "1000000").lstrip("{"))
+        if "{" in given[1] or given[1] not in files or not budget.isdigit() or int(end[-1]) > most:
+            left += 1
+            continue
+        same(case.title, files[given[1]], files.get(option("--input"), b""), int(budget), text)
+        taken += 1
     examples = os.path.join(TOP, "crates", "shim_examples")
     with open(os.path.join(examples, "args")) as it:
         lines = it.read().splitlines()

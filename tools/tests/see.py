@@ -60,7 +60,7 @@ def odd(program):
         same("a full output, raw", do('"$1" --raw run %s > /dev/full' % hello), ("", 7))
         wanted = ("stopped: a run writes nothing before it is over\n", 130)
         same("Ctrl-C", do('mkfifo f; timeout --foreground --preserve-status -s INT 2 "$1" run loop.shim --input f'), wanted)
-        same("a name that isn't UTF-8", do('"$1" run $(printf "caf\\351") | head -n 1')[0], "shim-see: the argument 'caf\\udce9' isn't UTF-8; rename the file, or name it by a link\n")
+        same("a name that isn't UTF-8", do('"$1" run $(printf "caf\\351") | head -n 1')[0], "shim-see: the argument 'caf\\xe9' isn't UTF-8; rename the file, or name it by a link\n")
         same("no program", do('SHIM=/nowhere "$1" run x')[1], 1)
 
 
