@@ -9,8 +9,8 @@ use Rattle.shim_batch.specs.Runs.{HasRun}
 
 pub has_run : {S E : Type 0} (o : Ops S) (net : NetView S) (r : Result (NetView S) E) → IfOk r (λ n. n.root ≡ net.root) → IfOk r (λ n. n.budget ≡ net.budget) → IfOk r (λ n. IsQuiescentNet o n ⊎ IsSpentNet o n)
     → IfOk r (λ n. IsNet o n) → IfOk r (λ n. HasRun o net n)
-has_run o net (Ok n) root budget stands keeps = record { root = root; budget = budget; stands = stands; keeps = keeps }
-has_run o net (Err e) root budget stands keeps = tt
+has_run o net (Ok n) root budget quiescent_or_spent keeps = record { root = root; budget = budget; quiescent_or_spent = quiescent_or_spent; keeps = keeps }
+has_run o net (Err e) root budget quiescent_or_spent keeps = tt
 
 module _ {A B : Type 0} (R : A → B → Type 0) where
   -- what is held against the values that are left, stands behind what was held against those before them

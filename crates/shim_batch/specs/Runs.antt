@@ -8,5 +8,5 @@ use Rattle.shim_net.specs.Standings.{IsQuiescentNet, IsSpentNet}
 pub record HasRun {S : Type 0} (o : Ops S) (before after : NetView S) : Type 0 where
   pub root : after.root ≡ before.root
   pub budget : after.budget ≡ before.budget
-  pub stands : IsQuiescentNet o after ⊎ IsSpentNet o after
+  pub quiescent_or_spent : IsQuiescentNet o after ⊎ IsSpentNet o after
   pub keeps : IsNet o after

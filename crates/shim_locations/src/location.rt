@@ -13,8 +13,9 @@ use std::marker::Model;
 #[derive(Drop)]
 pub struct Location {
     chan: Chan,
-    ty: Ty,
     value: i64,
+    // beside each other, so that they take one word
+    ty: Ty,
     ownership: Ownership,
 }
 

@@ -6,7 +6,7 @@ ghost use Rattle.shim_locations.specs.Ownerships.{ownership_of};
 /// What a location is to its channel.
 #[derive(Clone, Copy, Debug, PartialEq, Eq)]
 pub enum Ownership {
-    /// The channel's own variable, whose value a meeting gives to all others.
+    /// The channel's own variable, whose value a rendezvous gives to all others.
     Own,
     /// The channel's own variable, but it is with a child of the fork at which the process stands.
     Lent,

@@ -103,10 +103,14 @@ fn input_left(params: &[UParam], at: Option<usize>) -> Option<usize>
 }
 
 // Whether a branch with these parameters leaves the output.
-fn output_left(params: &[UParam], held: bool) -> bool
-    ensures { result ≡ if takes_output params.now then false else held }
+fn output_left(params: &[UParam], has_output: bool) -> bool
+    ensures { result ≡ if takes_output params.now then false else has_output }
 {
-    if takes_output(params) { false } else { held }
+    if takes_output(params) {
+        false
+    } else {
+        has_output
+    }
 }
 
 // These locations are taken as well, and the streams of a branch with these parameters. A refusal

@@ -55,8 +55,12 @@ pub fn input_for(params: &[UParam], at: Option<usize>) -> Option<usize>
 }
 
 /// Whether a unit has the output, where its parent had it.
-pub fn output_for(params: &[UParam], held: bool) -> bool
-    ensures { result ≡ if takes_output params.now then held else false }
+pub fn output_for(params: &[UParam], has_output: bool) -> bool
+    ensures { result ≡ if takes_output params.now then has_output else false }
 {
-    if takes_output(params) { held } else { false }
+    if takes_output(params) {
+        has_output
+    } else {
+        false
+    }
 }

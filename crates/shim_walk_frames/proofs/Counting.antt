@@ -4,7 +4,7 @@ use Rattle.std.proofs.lemmas.List.{reverse-append}
 use Rattle.shim_process.specs.declared.handler_variable.HandlerVariable.{HandlerVariable}
 use Rattle.shim_walk_frames.specs.declared.handler.Handler.{Handler}
 use Rattle.shim_walk_frames.specs.FrameViews.{FrameView}
-use Rattle.shim_walk_frames.specs.Leaving.{variable_of}
+use Rattle.shim_walk_frames.specs.Unwinding.{variable_of}
 use Rattle.shim_walk_frames.specs.Variables.{one_of, variables_in, variables_of}
 
 one_few : (y : Option HandlerVariable) → one_of y ≤ 1

@@ -5,6 +5,6 @@ pub mod Goes
 pub mod Cursors
 pub mod Went
 pub mod Returns
-pub mod Leaves
+pub mod Unwinds
 pub mod Fitting
 pub mod Counting

@@ -21,9 +21,9 @@ text_fits (u ∷ us) (suc n) fit = text_fits us n fit.1
 abbrev pub at_depth : Depth → LocalState → LocalState
 at_depth d l = record l { frame = d.frame; callers = d.callers; locations = d.locations }
 
-pub one_settled : (b : Bool) (over stands l : LocalState) (returns stays : Depth) → over ≡ at_depth returns l → stands ≡ at_depth stays l → (if b then over else stands) ≡ at_depth (if b then returns else stays) l
-one_settled true over stands l returns stays e f = e
-one_settled false over stands l returns stays e f = f
+pub one_settled : (b : Bool) (over stays_on l : LocalState) (returns stays : Depth) → over ≡ at_depth returns l → stays_on ≡ at_depth stays l → (if b then over else stays_on) ≡ at_depth (if b then returns else stays) l
+one_settled true over stays_on l returns stays e f = e
+one_settled false over stays_on l returns stays e f = f
 
 -- what is settled is what returned, and all else as it was
 pub settled_is : (callers : List Frame) (f : Frame) (l : LocalState) → settled callers f l ≡ at_depth (returned callers f l.locations) l

@@ -5,5 +5,5 @@ pub mod Pieces
 pub mod FrameViews
 pub mod Depths
 pub mod Cursors
-pub mod Leaving
+pub mod Unwinding
 pub mod Variables

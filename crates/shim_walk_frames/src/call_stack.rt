@@ -1,7 +1,7 @@
 // The frames that wait for a called unit.
 ghost use Rattle.std.specs.Prelude.{◌≡◌, [], ◌∷◌, length, reverse, MatchOption, IfOk, OnOk, IfErr, OnErr};
 ghost use Rattle.std.specs.Option.{option_copied};
-ghost use Rattle.shim_walk_frames.specs.Leaving.{handler_in};
+ghost use Rattle.shim_walk_frames.specs.Unwinding.{handler_in};
 ghost use Rattle.shim_walk_frames.specs.Variables.{variables_in};
 
 use crate::frame::Frame;

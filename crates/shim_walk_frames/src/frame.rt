@@ -4,7 +4,7 @@ ghost use Rattle.std.specs.Option.{option_copied};
 ghost use Rattle.shim_process.specs.Ends.{went};
 ghost use Rattle.shim_process.specs.Unwinding.{handling};
 ghost use Rattle.shim_walk_frames.specs.FrameViews.{frame_of};
-ghost use Rattle.shim_walk_frames.specs.Leaving.{variable_of};
+ghost use Rattle.shim_walk_frames.specs.Unwinding.{variable_of};
 ghost use Rattle.shim_walk_frames.specs.Variables.{one_of, variables_of};
 ghost use Rattle.shim_walk_frames.specs.Cursors.{IsCursor, IsRightCursor};
 ghost use Rattle.shim_walk_frames.specs.Turns.{successor_of};
@@ -24,13 +24,13 @@ use std::marker::Model;
 pub struct Frame {
     unit: u32,
     at: u32,
+    outer: u32,
+    halfway: bool,
     // It isn't known of a frame that was put at a statement by its number.
     cursor: Option<Cursor>,
-    halfway: bool,
     slots: Vec<usize>,
     labels: Vec<u32>,
     floor: usize,
-    outer: u32,
     places: Vec<Handler>,
 }
 
@@ -218,7 +218,7 @@ impl Frame {
 
     /// At the statement of this number, or at its second part, with so many of the outermost exception
     /// places. Where that statement stands in the text is looked for only if it is asked.
-    #[tactic(auto, using(crate::proofs::Leaves::takes_none))]
+    #[tactic(auto, using(crate::proofs::Unwinds::takes_none))]
     pub fn rest(&mut self, at: u32, halfway: bool, kept: usize)
         ensures { self.new ≡ record self.old { at = at; cursor = None; halfway = halfway; places = take kept self.old.places } }
     {
@@ -256,7 +256,7 @@ impl Frame {
     }
 
     // The place, which goes out of force, with those inside it.
-    #[tactic(auto, using(crate::proofs::Leaves::takes_none, crate::proofs::Leaves::takes_last))]
+    #[tactic(auto, using(crate::proofs::Unwinds::takes_none, crate::proofs::Unwinds::takes_last))]
     fn take_place(&mut self, index: usize) -> Option<Handler>
         ensures place { result ≡ slice_get self.old.places index }
         ensures others { self.new ≡ record self.old { places = take index self.old.places } }
@@ -283,7 +283,7 @@ impl Frame {
 
     /// At the handler of the `try` of this place, which goes out of force. Gives the variable of that
     /// handler.
-    #[tactic(auto, using(crate::proofs::Leaves::handles_none))]
+    #[tactic(auto, using(crate::proofs::Unwinds::handles_none))]
     pub fn handle(&mut self, body: &[UStmt], index: usize) -> Option<HandlerVariable>
         requires bound { size_all body.now < 2 ^ 32 }
         requires cursor { IsRightCursor body.now self.old.cursor self.old.at }

@@ -1,7 +1,7 @@
 // An exception place in force.
 ghost use Rattle.std.specs.Prelude.{◌≡◌, IfOk};
 ghost use Rattle.std.specs.Option.{option_copied};
-ghost use Rattle.shim_walk_frames.specs.Leaving.{name_and_line_of};
+ghost use Rattle.shim_walk_frames.specs.Unwinding.{name_and_line_of};
 
 use shim_base::{List, NoMemory};
 use shim_process::HandlerVariable;

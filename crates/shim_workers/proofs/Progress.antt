@@ -9,11 +9,17 @@ use Rattle.shim_local.specs.Pieces.{FewerWithCause}
 use Rattle.shim_semantics.specs.Trees.{Tree, steps}
 use Rattle.shim_net.specs.Nets.{OpenGrant, NetView, IsOpen}
 use Rattle.shim_net.specs.Granting.{GivesNone, Grants}
-use Rattle.shim_net.specs.Taking.{Absorbs}
+use Rattle.shim_net.specs.Absorbing.{Absorbs}
 use Rattle.shim_net.specs.Settling.{Settles}
+use Rattle.shim_net.specs.Stepping.{IsNextHome}
 use Rattle.shim_net.specs.Progress.{GoesOn, CanGive}
 use Rattle.shim_net.proofs.Progress.{closed_on, closed_all, some_used, settled_on, settled_same}
 use Rattle.shim_workers.specs.Progress.{HasSteps, HaveSteps, HaveSlotsBelow, StepsOn}
+
+-- who is next at home is read, and nothing has changed
+pub same_behind : {S : Type 0} (o : Ops S) (before after : NetView S) (next : Option ℕ) → IsNextHome o before after next → after ≡ before
+same_behind o before after None h = h.0
+same_behind o before after (Some pid) h = h.0
 
 -- with more steps or grants than before, and in the end no grant, there are more steps
 pub more_steps : {S : Type 0} (o : Ops S) (a b c : NetView S) → a.grants ≡ [] → steps a.tree + length a.grants < steps b.tree + length b.grants → GoesOn o b c → c.grants ≡ [] → steps a.tree < steps c.tree

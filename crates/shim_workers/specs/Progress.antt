@@ -12,8 +12,7 @@ pub record HasSteps {S : Type 0} (o : Ops S) (g : OpenGrant S) : Type 0 where
   pub some : 1 ≤ g.most
   pub stop : o.stop g.start ≡ AtQuiet
 
--- so it is of each of these grants
--- so it is of each of these grants
+-- each of these grants gave some step to a process before a quiet step
 abbrev pub HaveSteps : {S : Type 0} → Ops S → List (OpenGrant S) → Type 0
 HaveSteps o grants = All (HasSteps o) grants
 
@@ -21,7 +20,7 @@ HaveSteps o grants = All (HasSteps o) grants
 abbrev pub HaveSlotsBelow : {S : Type 0} → ℕ → List (OpenGrant S) → Type 0
 HaveSlotsBelow slot grants = All (λ g. g.slot < slot) grants
 
--- none: no step was left or no process was at home, and nothing has changed; else a process could be given out, and the tree has more steps now
+-- None: no step was left or no process was at home, and nothing has changed. Some: a process was at home, and the tree has more steps now.
 abbrev pub StepsOn : {S : Type 0} → Ops S → NetView S → NetView S → Option ℕ → Type 0
 StepsOn o before after None = GivesNone o before after
 StepsOn o before after (Some taken) = CanGive o before × (steps before.tree < steps after.tree)

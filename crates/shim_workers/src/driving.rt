@@ -58,7 +58,7 @@ fn run_by_workers<L: Local, G: Gate, R: Threads + Wait + Sync>(
     requires quantum { (1 ≤ quantum) × (quantum ≤ 10000) }
     ensures root { IfOk result (λ n. n.root ≡ net.root) }
     ensures budget { IfOk result (λ n. n.budget ≡ net.budget) }
-    ensures stands { IfOk result (λ n. IsQuiescentNet L.ops n ⊎ IsSpentNet L.ops n) }
+    ensures quiescent_or_spent { IfOk result (λ n. IsQuiescentNet L.ops n ⊎ IsSpentNet L.ops n) }
     ensures keeps { IfOk result (λ n. IsNet L.ops n) }
 {
     let mut net = net;
@@ -95,7 +95,7 @@ pub fn drive<L: Local, G: Gate, R: Threads + Wait + Sync>(
     requires quantum { (1 ≤ quantum) × (quantum ≤ 10000) }
     ensures root { IfOk result (λ n. n.root ≡ net.root) }
     ensures budget { IfOk result (λ n. n.budget ≡ net.budget) }
-    ensures stands { IfOk result (λ n. IsQuiescentNet L.ops n ⊎ IsSpentNet L.ops n) }
+    ensures quiescent_or_spent { IfOk result (λ n. IsQuiescentNet L.ops n ⊎ IsSpentNet L.ops n) }
     ensures keeps { IfOk result (λ n. IsNet L.ops n) }
 {
     run_by_workers(rt, alloc, net, workers, quantum, gate, Between::Board)
@@ -116,7 +116,7 @@ pub fn drive_steal<L: Local, G: Gate, R: Threads + Wait + Sync>(
     requires quantum { (1 ≤ quantum) × (quantum ≤ 10000) }
     ensures root { IfOk result (λ n. n.root ≡ net.root) }
     ensures budget { IfOk result (λ n. n.budget ≡ net.budget) }
-    ensures stands { IfOk result (λ n. IsQuiescentNet L.ops n ⊎ IsSpentNet L.ops n) }
+    ensures quiescent_or_spent { IfOk result (λ n. IsQuiescentNet L.ops n ⊎ IsSpentNet L.ops n) }
     ensures keeps { IfOk result (λ n. IsNet L.ops n) }
 {
     run_by_workers(rt, alloc, net, workers, quantum, gate, Between::Lanes)

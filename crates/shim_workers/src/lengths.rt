@@ -20,12 +20,13 @@ pub(crate) fn longer(used: u64) -> u64
     used.saturating_mul(2).clamp(1, LONGEST)
 }
 
-/// How many steps the next piece has that is handed out of a process which used up one of so many.
+/// How many steps the next piece has that is handed out of a process which used up one of so many: handing a piece
+/// over costs more than doing it in place, and these pieces grow faster.
 pub(crate) fn longer_out(used: u64) -> u64
     ensures within { (1 ≤ result) × (result ≤ 262144) }
-    ensures grown { 1 ≤ used → result ≡ min (used * 2) 262144 }
+    ensures grown { 1 ≤ used → result ≡ min (used * 8) 262144 }
 {
-    used.saturating_mul(2).clamp(1, LONGEST_OUT)
+    used.saturating_mul(8).clamp(1, LONGEST_OUT)
 }
 
 /// How long the pieces of a run are.

@@ -9,6 +9,7 @@ mod driving;
 mod giving;
 mod handing_out;
 mod in_place;
+mod in_threads;
 mod lengths;
 mod load;
 mod over_board;

@@ -3,6 +3,7 @@ ghost use Rattle.std.specs.Prelude.{◌≡◌, ◌≤◌, IfOk};
 ghost use Rattle.shim_board.specs.Chairs.{StandsAs, slots_of};
 ghost use Rattle.shim_workers.specs.Workers.{HasTurn, SameName};
 
+use crate::in_threads::each_in_a_thread;
 use crate::load::NetChair;
 use crate::shared_state::SharedState;
 use crate::worker::{SLOTS_EACH, run_worker};
@@ -12,7 +13,6 @@ use shim_local::Local;
 use shim_net::{Gate, Net};
 use std::alloc::Global;
 use std::sync::Wait;
-use std::thread;
 use std::thread::Threads;
 
 /// Lets so many workers run a net, which hand its work out over the slots of a board, until it has come to its end
@@ -31,7 +31,7 @@ pub(crate) fn run_over_board<L: Local, G: Gate, R: Threads + Wait + Sync>(
     let slots = workers * SLOTS_EACH;
     let (board, chairs) = Board::new(alloc, slots, workers, net)?;
     let shared = &board;
-    let chairs = thread::map_vec(
+    let chairs = each_in_a_thread(
         rt,
         chairs.into_vec(),
         &|chair: NetChair<L>| -> NetChair<L>

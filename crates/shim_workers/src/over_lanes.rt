@@ -3,6 +3,7 @@ ghost use Rattle.std.specs.Prelude.{◌≡◌, ◌≤◌, IfOk};
 ghost use Rattle.shim_board.specs.Chairs.{StandsAs};
 ghost use Rattle.shim_workers.specs.Workers.{HasTurn, SameName};
 
+use crate::in_threads::each_in_a_thread;
 use crate::load::NetChair;
 use crate::shared_state::SharedState;
 use crate::start::{Start, starts};
@@ -14,7 +15,6 @@ use shim_net::{Gate, Net};
 use shim_steal::lanes;
 use std::alloc::Global;
 use std::sync::Wait;
-use std::thread;
 use std::thread::Threads;
 
 /// Lets so many workers run a net, each of which hands its work out into a lane of its own, from which the others
@@ -35,7 +35,7 @@ pub(crate) fn run_over_lanes<L: Local, G: Gate, R: Threads + Wait + Sync>(
     let (board, chairs) = Board::new(alloc, 1, workers, net)?;
     let starts = starts(alloc, chairs.into_vec(), lanes.into_vec())?;
     let shared = &board;
-    let chairs = thread::map_vec(
+    let chairs = each_in_a_thread(
         rt,
         starts,
         &|start: Start<L>| -> NetChair<L>

@@ -27,8 +27,8 @@ pub(crate) fn settle_behind<L: Local>(
     Ok(())
 }
 
-/// Leaves the turn, whose work found something to do or wanted memory. False where there was nothing to do. Where
-/// the run has come to its end, or memory is wanted, all workers are told so.
+/// Leaves the turn, whose work found something to do or ran out of memory. False where there was nothing to do. Where
+/// the run has come to its end, or memory has run out, all workers are woken for it.
 pub(crate) fn end_turn<L: Local>(
     board: &NetBoard<L>,
     chair: &mut NetChair<L>,
@@ -88,8 +88,8 @@ fn schedule_net<L: Local, G: Gate>(
     Ok(found || home.has_run())
 }
 
-/// Takes back what was done, lets processes go on, and leaves the turn. False where there was nothing to do. Where
-/// the run has come to its end, or memory is wanted, all workers are told so.
+/// Takes back what was done, lets processes go on, and leaves the turn. False where there was nothing to do. Where the
+/// run has come to its end, or memory has run out, all workers are woken for it.
 pub(crate) fn schedule<L: Local, G: Gate>(
     board: &NetBoard<L>,
     chair: &mut NetChair<L>,

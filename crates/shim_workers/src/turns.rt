@@ -79,6 +79,28 @@ fn next_most(first: u64, most: u64, events: u64) -> u64
     if events > 0 { first } else { longer(most) }
 }
 
+// The most steps of the next piece of one worker, where the last one's process goes on with it or another one begins:
+// a process's first piece has as many as at first.
+fn next_piece(first: u64, most: u64, goes_on: bool, events: u64) -> u64
+    requires first { (1 ≤ first) × (first ≤ 10000) }
+    requires most { (1 ≤ most) × (most ≤ 10000) }
+    ensures within { (1 ≤ result) × (result ≤ 10000) }
+    ensures begins { goes_on ≡ false → result ≡ first }
+{
+    if goes_on {
+        next_most(first, most, events)
+    } else {
+        first
+    }
+}
+
+// The number of the process whose piece is next, if there is one.
+fn next_pid<L: Local>(net: &mut Net<L>) -> Option<u64>
+    ensures { net.new ≡ net.old }
+{
+    net.next_home()
+}
+
 // Runs a net by one worker, which gives nothing out: while a process is at home and steps are left, the one that
 // is next does its piece where it stands, and all other events are done behind it.
 fn run_alone<L: Local, G: Gate>(net: &mut Net<L>, quantum: u64, gate: &G) -> Result<(), NoMemory>
@@ -86,15 +108,18 @@ fn run_alone<L: Local, G: Gate>(net: &mut Net<L>, quantum: u64, gate: &G) -> Res
     requires home { net.old.grants ≡ [] }
     requires settled { HasSettled L.ops net.old }
     ensures goes_on { OnOk result (GoesOn L.ops net.old net.new) }
-    ensures stands { OnOk result (IsQuiescentNet L.ops net.new ⊎ IsSpentNet L.ops net.new) }
+    ensures quiescent_or_spent { OnOk result (IsQuiescentNet L.ops net.new ⊎ IsSpentNet L.ops net.new) }
     ensures keeps { OnOk result (IsNet L.ops net.new) }
 {
     let mut most = quantum;
+    let mut pid = next_pid(net);
     while step_next(net, most, gate)?.is_some() {
         let events = settle_all(net)?;
-        most = next_most(quantum, most, events);
+        let next = next_pid(net);
+        most = next_piece(quantum, most, next == pid, events);
+        pid = next;
     }
-    let _standing = net.standing(); // its clauses tell that it has come to its end
+    let _standing = net.standing(); // its clauses say that it has come to its end
     Ok(())
 }
 
@@ -115,7 +140,7 @@ pub fn rounds<L: Local, G: Gate, R: Threads + Sync>(
     requires quantum { (1 ≤ quantum) × (quantum ≤ 10000) }
     ensures root { IfOk result (λ n. n.root ≡ net.root) }
     ensures budget { IfOk result (λ n. n.budget ≡ net.budget) }
-    ensures stands { IfOk result (λ n. IsQuiescentNet L.ops n ⊎ IsSpentNet L.ops n) }
+    ensures quiescent_or_spent { IfOk result (λ n. IsQuiescentNet L.ops n ⊎ IsSpentNet L.ops n) }
     ensures keeps { IfOk result (λ n. IsNet L.ops n) }
 {
     let mut net = net;

@@ -29,8 +29,8 @@ pub returns : goal.returns
 returns g c = record { name = c.in-Ok.ensures.net ∙ c.in_ok-board.ensures.board.1 }
 
 -- each chair of a new board has neither the turn nor a slot
-pub map_vec-requires-after_bounds : goal.map_vec-requires-after_bounds
-map_vec-requires-after_bounds g c κs within i x inside same =
+pub each_in_a_thread-requires-after_bounds : goal.each_in_a_thread-requires-after_bounds
+each_in_a_thread-requires-after_bounds g c κs within i x inside same =
     let s = c.type_bounds.send-L in
     let q = c.type_bounds.sync-G in
     let r = c.type_bounds.sync-R in
@@ -38,17 +38,17 @@ map_vec-requires-after_bounds g c κs within i x inside same =
     let new = c.in_ok-board.ensures.chairs.0 i x.0 (subst (λ n. i < n) (sym (mapped_length (λ s. s.0) c.in_ok-starts.starts.items) ∙ ap length are) inside) in
     (subst (λ z. IsIdleOn c.in_ok-board.board z) (sym (ap (λ s. s.0) same ∙ sym (mapped_at (λ s. s.0) c.in_ok-starts.starts.items i x x.0 inside) ∙ ap (λ l. slice_index_or l i x.0) are)) new.0, search sendable depth 20)
 
-pub map_vec-requires-send-J : goal.map_vec-requires-send-J
-map_vec-requires-send-J g c κs within = search (net_send, chairs.the_send, loads.the_send, pieces.the_send, sendable) depth 30
+pub each_in_a_thread-requires-send-J : goal.each_in_a_thread-requires-send-J
+each_in_a_thread-requires-send-J g c κs within = search (net_send, chairs.the_send, loads.the_send, pieces.the_send, sendable) depth 30
 
-pub map_vec-requires-send-X : goal.map_vec-requires-send-X
-map_vec-requires-send-X g c κs within = search (net_send, chairs.the_send, loads.the_send, sendable) depth 20
+pub each_in_a_thread-requires-send-X : goal.each_in_a_thread-requires-send-X
+each_in_a_thread-requires-send-X g c κs within = search (net_send, chairs.the_send, loads.the_send, sendable) depth 20
 
 -- the type of the closure is named, since no `search` finds it
-pub map_vec-requires-sync-F : goal.map_vec-requires-sync-F
-map_vec-requires-sync-F g c κs within =
+pub each_in_a_thread-requires-sync-F : goal.each_in_a_thread-requires-sync-F
+each_in_a_thread-requires-sync-F g c κs within =
     let r = c.type_bounds.sync-R in
     let q = c.type_bounds.sync-G in
     let s = c.type_bounds.send-L in
     let p = pools.the_sync in
-    param_sync 4 (lts.arg-27-4 g.row.L g.row.G g.row.R g.L.laws g.G.laws g.R.laws g.L.Local g.L.Local-dict g.G.Gate g.G.Gate-dict g.R.Threads g.R.Threads-dict g.R.Wait g.R.Wait-dict g.L.Destruct-dict κs) (search (net_send, boards.the_sync, loads.the_send, struct_sync, shr_sync, sendable) depth 60)
+    param_sync 3 (lts.arg-27-3 g.row.L g.row.G g.row.R g.L.laws g.G.laws g.R.laws g.L.Local g.L.Local-dict g.G.Gate g.G.Gate-dict g.R.Threads g.R.Threads-dict g.R.Wait g.R.Wait-dict g.L.Destruct-dict κs) (search (net_send, boards.the_sync, loads.the_send, struct_sync, shr_sync, sendable) depth 60)

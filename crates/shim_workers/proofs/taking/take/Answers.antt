@@ -1,5 +1,5 @@
 use Rattle.std.proofs.Common.{◌≡◌, false}
-use Rattle.shim_net.specs.Taking.{Absorbs}
+use Rattle.shim_net.specs.Absorbing.{Absorbs}
 use Rattle.shim_workers.proofs.Progress.{took_on, took_steps}
 use Rattle.shim_workers.proofs.taking.take.Goals as goal
 

@@ -34,5 +34,5 @@ loop-alloc-smaller g c =
     let can = can_give g.L.Local.ops c.loop-alloc.net c.is_running.ensures.keeps i.home i.settled run.0 run.1 in
     closer g.L.Local.ops c.loop-alloc.net c.turn.new.net c.settle_all-in-loop-alloc.new.net can c.in_ok-turn.ensures.more c.in_ok-turn.ensures.goes_on c.in_ok-events.ensures.goes_on c.in_ok-turn.ensures.home c.in_ok-events.ensures.home
 
-pub returns-clause-stands : goal.returns-clause-stands
-returns-clause-stands g c = c.is_running.ensures.ended (search rules)
+pub returns-clause-quiescent_or_spent : goal.returns-clause-quiescent_or_spent
+returns-clause-quiescent_or_spent g c = c.is_running.ensures.ended (search rules)

@@ -2,7 +2,7 @@ use Rattle.std.proofs.Common.{◌≡◌, ◌≤◌, sym, ap, subst, take, arith}
 use Rattle.shim_walk_frames.specs.FrameViews.{FrameView}
 use Rattle.shim_walk_frames.specs.Variables.{variables_of}
 use Rattle.shim_walk_frames.proofs.Counting.{variables_take, variables_taken}
-use Rattle.shim_walk_frames.proofs.Leaves.{handles_some}
+use Rattle.shim_walk_frames.proofs.Unwinds.{handles_some}
 use Rattle.shim_walk_frames.proofs.frame.Frame.handle.Goals as goal
 
 pub returns-clause-value : goal.returns-clause-value
