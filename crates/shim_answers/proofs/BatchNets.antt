@@ -23,10 +23,10 @@ use Rattle.shim_answers.proofs.NetEnds.{net_ended, net_of}
 -- a net that came to its end gives what a run of its execution may come to
 net_gives : (x : Execution) (n : NetView LocalState) → IsEndedNet x n → IsEnd InSomeOrder x (end_of_net x.source n)
 net_gives x n net =
-    net_ended x n (end_of_net x.source n) net (ends.agrees process_ops n net.keeps net.stands process_laws) (ends.told process_ops n net.keeps net.stands process_laws) refl
+    net_ended x n (end_of_net x.source n) net (ends.agrees process_ops n net.keeps net.quiescent_or_spent process_laws) (ends.read_off process_ops n net.keeps net.quiescent_or_spent process_laws) refl
 
 net_gave : (x : Execution) (before after : NetView LocalState) → before ≡ started (root x.source x.input) x.budget → HasRun process_ops before after → IsEnd InSomeOrder x (end_of_net x.source after)
-net_gave x before after begun ran = net_gives x after (net_of x (root x.source x.input) before after refl begun ran.root ran.budget ran.keeps ran.stands)
+net_gave x before after begun ran = net_gives x after (net_of x (root x.source x.input) before after refl begun ran.root ran.budget ran.keeps ran.quiescent_or_spent)
 
 -- so do several, each on its input
 pub nets_gave : (x : Execution) (inputs : List (List ℕ)) (nets done : List (NetView LocalState)) → AllZip (λ input net. net ≡ started (root x.source input) x.budget) inputs nets → AllZip (HasRun process_ops) nets done
@@ -46,7 +46,7 @@ pub have_stopped : (nets done : List (NetView LocalState)) → AllZip (HasRun pr
 have_stopped [] [] ran = All-nil (λ net. IsQuiescentNet process_ops net ⊎ IsSpentNet process_ops net)
 have_stopped [] (m ∷ done) ran = absurd ran
 have_stopped (n ∷ nets) [] ran = absurd ran
-have_stopped (n ∷ nets) (m ∷ done) ran = All-cons (λ net. IsQuiescentNet process_ops net ⊎ IsSpentNet process_ops net) m done ran.0.stands (have_stopped nets done ran.1)
+have_stopped (n ∷ nets) (m ∷ done) ran = All-cons (λ net. IsQuiescentNet process_ops net ⊎ IsSpentNet process_ops net) m done ran.0.quiescent_or_spent (have_stopped nets done ran.1)
 
 module _ (nets rest : List (NetView LocalState)) (n : NetView LocalState) (first : nets ≡ n ∷ rest) (stopped : HaveStopped nets) where
   pub stopped_first : IsQuiescentNet process_ops n ⊎ IsSpentNet process_ops n
@@ -70,7 +70,7 @@ module _ {A B : Type 0} (f : A → B) where
   maps_none xs ys rest none on = sym (append-nil ys) ∙ ap (λ (l : List A). ys ++ map f l) (sym none) ∙ on
 
 module _ (source : Source) where
-  -- the reports that are left stand behind those that were told
+  -- the reports that are left stand behind those that were printed
   abbrev pub ReportsOn : List (List ℕ) → List Ended → List ℕ → List (List ℕ) → List Ended → Type 0
   ReportsOn names es lines rest left = lines ++ reports_of source rest left ≡ reports_of source names es
 
@@ -95,9 +95,9 @@ module _ (source : Source) where
 pub each_answered : (names : List (List ℕ)) (x : Execution) (inputs : List (List ℕ)) (nets done : List (NetView LocalState)) (es : List Ended) (status : ℕ) (text : List ℕ)
     → length inputs ≡ length names → AllZip (λ input net. net ≡ started (root x.source input) x.budget) inputs nets → AllZip (HasRun process_ops) nets done → es ≡ map (λ net. end_of_net x.source net) done
     → status ≡ greatest (statuses_of es) → text ≡ reports_of x.source names es → AnswersEach names x inputs (record { status = status; text = text })
-each_answered names x inputs nets done es status text named begun ran read told written = (
+each_answered names x inputs nets done es status text named begun ran read status_is written = (
   named,
   es,
   subst (λ (fs : List Ended). AllZip (IsEnd InSomeOrder) (on_each x inputs) fs) (sym read) (nets_gave x inputs nets done begun ran),
-  λ i. record { status = told i; text = written i },
+  λ i. record { status = status_is i; text = written i },
 )

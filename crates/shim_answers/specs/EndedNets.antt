@@ -16,7 +16,7 @@ pub record IsEndedNet (x : Execution) (n : NetView LocalState) : Type 0 where
   pub root_is : n.root ≡ root x.source x.input
   pub budget_is : n.budget ≡ x.budget
   pub keeps : IsNet process_ops n
-  pub stands : IsQuiescentNet process_ops n ⊎ IsSpentNet process_ops n
+  pub quiescent_or_spent : IsQuiescentNet process_ops n ⊎ IsSpentNet process_ops n
 
 -- what is read off a net of a run of this source
 abbrev pub end_of_net : Source → NetView LocalState → Ended

@@ -122,8 +122,8 @@ fn reports(
     Ok(lines)
 }
 
-/// Does the runs that were left to be done, at most as many at a time as the job has workers, and tells them
-/// in the order of the inputs. The source is compiled once, and each run is done by one worker. It returns
+/// Does the runs that were left to be done, at most as many at a time as the job has workers, and reports them in
+/// the order of the inputs. The source is compiled once, and each run is done by one worker. It returns
 /// where each `enter` of its gate does.
 pub fn answer_each<G: Gate, R: Threads + Sync>(
     rt: &R,

@@ -45,7 +45,7 @@ fn run_net<L: Local, G: Gate, R: Threads + Wait + Sync>(
     requires within { IsWithin job.now }
     ensures root { IfOk result (λ n. n.root ≡ net.root) }
     ensures budget { IfOk result (λ n. n.budget ≡ net.budget) }
-    ensures stands { IfOk result (λ n. IsQuiescentNet L.ops n ⊎ IsSpentNet L.ops n) }
+    ensures quiescent_or_spent { IfOk result (λ n. IsQuiescentNet L.ops n ⊎ IsSpentNet L.ops n) }
     ensures keeps { IfOk result (λ n. IsNet L.ops n) }
 {
     let workers = job.workers as u32;
@@ -116,8 +116,8 @@ pub fn answer_run<G: Gate, R: Threads + Wait + Sync>(
     })
 }
 
-/// Does a run whose journal is to be told, and tells that: the budget, and what was done in the net to
-/// which the run comes. The status tells how the run ended, as that of any run.
+/// Does a run whose journal is to be printed, and prints that: the budget, and what was done in the net to
+/// which the run comes. The status says how the run ended, as that of any run.
 pub fn answer_record<G: Gate, R: Threads + Wait + Sync>(
     rt: &R,
     alloc: Global,
@@ -170,7 +170,7 @@ fn text_in_version_2(alloc: Global, program: &Program) -> Result<List<u8>, NoMem
 }
 
 // The answer with what is printed of a source.
-fn told(text: List<u8>) -> Answer
+fn described(text: List<u8>) -> Answer
     ensures { answer_view result ≡ record { status = 0; text = text } }
 {
     Answer {
@@ -185,7 +185,7 @@ fn answer_check(alloc: Global, bytes: &[u8]) -> Result<Answer, NoMemory>
     ensures { IfOk result (λ a. AnswersDescribedSource descriptions.Functions bytes.now (answer_view a)) }
 {
     match read_source(alloc, bytes) {
-        Ok(source) => Ok(told(count_line(alloc, &source)?)),
+        Ok(source) => Ok(described(count_line(alloc, &source)?)),
         Err(fault) => refused(alloc, fault),
     }
 }
@@ -196,7 +196,7 @@ fn answer_code(alloc: Global, bytes: &[u8]) -> Result<Answer, NoMemory>
     ensures { IfOk result (λ a. AnswersDescribedSource descriptions.Instructions bytes.now (answer_view a)) }
 {
     match read_source(alloc, bytes) {
-        Ok(source) => Ok(told(listing(alloc, &source)?)),
+        Ok(source) => Ok(described(listing(alloc, &source)?)),
         Err(fault) => refused(alloc, fault),
     }
 }
@@ -207,7 +207,7 @@ fn answer_up(alloc: Global, bytes: &[u8]) -> Result<Answer, NoMemory>
     ensures { IfOk result (λ a. AnswersDescribedSource descriptions.Version2 bytes.now (answer_view a)) }
 {
     match read_program(alloc, bytes) {
-        Ok(program) => Ok(told(text_in_version_2(alloc, &program)?)),
+        Ok(program) => Ok(described(text_in_version_2(alloc, &program)?)),
         Err(fault) => refused(alloc, fault),
     }
 }

@@ -23,7 +23,7 @@ use shim_vm::Body;
 use std::alloc::Global;
 
 // The report of the tree to which a journal leads.
-fn told_tree(
+fn answer_tree(
     alloc: Global,
     source: &Accepted,
     tree: &Tree<Body>,
@@ -39,7 +39,7 @@ fn told_tree(
     })
 }
 
-// Runs a source as a journal tells, and tells how that ended, or at which line the journal is refused.
+// Runs a source as a journal says, and answers how that ended, or at which line the journal is refused.
 fn replay_entries_of(
     alloc: Global,
     source: &Accepted,
@@ -53,7 +53,7 @@ fn replay_entries_of(
     let code = Shared::new(alloc, compile(alloc, source)?)?;
     let main = Body::main(alloc, code, input)?;
     match replay(alloc, main, journal) {
-        Ok(tree) => told_tree(alloc, source, &tree, journal.budget),
+        Ok(tree) => answer_tree(alloc, source, &tree, journal.budget),
         Err(ReplayFault::OverBudget { line }) => journal_refused(alloc, line, "over budget"),
         Err(ReplayFault::NotEnabled { line }) => journal_refused(alloc, line, "not enabled"),
         Err(ReplayFault::Unfinished { line }) => journal_refused(alloc, line, "unfinished"),
@@ -78,7 +78,7 @@ fn replay_text(
     }
 }
 
-/// Runs the source in a text as the journal in another text tells, and tells how that ended. A source that
+/// Runs the source in a text by the journal in another text, and reports how that ended. A source that
 /// is refused comes before a journal that is.
 pub fn answer_replay(
     alloc: Global,

@@ -13,7 +13,7 @@ pub struct PreparedRun {
     pub input: List<u8>,
 }
 
-/// Runs of one accepted source, of which each takes in one of these: one for each input that the words
+/// Runs of one accepted source, of which each takes in one of these: one for each input that the arguments
 /// name, in their order.
 #[derive(Drop)]
 pub struct RunOfEach {

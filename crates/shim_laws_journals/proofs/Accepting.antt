@@ -1,4 +1,4 @@
--- A journal has one answer, and an accepted one is told as the meaning is.
+-- A journal has one answer, and an accepted one is reported as the meaning is.
 use Rattle.std.proofs.Common.{◌≡◌, ◌≤◌, ◌<◌, ◌∙◌, ◌⊎◌, inl, inr, ℕ, ◌+◌, Option, Some, None, List, [], ◌∷◌, ◌++◌, refl, sym, ap, subst, arith}
 use Rattle.shim_base.proofs.Facts.{some_same}
 use Rattle.shim_local.specs.Process.{Ops}
@@ -9,9 +9,9 @@ use Rattle.shim_laws_schedules.proofs.Lengths.{went_on}
 use Rattle.shim_laws_replay.specs.Journals.{Entry, replay, entry_after}
 use Rattle.shim_laws_replay.specs.Ends.{HasEnded}
 use Rattle.shim_laws_replay.proofs.Ends.{journals_mean}
-use Rattle.shim_laws_replay.proofs.Moments.{ends_are_told}
+use Rattle.shim_laws_replay.proofs.Moments.{ends_are_read_off}
 use Rattle.shim_laws_journals.specs.Ranges.{steps_in}
-use Rattle.shim_laws_journals.specs.Accepting.{IsAcceptedJournal, Reaches, JournalRefusal, OverBudget, NotEnabled, Unfinished, IsRefusedJournal, OneAnswer, AcceptedIsTold, line_behind}
+use Rattle.shim_laws_journals.specs.Accepting.{IsAcceptedJournal, Reaches, JournalRefusal, OverBudget, NotEnabled, Unfinished, IsRefusedJournal, OneAnswer, AcceptedIsReadOff, line_behind}
 use Rattle.shim_laws_journals.proofs.Counts.{entry_counts, entries_go_on, replay_earlier}
 
 none_some : {A : Type 0} (x : A) (o : Option A) → o ≡ None → o ≡ Some x → ⊥
@@ -51,9 +51,9 @@ module _ {S : Type 0} (o : Ops S) where
   ended_within b t (inl h) = h.0
   ended_within b t (inr h) = omega (arith, h.0)
 
-  pub accepted_is_told : LocalLaws o → AcceptedIsTold o
-  accepted_is_told laws root b es t sound own a =
-      (ended_within b t a.ended, journals_mean o laws root b es t sound own a.replays a.ended, ends_are_told o laws root b es t sound own a.replays a.ended)
+  pub accepted_is_read_off : LocalLaws o → AcceptedIsReadOff o
+  accepted_is_read_off laws root b es t sound own a =
+      (ended_within b t a.ended, journals_mean o laws root b es t sound own a.replays a.ended, ends_are_read_off o laws root b es t sound own a.replays a.ended)
 
   -- the entry is enabled, and its steps don't pass the budget
   abbrev IsDone : ℕ → Entry → Tree S → Type 0

@@ -1,4 +1,4 @@
--- Entries tell of the steps that they lead on by.
+-- Entries have the steps that they lead on by.
 use Rattle.std.proofs.Common.{◌≡◌, ◌≤◌, ◌∙◌, ℕ, ◌+◌, Option, Some, List, [], ◌∷◌, ◌++◌, length, refl, ap, arith}
 use Rattle.std.proofs.lemmas.List.{length-append, length-replicate}
 use Rattle.shim_base.proofs.Facts.{some_same}

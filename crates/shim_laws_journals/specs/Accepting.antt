@@ -5,7 +5,7 @@ use Rattle.shim_semantics.specs.Trees.{Tree, steps, IsQuiescent}
 use Rattle.shim_semantics.specs.Sound.{SharesItsOwn}
 use Rattle.shim_laws_replay.specs.Journals.{Entry, replay, entry_after}
 use Rattle.shim_laws_replay.specs.Ends.{HasEnded, AgreesWithMeaning}
-use Rattle.shim_laws_replay.specs.Told.{IsToldAs}
+use Rattle.shim_laws_replay.specs.ReadOff.{IsReadOffAs}
 use Rattle.shim_laws_journals.specs.Ranges.{steps_in}
 
 -- the entries are a run from the root to the tree, which ends at rest within the budget or with the budget spent
@@ -42,6 +42,6 @@ pub record OneAnswer {S : Type 0} (o : Ops S) : Type 0 where
   pub not_both : (root : S) (b : ℕ) (es : List Entry) (t : Tree S) (r : JournalRefusal) → IsAcceptedJournal o root b es t → IsRefusedJournal o root b es r → ⊥
   pub one_refusal : (root : S) (b : ℕ) (es : List Entry) (r s : JournalRefusal) → IsRefusedJournal o root b es r → IsRefusedJournal o root b es s → r ≡ s
 
--- an accepted journal agrees with the meaning within its budget, and is told so
-abbrev pub AcceptedIsTold : {S : Type 0} → Ops S → Type 0
-AcceptedIsTold {S} o = (root : S) (b : ℕ) (es : List Entry) (t : Tree S) → o.sound root → SharesItsOwn o root → IsAcceptedJournal o root b es t → (steps t ≤ b) × AgreesWithMeaning o root b t × IsToldAs o root b t
+-- an accepted journal agrees with the meaning within its budget, and so does what is read off it
+abbrev pub AcceptedIsReadOff : {S : Type 0} → Ops S → Type 0
+AcceptedIsReadOff {S} o = (root : S) (b : ℕ) (es : List Entry) (t : Tree S) → o.sound root → SharesItsOwn o root → IsAcceptedJournal o root b es t → (steps t ≤ b) × AgreesWithMeaning o root b t × IsReadOffAs o root b t

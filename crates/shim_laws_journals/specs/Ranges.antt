@@ -1,9 +1,9 @@
--- The numbers of a journal: how many steps its entries tell of, and which of them a text can have.
+-- The numbers of a journal: how many steps its entries have, and which of them a text can have.
 use Rattle.std.specs.Prelude.{◌≤◌, ◌<◌, ℕ, ◌+◌, List, [], ◌∷◌, length}
 use Rattle.std.specs.List.{All}
 use Rattle.shim_laws_replay.specs.Journals.{Entry, Quiet, Did}
 
--- how many steps an entry tells of
+-- how many steps an entry has
 abbrev pub steps_in : Entry → ℕ
 steps_in (Quiet p n) = n
 steps_in (Did e) = 1
@@ -13,7 +13,7 @@ abbrev pub steps_in_all : List Entry → ℕ
 steps_in_all [] = 0
 steps_in_all (e ∷ es) = steps_in e + steps_in_all es
 
--- an entry of quiet steps tells of 1 to 4,000,000
+-- an entry of quiet steps has 1 to 4,000,000
 abbrev pub HasStepsInRange : Entry → Type 0
 HasStepsInRange (Quiet p n) = (1 ≤ n) × (n ≤ 4000000)
 HasStepsInRange (Did e) = Unit {0}

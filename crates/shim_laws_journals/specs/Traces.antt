@@ -11,10 +11,10 @@ use Rattle.shim_laws_journals.specs.Accepting.{IsAcceptedJournal}
 pub record IsTrace {S : Type 0} (o : Ops S) (root : S) (b : ℕ) (es : List Entry) (t : Tree S) : Type 0 where
   -- they have a text
   pub in_range : IsInRange b es
-  -- the entries tell of no more steps than the budget, all together, and are no more themselves
+  -- the entries have no more steps than the budget, all together, and are no more themselves
   pub within : steps_in_all es ≤ b
   pub few : length es ≤ b
-  -- they tell of the steps of the tree
+  -- they have the steps of the tree
   pub counted : steps_in_all es ≡ steps t
   -- and are accepted, where no event is enabled or the budget is spent
   pub accepted : IsQuiescent o t ⊎ ((steps t ≡ b) × (IsQuiescent o t → ⊥)) → IsAcceptedJournal o root b es t

@@ -18,7 +18,7 @@ use Rattle.shim_semantics.proofs.Alone.{doer}
 use Rattle.shim_semantics.proofs.ReplacedNodes.{put}
 use Rattle.shim_semantics.proofs.Replaced.{sound_at}
 use Rattle.shim_semantics.proofs.SoundEvents.{events_keep_sound, runs_stay_sound}
-use Rattle.shim_laws_schedules.proofs.Opened.{root_path, opened, shut}
+use Rattle.shim_laws_schedules.proofs.EventParts.{root_path, split_event, join_event}
 use Rattle.shim_laws_schedules.proofs.Lengths.{went_on}
 use Rattle.shim_laws_schedules.proofs.DeadBelow.{at_put}
 use Rattle.shim_base.proofs.Facts.{some_same, first_holds, second_holds, both_hold, chosen}
@@ -55,7 +55,7 @@ module _ {S : Type 0} (o : Ops S) where
     -- where the process stood it stands in its next state, once it has done its quiet step
     moved_there : (t v : Tree S) (p : Path) (l : S) → IsSoundTree o t → led_to o t.root p ≡ Some (Live l) → o.stop l ≡ AtQuiet → after o (Own p) t ≡ Some v → led_to o v.root p ≡ Some (Live (o.quiet l))
     moved_there t v p l s there stop h =
-        let x = opened o (Own p) t v (λ z. cc) h in
+        let x = split_event o (Own p) t v (λ z. cc) h in
         let w = led_by t.root (route (o.path (state t.root)) p) (Live l) there in
         let place : w.branches ≡ x.place = some_same w.branches x.place (sym w.is ∙ x.route_is) in
         let old : x.old ≡ Live l = some_same x.old (Live l) (sym x.there ∙ (ap (λ y. at y t.root) (sym place) ∙ w.there)) in
@@ -85,7 +85,7 @@ module _ {S : Type 0} (o : Ops S) where
     can_step t p l there is stop =
         let w = led_by t.root (route (o.path (state t.root)) p) (Live l) there in
         let its = both_hold (same_path (o.path l) p) (same_own_action Steps (own_action_of o (Live l))) (ap (λ z. same_path z p) is ∙ same_path_refl p) (ap (λ s. same_own_action Steps (own_action_at s)) stop) in
-        (_, shut o (Own p) t w.branches (Live l) (quieted o l) (λ z. cc) w.is w.there its (steps_here o l stop))
+        (_, join_event o (Own p) t w.branches (Live l) (quieted o l) (λ z. cc) w.is w.there its (steps_here o l stop))
 
     steps_lead : (n : ℕ) (l last : S) (p : Path) (t : Tree S) → QuietSteps o n l last → IsSoundTree o t → led_to o t.root p ≡ Some (Live l) → o.path l ≡ p → (u : Tree S) × (run (after o) (replicate n (Own p)) t ≡ Some u)
     steps_lead zero l last p t taken s there is = (t, refl)
@@ -107,35 +107,35 @@ module _ {S : Type 0} (o : Ops S) where
     before_live p (Some (Ended l)) e = absurd cc
     before_live p (Some (Dead l x)) e = absurd cc
 
-    steps_told : (n : ℕ) (l : S) (p : Path) (t u : Tree S) → IsSoundTree o t → led_to o t.root p ≡ Some (Live l) → o.path l ≡ p → quiet_steps o p n t ≡ Some u → (last : S) × QuietSteps o n l last
-    steps_told zero l p t u s there is e = (l, refl)
-    steps_told (suc n) l p t u s there is e =
+    steps_taken_by : (n : ℕ) (l : S) (p : Path) (t u : Tree S) → IsSoundTree o t → led_to o t.root p ≡ Some (Live l) → o.path l ≡ p → quiet_steps o p n t ≡ Some u → (last : S) × QuietSteps o n l last
+    steps_taken_by zero l p t u s there is e = (l, refl)
+    steps_taken_by (suc n) l p t u s there is e =
         let x = went_on (quiet_steps o p n) (quiet_step o p t) u e in
         let c = chosen (is_before_quiet o p (led_to o t.root p)) (after o (Own p) t) x.0 x.1 in
         let test = second_holds (same_path (o.path l) p) (is_quiet (o.stop l)) (ap (is_before_quiet o p) (sym there) ∙ c.0) in
         let stop = quiet_stop o l test in
         let path = law.moved_path l (o.quiet l) (state_there t p l s there) (by_quiet stop refl) in
-        let rest = steps_told n (o.quiet l) p x.0 u ((events_keep_sound o law).kept t s (Own p) x.0 c.1) (moved_there t x.0 p l s there stop c.1) (path ∙ is) x.2 in
+        let rest = steps_taken_by n (o.quiet l) p x.0 u ((events_keep_sound o law).kept t s (Own p) x.0 c.1) (moved_there t x.0 p l s there stop c.1) (path ∙ is) x.2 in
         (rest.0, quiet_first n l rest.0 test rest.1)
 
     piece_comes : (t : Tree S) (n : ℕ) (first last : S) → IsSoundTree o t → IsGrantable o t first → QuietSteps o n first last → ComesBy o t n last × (o.path last ≡ o.path first)
     piece_comes t n first last s g taken =
-        let same = quiet_path n first last (state_there t (o.path first) first s g.stands.there) taken in
-        (record { start = first; stands = subst (λ p. StandsAt o t.root p (Live first)) (sym same) g.stands; steps = taken }, same)
+        let same = quiet_path n first last (state_there t (o.path first) first s g.in_tree.there) taken in
+        (record { start = first; in_tree = subst (λ p. StandsAt o t.root p (Live first)) (sym same) g.in_tree; steps = taken }, same)
 
     piece_entry : (t u : Tree S) (n : ℕ) (last : S) → IsSoundTree o t → ComesBy o t n last → Advances o (o.path last) n t u → IsTakenIn o t u n last
     piece_entry t u n last s comes e =
-        let w = steps_entry n comes.start last (o.path last) t u comes.steps s comes.stands.there comes.stands.is_its e in
+        let w = steps_entry n comes.start last (o.path last) t u comes.steps s comes.in_tree.there comes.in_tree.is_its e in
         let many = run_counts o (replicate n (Own (o.path last))) t u e in
         record {
           entry = w.0;
           sound = runs_stay_sound o law t u (replicate n (Own (o.path last))) s e;
           counted = omega (arith, many, as_many n (Own (o.path last)));
-          stands = record { there = w.1; is_its = refl };
+          in_tree = record { there = w.1; is_its = refl };
         }
 
     piece_leads : (t : Tree S) (n : ℕ) (last : S) → IsSoundTree o t → ComesBy o t n last → (u : Tree S) × Advances o (o.path last) n t u
-    piece_leads t n last s comes = steps_lead n comes.start last (o.path last) t comes.steps s comes.stands.there comes.stands.is_its
+    piece_leads t n last s comes = steps_lead n comes.start last (o.path last) t comes.steps s comes.in_tree.there comes.in_tree.is_its
 
     entry_piece : (t u : Tree S) (p : Path) (n : ℕ) → IsSoundTree o t → 1 ≤ n → entry_after o (Quiet p n) t ≡ Some u
         → (first : S) × (last : S) × IsGrantable o t first × (o.path first ≡ p) × QuietSteps o n first last × IsTakenIn o t u n last
@@ -144,11 +144,11 @@ module _ {S : Type 0} (o : Ops S) where
         let x = went_on (quiet_steps o p n) (quiet_step o p t) u e in
         let c = chosen (is_before_quiet o p (led_to o t.root p)) (after o (Own p) t) x.0 x.1 in
         let w = before_live p (led_to o t.root p) c.0 in
-        let told = steps_told (suc n) w.0 p t u s w.1 w.2 e in
-        let grantable : IsGrantable o t w.0 = record { stands = record { there = ap (led_to o t.root) w.2 ∙ w.1; is_its = refl }; stop = w.3 } in
-        let comes = piece_comes t (suc n) w.0 told.0 s grantable told.1 in
-        let advances : Advances o (o.path told.0) (suc n) t u = ap (λ q. run (after o) (replicate (suc n) (Own q)) t) (comes.1 ∙ w.2) ∙ quiet_steps_run o p (suc n) t u e in
-        (w.0, told.0, grantable, w.2, told.1, piece_entry t u (suc n) told.0 s comes.0 advances)
+        let taken = steps_taken_by (suc n) w.0 p t u s w.1 w.2 e in
+        let grantable : IsGrantable o t w.0 = record { in_tree = record { there = ap (led_to o t.root) w.2 ∙ w.1; is_its = refl }; stop = w.3 } in
+        let comes = piece_comes t (suc n) w.0 taken.0 s grantable taken.1 in
+        let advances : Advances o (o.path taken.0) (suc n) t u = ap (λ q. run (after o) (replicate (suc n) (Own q)) t) (comes.1 ∙ w.2) ∙ quiet_steps_run o p (suc n) t u e in
+        (w.0, taken.0, grantable, w.2, taken.1, piece_entry t u (suc n) taken.0 s comes.0 advances)
 
     pub pieces_are_entries : PiecesAreEntries o
     pieces_are_entries = record {
@@ -172,7 +172,7 @@ module _ {S : Type 0} (o : Ops S) where
         (quiet_undisturbed o law t x.0 (Own p) l s x.1 (own_of_another p (o.path l) other) g)
 
     past_event : (t u : Tree S) (e : Event) (l : S) → IsSoundTree o t → after o e t ≡ Some u → IsNoQuietStep o t e → IsGrantable o t l → IsGrantable o u l
-    past_event t u e l s h none g = quiet_undisturbed o law t u e l s h (λ is. none (o.path l) is (l, g.stands, g.stop)) g
+    past_event t u e l s h none g = quiet_undisturbed o law t u e l s h (λ is. none (o.path l) is (l, g.in_tree, g.stop)) g
 
     past_entry : (t u : Tree S) (j : Entry) (l : S) → IsSoundTree o t → entry_after o j t ≡ Some u → IsOfOthers (o.path l) j → IsGrantable o t l → IsGrantable o u l
     past_entry t u (Quiet p n) l s h other g = others_stand n p t u l s other (quiet_steps_run o p n t u h) g

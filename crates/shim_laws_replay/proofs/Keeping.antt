@@ -1,5 +1,5 @@
 -- What a net keeps stays kept, whatever is done with it.
-use Rattle.std.proofs.Common.{◌≡◌, ◌≤◌, ◌<◌, ◌+◌, ℕ, suc, Some, List, [], ◌∷◌, ◌++◌, length, ◌⊎◌, inl, inr, ltb, ltb-true, ltb-false, sym, ap, subst, ◌∙◌, arith}
+use Rattle.std.proofs.Common.{◌≡◌, ◌≤◌, ◌<◌, ◌+◌, ℕ, suc, Some, List, [], ◌∷◌, ◌++◌, length, ◌⊎◌, inl, inr, ltb, ltb-true, ltb-false, refl, sym, ap, subst, ◌∙◌, arith}
 use Rattle.std.specs.Prelude.{slice_index_or, take, drop}
 use Rattle.std.specs.List.{All, AllPairs, remove}
 use Rattle.std.proofs.lemmas.List.{get_or_default}
@@ -11,28 +11,64 @@ use Rattle.shim_local.specs.Process.{Ops}
 use Rattle.shim_local.specs.Quiets.{QuietSteps}
 use Rattle.shim_local.specs.Laws.{LocalLaws}
 use Rattle.shim_semantics.specs.Trees.{Tree, Event, after, start, steps, IsQuiescent}
-use Rattle.shim_semantics.specs.Quiets.{Advances}
+use Rattle.shim_semantics.specs.Quiets.{Advances, StandsQuiet}
 use Rattle.shim_semantics.specs.Sound.{SharesItsOwn}
 use Rattle.shim_semantics.specs.Laws.{IsSoundTree}
 use Rattle.shim_semantics.proofs.Counting.{event_counts}
-use Rattle.shim_base.proofs.Facts.{true_or_false}
-use Rattle.shim_laws_replay.specs.Journals.{Entry, Quiet, Did, entry_after, TellsOfSome}
+use Rattle.shim_base.proofs.Facts.{true_or_false, some_same}
+use Rattle.shim_laws_replay.specs.Journals.{Entry, Quiet, Did, entry_after, replay, IsNonemptyEntry}
 use Rattle.shim_laws_replay.specs.Grants.{IsNoQuietStep}
 use Rattle.shim_laws_replay.specs.Ends.{HasEnded}
-use Rattle.shim_laws_replay.specs.Nets.{Grant, reserved, IsOut, AreApart, NetKeeps, NetsKeep}
+use Rattle.shim_laws_replay.specs.Nets.{Grant, reserved, IsOut, AreApart, NamesNoQuietStep, NetKeeps, NetsKeep}
 use Rattle.shim_laws_replay.proofs.Runs.{starts_at_none, replay_none, replay_more, replay_sound}
 use Rattle.shim_laws_replay.proofs.Entries.{out_stays_out, pieces_are_entries}
 
 all_remove : {X : Type 0} (P : X → Type 0) (xs : List X) (i : ℕ) → All P xs → All P (remove xs i)
 all_remove P xs i h = All-append P (take i xs) (drop (suc i) xs) (All-take P i xs h) (All-drop P (suc i) xs h)
 
+same_tail : {X : Type 0} (x y : X) (xs ys : List X) → x ∷ xs ≡ y ∷ ys → xs ≡ ys
+same_tail x y xs ys e = cc
+
+event_of_did : (e f : Event) → Did e ≡ Did f → e ≡ f
+event_of_did e f is = cc
+
+none_there : {X : Type 0} (before behind : List X) (x : X) → [] ≡ before ++ x ∷ behind → ⊥
+none_there [] behind x e = cc
+none_there (b ∷ bs) behind x e = cc
+
+-- a list with one element more, taken apart at an element: that is the last one, or it stands before that
+last_or_before : {X : Type 0} (xs before behind : List X) (x y : X) → xs ++ y ∷ [] ≡ before ++ x ∷ behind
+    → ((xs ≡ before) × (y ≡ x)) ⊎ ((rest : List X) × (xs ≡ before ++ x ∷ rest))
+last_or_before [] [] behind x y e = inl (refl, cc)
+last_or_before [] (b ∷ []) behind x y e = absurd (cc)
+last_or_before [] (b ∷ c ∷ bs) behind x y e = absurd (cc)
+last_or_before (a ∷ xs) [] behind x y e = inr (xs, cc)
+last_or_before (a ∷ xs) (b ∷ bs) behind x y e =
+    let t = same_tail a b (xs ++ y ∷ []) (bs ++ x ∷ behind) e in
+    elim (last_or_before xs bs behind x y t) [
+      | inl w ↦ inl (cc, w.1)
+      | inr w ↦ inr (w.0, cc)
+    ]
+
 module _ {S : Type 0} (o : Ops S) where
+  -- an entry more names no quiet step, if it names none where it comes
+  names_more : (root : S) (js : List Entry) (j : Entry) (t : Tree S) → replay o root js ≡ Some t → NamesNoQuietStep o root js
+      → ((e : Event) → j ≡ Did e → IsNoQuietStep o t e) → NamesNoQuietStep o root (js ++ j ∷ [])
+  names_more root js j t h names own before behind e u is at p same =
+      elim (last_or_before js before behind (Did e) j is) [
+        | inl w ↦
+            let one : t ≡ u = some_same t u (sym h ∙ ap (replay o root) w.0 ∙ at) in
+            subst (λ z. StandsQuiet o z p → ⊥) one (own e w.1 p same)
+        | inr w ↦ names before w.0 e u w.1 at p same
+      ]
+
   begun : (root : S) (b : ℕ) → o.sound root → SharesItsOwn o root → NetKeeps o root b [] (start root) []
   begun root b sound own = record {
     sound = sound;
     own = own;
     replays = replay_none o root;
-    tells = λ k d few. absurd (omega (arith, few));
+    nonempty = λ k d few. absurd (omega (arith, few));
+    events_apart = λ before behind e t is. absurd (none_there before behind (Did e) is);
     fits = omega (arith, starts_at_none o root);
     out = λ k d few. absurd (omega (arith, few));
     apart = λ i j d less few. absurd (omega (arith, few));
@@ -68,7 +104,8 @@ module _ {S : Type 0} (o : Ops S) where
     sound = w.sound;
     own = w.own;
     replays = w.replays;
-    tells = w.tells;
+    nonempty = w.nonempty;
+    events_apart = w.events_apart;
     fits = omega (arith, w.fits, less_reserved grants i g there is);
     out = all_remove (IsOut o t) grants i w.out;
     apart = all_pairs_remove (AreApart o) grants i there w.apart;
@@ -79,7 +116,8 @@ module _ {S : Type 0} (o : Ops S) where
     sound = w.sound;
     own = w.own;
     replays = w.replays;
-    tells = w.tells;
+    nonempty = w.nonempty;
+    events_apart = w.events_apart;
     fits = omega (arith, room, sum_by-append (λ (z : Grant S). z.most) grants (g ∷ []));
     out = All-push (IsOut o t) grants g w.out out;
     apart = all_pairs_push (AreApart o) grants g w.apart apart;
@@ -100,7 +138,8 @@ module _ {S : Type 0} (o : Ops S) where
           sound = w.sound;
           own = w.own;
           replays = replay_more o root js (Did e) t u w.replays h;
-          tells = All-push TellsOfSome js (Did e) w.tells tt;
+          nonempty = All-push IsNonemptyEntry js (Did e) w.nonempty tt;
+          events_apart = names_more root js (Did e) t w.replays w.events_apart (λ f is. subst (IsNoQuietStep o t) (event_of_did e f is) none);
           fits = omega (arith, event_counts o e t u h, room);
           out = λ k d few. let x = w.out k d few in record {
             grantable = (out_stays_out o law).events t u e (slice_index_or grants k d).start sound h none x.grantable;
@@ -124,7 +163,8 @@ module _ {S : Type 0} (o : Ops S) where
           sound = w.sound;
           own = w.own;
           replays = replay_more o root js (Quiet (o.path g.start) n) t u w.replays entry;
-          tells = All-push TellsOfSome js (Quiet (o.path g.start) n) w.tells some;
+          nonempty = All-push IsNonemptyEntry js (Quiet (o.path g.start) n) w.nonempty some;
+          events_apart = names_more root js (Quiet (o.path g.start) n) t w.replays w.events_apart (λ f is. absurd (cc));
           fits = omega (arith, w.fits, less_reserved grants i g there is, whole.counted, most);
           out = λ k d few.
               let x = all_remove (IsOut o t) grants i w.out k d few in

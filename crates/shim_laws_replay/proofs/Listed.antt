@@ -35,7 +35,7 @@ one_among true x e = inl refl
 one_among false x e = absurd cc
 
 module _ {S : Type 0} (o : Ops S) where
-  -- the test of the stop tells
+  -- the test of the stop decides
   pub quiet_stop : (l : S) → is_quiet (o.stop l) ≡ true → o.stop l ≡ AtQuiet
   quiet_stop l e = (first_quiet o 0 l (o.quiet l) (ap (λ b. cond b (Some (o.quiet l)) None) e)).0
 
@@ -74,11 +74,11 @@ module _ {S : Type 0} (o : Ops S) where
 
   pub grantable_are_listed : GrantableAreListed o
   grantable_are_listed t l s = (
-    λ g. let w = led_by t.root (route (o.path (state t.root)) (o.path l)) (Live l) g.stands.there in among_got (quiets o t.root) l (stands_listed w.branches t.root l w.there g.stop),
+    λ g. let w = led_by t.root (route (o.path (state t.root)) (o.path l)) (Live l) g.in_tree.there in among_got (quiets o t.root) l (stands_listed w.branches t.root l w.there g.stop),
     λ x.
         let w = listed_stands t.root l (got_among (quiets o t.root) x.0 l x.1) in
         record {
-          stands = record { there = ap (at_route t.root) (route_of o t.root (Live l) w.0 (o.path l) s.below w.1 refl) ∙ w.1; is_its = refl };
+          in_tree = record { there = ap (at_route t.root) (route_of o t.root (Live l) w.0 (o.path l) s.below w.1 refl) ∙ w.1; is_its = refl };
           stop = w.2;
         },
   )

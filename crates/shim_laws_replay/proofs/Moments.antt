@@ -1,4 +1,4 @@
--- What is told of a schedule's end, and what holds of it at every moment.
+-- What is reported of a schedule's end, and what holds of it at every moment.
 use Rattle.std.proofs.Common.{◌≡◌, ℕ, inl, inr, cond, refl, ap, subst}
 use Rattle.shim_local.specs.Process.{Ops}
 use Rattle.shim_local.specs.Laws.{LocalLaws}
@@ -17,7 +17,7 @@ use Rattle.shim_laws_schedules.proofs.Orders.{rounds_lead}
 use Rattle.shim_base.proofs.Facts.{true_or_false}
 use Rattle.shim_laws_replay.specs.Journals.{all_events}
 use Rattle.shim_laws_replay.specs.Ends.{HasEnded, AgreesWithMeaning}
-use Rattle.shim_laws_replay.specs.Told.{IsToldAs, EndsAreTold, MomentsLead}
+use Rattle.shim_laws_replay.specs.ReadOff.{IsReadOffAs, EndsAreReadOff, MomentsLead}
 use Rattle.shim_laws_replay.proofs.Runs.{journals_are_runs, replay_sound}
 use Rattle.shim_laws_replay.proofs.Ends.{journals_mean, meaning_ends}
 
@@ -47,16 +47,16 @@ module _ {S : Type 0} (o : Ops S) where
     full (inl (few, q)) n = absurd (n q)
     full (inr (is, more)) n = is
 
-    told_as : IsToldAs o root b t
-    told_as = record {
+    read_off_as : IsReadOffAs o root b t
+    read_off_as = record {
       spent = (λ e. there.1 (λ q. here.0 e (agrees.alike.rests.1 q)), λ e. here.1 (λ q. there.0 e (agrees.alike.rests.0 q)));
       same = λ n. agrees.alike.read_alike (not_spent (meaning o b (start root)) meaning_sound n);
       whole = λ e. (agrees.spent (λ q. here.0 e (agrees.alike.rests.1 q)), full end (here.0 e));
     }
 
-  pub ends_are_told : LocalLaws o → EndsAreTold o
-  ends_are_told law root b journal t sound own leads end =
-      told_as law root b t (replay_sound o law root journal t sound own leads) (journals_mean o law root b journal t sound own leads end) end ((events_keep_sound o law).starts root sound own)
+  pub ends_are_read_off : LocalLaws o → EndsAreReadOff o
+  ends_are_read_off law root b journal t sound own leads end =
+      read_off_as law root b t (replay_sound o law root journal t sound own leads) (journals_mean o law root b journal t sound own leads end) end ((events_keep_sound o law).starts root sound own)
 
   pub moments_lead : LocalLaws o → MomentsLead o
   moments_lead law root journal t sound own leads =

@@ -38,7 +38,7 @@ module _ {S : Type 0} (o : Ops S) where
   pub starts_at_none : (root : S) → steps (start root) ≡ 0
   starts_at_none root = none_counted root (start root) refl
 
-  -- what an entry of quiet steps tells of is a run of own steps
+  -- an entry of quiet steps is a run of own steps
   pub quiet_steps_run : (p : Path) (n : ℕ) (t u : Tree S) → quiet_steps o p n t ≡ Some u → run (after o) (replicate n (Own p)) t ≡ Some u
   quiet_steps_run p zero t u e = e
   quiet_steps_run p (suc n) t u e =

@@ -16,7 +16,7 @@ use Rattle.shim_semantics.proofs.PoisonStays.{poison_stays}
 use Rattle.shim_laws_schedules.proofs.Homes.{all_wait_home}
 use Rattle.shim_laws_schedules.proofs.Elsewhere.{acts_aside}
 use Rattle.shim_laws_schedules.proofs.Meets.{is_unshared_there}
-use Rattle.shim_laws_schedules.proofs.Opened.{root_path, Opened, opened, its_path, its_kind}
+use Rattle.shim_laws_schedules.proofs.EventParts.{root_path, EventParts, split_event, its_path, its_kind}
 use Rattle.shim_laws_schedules.proofs.MeetDiamond.{has_met, value_in}
 use Rattle.shim_laws_schedules.proofs.PoisonDiamond.{nodes_changed_some}
 use Rattle.shim_laws_schedules.proofs.Kills.{root_from_above, act_poison}
@@ -56,7 +56,7 @@ module _ {S : Type 0} (o : Ops S) where
 
   module _ (law : LocalLaws o) (t : Tree S) (l : S) (s : IsSoundTree o t) (stop : o.stop l ≡ AtQuiet) (w : Led t.root (route (o.path (state t.root)) (o.path l)) (Live l)) where
     -- an event of one process by itself, which is another one
-    alone : (e : Event) (u : Tree S) → IsAlone e → e ≢ Own (o.path l) → Opened o e t u → led_to o u.root (o.path l) ≡ Some (Live l)
+    alone : (e : Event) (u : Tree S) → IsAlone e → e ≢ Own (o.path l) → EventParts o e t u → led_to o u.root (o.path l) ≡ Some (Live l)
     alone e u d other x =
         let same : x.place ≡ w.branches → x.old ≡ Live l = λ z. some_same x.old (Live l) (sym x.there ∙ (ap (λ y. at y t.root) z ∙ w.there)) in
         let places : x.place ≡ w.branches → ⊥ = λ z. other (own_step e l d (sym (ap (λ y. o.path (state y)) (same z)) ∙ its_path o e t u x) stop (sym (ap (λ y. same_own_action (does e) (own_action_of o y)) (same z)) ∙ its_kind o e t u x)) in
@@ -84,9 +84,9 @@ module _ {S : Type 0} (o : Ops S) where
         again t.root m (o.path l) w.branches (Live l) (poison_stays o law c (Some (i ∷ q)) t.root m s.below e).follows.path w.is x.there
 
     by_event : (e : Event) (u : Tree S) → after o e t ≡ Some u → e ≢ Own (o.path l) → led_to o u.root (o.path l) ≡ Some (Live l)
-    by_event (Own p) u h n = alone (Own p) u (λ z. cc) n (opened o (Own p) t u (λ z. cc) h)
-    by_event (Close p) u h n = alone (Close p) u (λ z. cc) n (opened o (Close p) t u (λ z. cc) h)
-    by_event (End p) u h n = alone (End p) u (λ z. cc) n (opened o (End p) t u (λ z. cc) h)
+    by_event (Own p) u h n = alone (Own p) u (λ z. cc) n (split_event o (Own p) t u (λ z. cc) h)
+    by_event (Close p) u h n = alone (Close p) u (λ z. cc) n (split_event o (Close p) t u (λ z. cc) h)
+    by_event (End p) u h n = alone (End p) u (λ z. cc) n (split_event o (End p) t u (λ z. cc) h)
     by_event (Meet c) u h n = meets c u h
     by_event (Poison p c) u h n =
         let x = nodes_changed_some t u (poisons o p c t.root) h in
@@ -96,6 +96,6 @@ module _ {S : Type 0} (o : Ops S) where
 
   pub quiet_undisturbed : LocalLaws o → QuietUndisturbed o
   quiet_undisturbed law t u e l s h n q = record {
-    stands = record { there = by_event law t l s q.stop (led_by t.root (route (o.path (state t.root)) (o.path l)) (Live l) q.stands.there) e u h n; is_its = refl };
+    in_tree = record { there = by_event law t l s q.stop (led_by t.root (route (o.path (state t.root)) (o.path l)) (Live l) q.in_tree.there) e u h n; is_its = refl };
     stop = q.stop;
   }

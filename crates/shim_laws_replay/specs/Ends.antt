@@ -15,7 +15,7 @@ HasEnded o b t = ((steps t ≤ b) × IsQuiescent o t) ⊎ ((steps t ≡ b) × (I
 pub record EndAlike {S : Type 0} (o : Ops S) (t u : Tree S) : Type 0 where
   -- both are at rest, or neither is
   pub rests : IsQuiescent o t ↔ IsQuiescent o u
-  -- at rest they are one tree, and are told alike
+  -- quiescent they are one tree, and are reported alike
   pub same : IsQuiescent o u → t ≡ u
   pub read_alike : IsQuiescent o u → ended o t ≡ ended o u
   -- as many steps led to both, whatever can happen

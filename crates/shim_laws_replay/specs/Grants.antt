@@ -11,7 +11,7 @@ use Rattle.shim_laws_replay.specs.Journals.{Entry, Quiet, Did, entry_after}
 
 -- in the tree some process lives in this state, at its path, and has a quiet step to do
 pub record IsGrantable {S : Type 0} (o : Ops S) (t : Tree S) (l : S) : Type 0 where
-  pub stands : StandsAt o t.root (o.path l) (Live l)
+  pub in_tree : StandsAt o t.root (o.path l) (Live l)
   pub stop : o.stop l ≡ AtQuiet
 
 -- these are the processes that the list of a sound tree's quiet ones has
@@ -26,7 +26,7 @@ QuietUndisturbed {S} o = (t u : Tree S) (e : Event) (l : S) → IsSoundTree o t 
 abbrev pub IsNoQuietStep : {S : Type 0} → Ops S → Tree S → Event → Type 0
 IsNoQuietStep o t e = (p : Path) → e ≡ Own p → StandsQuiet o t p → ⊥
 
--- the entry tells of no step of the process of the path
+-- the entry has no step of the process of the path
 abbrev pub IsOfOthers : Path → Entry → Type 0
 IsOfOthers p (Quiet q n) = q ≢ p
 IsOfOthers p (Did e) = e ≢ Own p

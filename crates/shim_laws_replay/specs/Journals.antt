@@ -31,7 +31,7 @@ abbrev pub quiet_steps : {S : Type 0} → Ops S → Path → ℕ → Tree S → 
 quiet_steps o p zero t = Some t
 quiet_steps o p (suc n) t = on_some (quiet_steps o p n) (quiet_step o p t)
 
--- the tree after all that an entry tells of, where each of it is enabled in its turn
+-- the tree after all that an entry has, where each of it is enabled in its turn
 abbrev pub entry_after : {S : Type 0} → Ops S → Entry → Tree S → Option (Tree S)
 entry_after o (Quiet p n) t = quiet_steps o p n t
 entry_after o (Did e) t = after o e t
@@ -49,10 +49,10 @@ abbrev pub all_events : List Entry → List Event
 all_events [] = []
 all_events (j ∷ js) = events_of j ++ all_events js
 
--- an entry tells of an event at least
-abbrev pub TellsOfSome : Entry → Type 0
-TellsOfSome (Quiet p n) = 1 ≤ n
-TellsOfSome (Did e) = Unit {0}
+-- an entry has an event at least
+abbrev pub IsNonemptyEntry : Entry → Type 0
+IsNonemptyEntry (Quiet p n) = 1 ≤ n
+IsNonemptyEntry (Did e) = Unit {0}
 
 -- the tree is the end of a run from the root that has so many events
 abbrev pub IsReachedBy : {S : Type 0} → Ops S → S → ℕ → Tree S → Type 0

@@ -3,5 +3,5 @@ pub mod Journals
 pub mod Grants
 pub mod Moves
 pub mod Ends
-pub mod Told
+pub mod ReadOff
 pub mod Nets

@@ -29,7 +29,7 @@ pub record IsTakenIn {S : Type 0} (o : Ops S) (t u : Tree S) (n : ℕ) (last : S
   pub entry : entry_after o (Quiet (o.path last) n) t ≡ Some u
   pub sound : IsSoundTree o u
   pub counted : steps u ≡ steps t + n
-  pub stands : StandsAt o u.root (o.path last) (Live last)
+  pub in_tree : StandsAt o u.root (o.path last) (Live last)
 
 pub record PiecesAreEntries {S : Type 0} (o : Ops S) : Type 0 where
   -- A finished piece of a process that stands where it was granted may be taken in. The path is that of the start.
@@ -40,5 +40,5 @@ pub record PiecesAreEntries {S : Type 0} (o : Ops S) : Type 0 where
   pub entry : (t u : Tree S) (n : ℕ) (last : S) → IsSoundTree o t → ComesBy o t n last → Advances o (o.path last) n t u → IsTakenIn o t u n last
   -- and each entry of quiet steps is a piece of the process of its path
   pub piece : (t u : Tree S) (p : Path) (n : ℕ) → IsSoundTree o t → 1 ≤ n → entry_after o (Quiet p n) t ≡ Some u → (first : S) × (last : S) × IsGrantable o t first × (o.path first ≡ p) × QuietSteps o n first last × IsTakenIn o t u n last
-  -- it tells of a step, where a step was granted to a process that stands before a quiet one, and no memory was wanted
+  -- it has a step, where a step was granted to a process that stands before a quiet one, and memory didn't run out
   pub some : (first last : S) (used grant : ℕ) (short : Bool) → o.stop first ≡ AtQuiet → 1 ≤ grant → QuietSteps o used first last → FewerWithCause o used grant short last → short ≡ false → 1 ≤ used

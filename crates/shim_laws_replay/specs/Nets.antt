@@ -6,7 +6,7 @@ use Rattle.shim_local.specs.Quiets.{QuietSteps}
 use Rattle.shim_semantics.specs.Trees.{Tree, Event, after, start, steps, IsQuiescent}
 use Rattle.shim_semantics.specs.Sound.{SharesItsOwn}
 use Rattle.shim_semantics.specs.Quiets.{Advances}
-use Rattle.shim_laws_replay.specs.Journals.{Entry, Quiet, Did, replay, TellsOfSome}
+use Rattle.shim_laws_replay.specs.Journals.{Entry, Quiet, Did, replay, IsNonemptyEntry}
 use Rattle.shim_laws_replay.specs.Grants.{IsGrantable, IsNoQuietStep}
 use Rattle.shim_laws_replay.specs.Ends.{HasEnded}
 
@@ -28,12 +28,17 @@ pub record IsOut {S : Type 0} (o : Ops S) (t : Tree S) (g : Grant S) : Type 0 wh
 abbrev pub AreApart : {S : Type 0} → Ops S → Grant S → Grant S → Type 0
 AreApart o g h = o.path g.start ≢ o.path h.start
 
+-- no event that an entry names by itself is a quiet step in the tree of the entries before it
+abbrev pub NamesNoQuietStep : {S : Type 0} → Ops S → S → List Entry → Type 0
+NamesNoQuietStep {S} o root journal = (before behind : List Entry) (e : Event) (t : Tree S) → journal ≡ before ++ Did e ∷ behind → replay o root before ≡ Some t → IsNoQuietStep o t e
+
 -- What a net of this root and budget keeps, at every moment: its tree is the replay of its journal, the budget is not passed even where each grant takes all its steps, and each process that is out stands where it was given out.
 pub record NetKeeps {S : Type 0} (o : Ops S) (root : S) (budget : ℕ) (journal : List Entry) (t : Tree S) (grants : List (Grant S)) : Type 0 where
   pub sound : o.sound root
   pub own : SharesItsOwn o root
   pub replays : replay o root journal ≡ Some t
-  pub tells : All TellsOfSome journal
+  pub nonempty : All IsNonemptyEntry journal
+  pub events_apart : NamesNoQuietStep o root journal
   pub fits : steps t + reserved grants ≤ budget
   pub out : All (IsOut o t) grants
   pub apart : AllPairs (AreApart o) grants

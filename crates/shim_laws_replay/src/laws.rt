@@ -3,12 +3,12 @@ ghost use Rattle.shim_laws_replay.specs.Journals.{JournalsAreRuns};
 ghost use Rattle.shim_laws_replay.specs.Grants.{QuietUndisturbed, OutStaysOut, GrantableAreListed};
 ghost use Rattle.shim_laws_replay.specs.Moves.{JournalsGoOn, PiecesAreEntries};
 ghost use Rattle.shim_laws_replay.specs.Ends.{JournalsAgree, JournalsMean};
-ghost use Rattle.shim_laws_replay.specs.Told.{EndsAreTold, MomentsLead};
+ghost use Rattle.shim_laws_replay.specs.ReadOff.{EndsAreReadOff, MomentsLead};
 ghost use Rattle.shim_laws_replay.specs.Nets.{NetsKeep};
 
 use shim_local::Local;
 
-/// Where a journal leads to a tree, the events of which it tells are a run there, each enabled in its
+/// Where a journal leads to a tree, its events are a run there, each enabled in its
 /// turn, and as many as the tree's steps.
 pub fn journals_are_runs<L: Local>()
     ensures { JournalsAreRuns L.ops }
@@ -27,7 +27,7 @@ pub fn quiet_undisturbed<L: Local>()
 {}
 
 /// A process that is out, which stands in a sound tree before a quiet step, stays so through each event that
-/// is no quiet step, and through each entry that tells of no step of its own.
+/// is no quiet step, and through each entry that has no step of its own.
 pub fn out_stays_out<L: Local>()
     ensures { OutStaysOut L.ops }
 {}
@@ -39,8 +39,8 @@ pub fn grantable_are_listed<L: Local>()
 {}
 
 /// A piece of work whose process stands where it was granted may be taken in: it is one entry, which leaves
-/// a sound tree of as many steps more, in which the process stands in its last state. The entry tells of a
-/// step, where one was granted and no memory was wanted.
+/// a sound tree of as many steps more, in which the process stands in its last state. The entry has a step, where
+/// one was granted and memory didn't run out.
 pub fn pieces_are_entries<L: Local>()
     ensures { PiecesAreEntries L.ops }
 {}
@@ -58,10 +58,10 @@ pub fn journals_mean<L: Local>()
     ensures { JournalsMean L.ops }
 {}
 
-/// A schedule that has ended is told as spent exactly where the meaning is, and then just the budget's steps
-/// led to its tree; else what is told of it is what is told of the meaning.
-pub fn ends_are_told<L: Local>()
-    ensures { EndsAreTold L.ops }
+/// A schedule that has ended is reported as spent exactly where the meaning is, and then just the budget's steps
+/// led to its tree; else what is reported of it is what is reported of the meaning.
+pub fn ends_are_read_off<L: Local>()
+    ensures { EndsAreReadOff L.ops }
 {}
 
 /// Whatever a journal leads to can be reached by a run with as many events as the tree has steps. Its output

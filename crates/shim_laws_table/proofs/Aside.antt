@@ -4,7 +4,7 @@ use Rattle.shim_semantics.specs.Nodes.{Node, Nodes, Live, Forked, Ended, Dead, n
 use Rattle.shim_semantics.specs.Places.{at, child_at}
 use Rattle.shim_semantics.proofs.ReplacedNodes.{put, put_child}
 use Rattle.shim_base.proofs.Facts.{some_same, none_some}
-use Rattle.shim_laws_table.specs.Seen.{seen, forks, how_many_nodes, is_leaf, IsAside}
+use Rattle.shim_laws_table.specs.NodeStatus.{seen, forks, how_many_nodes, is_leaf, IsAside}
 use Rattle.shim_laws_table.specs.Places.{SameAside}
 
 mutual

@@ -10,7 +10,7 @@ use Rattle.shim_semantics.specs.Nodes.{Node, Nodes, Live, Forked, Ended, Dead, n
 use Rattle.shim_semantics.specs.Places.{at, child_at, branches}
 use Rattle.shim_semantics.proofs.ReplacedNodes.{put, put_child}
 use Rattle.shim_base.proofs.Facts.{some_same, none_some}
-use Rattle.shim_laws_table.specs.Seen.{ProcessStatus, lives, forks, process_status, place, IsAside}
+use Rattle.shim_laws_table.specs.NodeStatus.{ProcessStatus, lives, forks, process_status, place, IsAside}
 use Rattle.shim_laws_table.specs.Agrees.{RecordView, Has, Agrees}
 use Rattle.shim_laws_table.specs.Places.{IsReplaced}
 use Rattle.shim_laws_table.specs.Counts.{Tally, tally_of}
@@ -18,8 +18,8 @@ use Rattle.shim_laws_table.specs.Tallied.{Tallied, OnTheWay, is_above, IsCounted
 use Rattle.shim_laws_table.specs.Beginning.{AreOf, CountsBegin}
 use Rattle.shim_laws_table.proofs.Aside.{there, at_split}
 use Rattle.shim_laws_table.proofs.SameTrees.{same_or_not, aside_or_further, is_put, no_fork, seen_fork}
-use Rattle.shim_laws_table.proofs.OneChange.{one_sort}
-use Rattle.shim_laws_table.proofs.Way.{untouched, leaf_no_fork, way_from, with_split, fork_above}
+use Rattle.shim_laws_table.proofs.OneChange.{one_status}
+use Rattle.shim_laws_table.proofs.PlacesAbove.{untouched, leaf_no_fork, way_from, with_split, fork_above}
 
 -- ---- what a fork's children were given, where a node at or below one changes
 
@@ -84,11 +84,11 @@ module _ {S : Type 0} (o : Ops S) (c : Channel) where
 
 -- ---- the counts at first
 
-module _ {S : Type 0} (o : Ops S) (rp : Path) (before behind : List S) (stood stands : List RecordView) (c : Channel) (old new m a : Node S) (q : List ℕ) (counts now : ℕ → Option Tally)
+module _ {S : Type 0} (o : Ops S) (rp : Path) (before behind : List S) (old_views views : List RecordView) (c : Channel) (old new m a : Node S) (q : List ℕ) (counts now : ℕ → Option Tally)
     (rep : IsReplaced q m a old new) (given : o.given (state a) ≡ o.given (state m))
-    (kept : (j f n : ℕ) (s : S) → Has behind stands j f s (forks n) → IsAside (place o rp s) q → (g : ℕ) × Has before stood j g s (forks n) × (now j ≡ counts j))
-    (inside : (j f n : ℕ) (s : S) (r : List ℕ) (l : S) (ks : Nodes S) → Has behind stands j f s (forks n) → place o rp s ≡ q ++ r → at r a ≡ Some (Forked l ks) → AreOf o c l ks (now j))
-    (right : Tallied o rp before stood c counts old) (have : HaveCounts o rp before stood c counts old) where
+    (kept : (j f n : ℕ) (s : S) → Has behind views j f s (forks n) → IsAside (place o rp s) q → (g : ℕ) × Has before old_views j g s (forks n) × (now j ≡ counts j))
+    (inside : (j f n : ℕ) (s : S) (r : List ℕ) (l : S) (ks : Nodes S) → Has behind views j f s (forks n) → place o rp s ≡ q ++ r → at r a ≡ Some (Forked l ks) → AreOf o c l ks (now j))
+    (right : Tallied o rp before old_views c counts old) (have : HaveCounts o rp before old_views c counts old) where
   is : new ≡ put q a old
   is = is_put q m a old new rep
 
@@ -100,7 +100,7 @@ module _ {S : Type 0} (o : Ops S) (rp : Path) (before behind : List S) (stood st
   in_place : (r : List ℕ) → at (q ++ r) new ≡ at r a
   in_place r = at_split q r new a rep.is
 
-  begun : OnTheWay o rp behind stands c now old new q
+  begun : OnTheWay o rp behind views c now old new q
   begun j f n s y l ks has w g = elim (aside_or_further q (place o rp s)) [
     | inr x ↦
         let d : is_above (place o rp s) q ≡ false = ap (λ z. is_above z q) x.1 ∙ not_above_below q x.0 in
@@ -117,7 +117,7 @@ module _ {S : Type 0} (o : Ops S) (rp : Path) (before behind : List S) (stood st
           let z = kept j f n s has far in
           right j z.0 n s y l ks z.1 (sym z.2 ∙ w) (sym (untouched q (place o rp s) m a old rep.was u far) ∙ (ap (at (place o rp s)) (sym is) ∙ (ap (λ d. at (place o rp s) (cond d old new)) (sym u) ∙ h)))
 
-  have_now : HaveCounts o rp behind stands c now new
+  have_now : HaveCounts o rp behind views c now new
   have_now j f n s l ks has g = elim (aside_or_further q (place o rp s)) [
     | inr x ↦ (inside j f n s x.0 l ks has x.1 (sym (in_place x.0) ∙ (ap (λ z. at z new) (sym x.1) ∙ g))).there
     | inl far ↦
@@ -127,7 +127,7 @@ module _ {S : Type 0} (o : Ops S) (rp : Path) (before behind : List S) (stood st
         ((λ some. w.2.0 (h.0 (λ e. some (z.2 ∙ e)))), (λ counted e. h.1 (w.2.1 counted) (sym z.2 ∙ e)))
   ]
 
-  pub both_begun : OnTheWay o rp behind stands c now old new q × HaveCounts o rp behind stands c now new
+  pub both_begun : OnTheWay o rp behind views c now old new q × HaveCounts o rp behind views c now new
   both_begun = (begun, have_now)
 
 module _ {S : Type 0} (o : Ops S) where
@@ -150,22 +150,22 @@ module _ {S : Type 0} (o : Ops S) where
       subst (λ z. AreOf o c u us (now z)) (sym w) (subst (λ z. AreOf o c z us (now i)) parts.0 (subst (λ z. AreOf o c p z (now i)) parts.1 mine))
 
   -- no fork stands where a process lives, or below
-  pub none_there : {B : Type 0} (rp : Path) (before : List S) (stood : List RecordView) (old : Node S) (l : S) (n j d : ℕ) (s : S) (r : List ℕ) → Agrees o rp before stood old → Has before stood j d s (forks n) → at (place o rp l) old ≡ Some (Live l) → place o rp s ≡ place o rp l ++ r → B
-  none_there rp before stood old l n j d s r ok has live e =
+  pub none_there : {B : Type 0} (rp : Path) (before : List S) (old_views : List RecordView) (old : Node S) (l : S) (n j d : ℕ) (s : S) (r : List ℕ) → Agrees o rp before old_views old → Has before old_views j d s (forks n) → at (place o rp l) old ≡ Some (Live l) → place o rp s ≡ place o rp l ++ r → B
+  none_there rp before old_views old l n j d s r ok has live e =
       let w = seen_fork (at (place o rp s) old) s n (ok.shown j d s (forks n) has) in
       leaf_no_fork r (Live l) s w.0 refl (sym (at_split (place o rp l) r old (Live l) live) ∙ (ap (λ z. at z old) (sym e) ∙ w.1))
 
   pub counts_begin : CountsBegin o
   counts_begin = record {
-    changed = λ rp before behind stood stands c old new m a i counts rep leaf given changed right have.
-        both_begun o rp before behind stood stands c old new m a (place o rp (state m)) counts counts rep given
+    changed = λ rp before behind old_views views c old new m a i counts rep leaf given changed right have.
+        both_begun o rp before behind old_views views c old new m a (place o rp (state m)) counts counts rep given
         (λ j f n s has far. elim (same_or_not j i) [
-          | inl w ↦ no_fork a n leaf (sym (one_sort behind stands j f changed.first s (state a) (forks n) (process_status a) has (subst (λ z. Has behind stands z changed.first (state a) (process_status a)) (sym w) changed.mine)))
+          | inl w ↦ no_fork a n leaf (sym (one_status behind views j f changed.first s (state a) (forks n) (process_status a) has (subst (λ z. Has behind views z changed.first (state a) (process_status a)) (sym w) changed.mine)))
           | inr w ↦ (f, changed.only j f s (forks n) w has, refl)
         ])
         (λ j f n s r l ks has e g. leaf_no_fork r a l ks leaf g) right have;
-    forked = λ rp before behind stood stands c old new i f g l p ks counts now ok has rep path given forked others mine right have.
-        both_begun o rp before behind stood stands c old new (Live l) (Forked p (all_live ks)) (place o rp l) counts now rep given
+    forked = λ rp before behind old_views views c old new i f g l p ks counts now ok has rep path given forked others mine right have.
+        both_begun o rp before behind old_views views c old new (Live l) (Forked p (all_live ks)) (place o rp l) counts now rep given
         (λ j d n s fork far. elim (forked.only j d s (forks n) fork) [
           | inl w ↦ absurd (far [] (ap (place o rp) w.1 ∙ (ap (λ z. branches (drop (length rp) z)) path ∙ sym (append-nil (place o rp l)))))
           | inr (inl w) ↦ lives_no_fork n (forks n) w.3 refl
@@ -175,11 +175,11 @@ module _ {S : Type 0} (o : Ops S) where
           | inl w ↦ mine_too c i j p u (all_live ks) us r now w.0 mine at_r
               (sym (is_here (place o rp l) r (ap (λ z. branches (drop (length rp) z)) (sym path) ∙ (ap (place o rp) (sym w.1) ∙ e))))
           | inr (inl w) ↦ lives_no_fork n (forks n) w.3 refl
-          | inr (inr w) ↦ none_there rp before stood old l n j d s r ok w.1 rep.was e
+          | inr (inr w) ↦ none_there rp before old_views old l n j d s r ok w.1 rep.was e
         ])
         right have;
-    closed = λ rp before behind stood stands c old new i g n l ks a counts now rep leaf given closed others right have.
-        both_begun o rp before behind stood stands c old new (Forked l ks) a (place o rp l) counts now rep given
+    closed = λ rp before behind old_views views c old new i g n l ks a counts now rep leaf given closed others right have.
+        both_begun o rp before behind old_views views c old new (Forked l ks) a (place o rp l) counts now rep given
         (λ j d m s fork far. elim (closed.only j d s (forks m) fork) [
           | inl w ↦ no_fork a m leaf (sym w.2)
           | inr w ↦ (d, w.2, others j w.0)

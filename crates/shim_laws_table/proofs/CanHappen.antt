@@ -1,4 +1,4 @@
--- What can happen is told by records and counts, and found at them.
+-- What can happen follows from records and counts, and is found at them.
 use Rattle.std.proofs.Common.{◌≡◌, ◌≢◌, ◌↔◌, ◌⊎◌, ◌<◌, ℕ, suc, ◌+◌, Bool, true, false, ◌&&◌, not, Option, Some, None, List, [], ◌∷◌, ◌++◌, cond, inl, inr, refl, sym, ap, subst, ◌∙◌, arith, if◌then◌else◌}
 use Rattle.shim_base.specs.Paths.{Path, Channel, same_path}
 use Rattle.shim_local.specs.Process.{Ops, StopView, AtQuiet, AtNext, AtPut, AtFork, AtFinish, AtThrow, AtTrap}
@@ -11,11 +11,11 @@ use Rattle.shim_semantics.specs.Trees.{Tree, Event, Own, Meet, Poison, Close, En
 use Rattle.shim_semantics.proofs.Alone.{doer, does, IsAlone}
 use Rattle.shim_semantics.proofs.Routes.{route_of}
 use Rattle.shim_semantics.proofs.PoisonsListed.{fork_and_last, at_child as child_there, poisons_at, poison_of, route_poisons}
-use Rattle.shim_laws_schedules.proofs.Opened.{opened, its_path, its_kind, shut}
+use Rattle.shim_laws_schedules.proofs.EventParts.{split_event, its_path, its_kind, join_event}
 use Rattle.shim_laws_schedules.proofs.PoisonDiamond.{nodes_changed_some}
 use Rattle.shim_base.proofs.Facts.{some_same, none_some, first_holds, second_holds, both_hold, cond_some, cond_there, not_false, false_not}
 use Rattle.shim_base.proofs.SamePaths.{same_path_is, same_path_refl}
-use Rattle.shim_laws_table.specs.Seen.{ProcessStatus, lives, forks, process_status, place, how_many_nodes}
+use Rattle.shim_laws_table.specs.NodeStatus.{ProcessStatus, lives, forks, process_status, place, how_many_nodes}
 use Rattle.shim_laws_table.specs.Agrees.{RecordView, Has, Represents}
 use Rattle.shim_laws_table.specs.Counts.{running_of, tally_ready}
 use Rattle.shim_laws_table.specs.Dooms.{min_dead_label_among, is_below}
@@ -77,7 +77,7 @@ module _ {S : Type 0} (o : Ops S) where
   live_acts l Closes (AtNext c) e = absurd cc
   live_acts l Nothing (AtNext c) e = absurd cc
 
-  module _ (rp : Path) (records : List S) (stands : List RecordView) (t : Tree S) (s : Represents o rp records stands t.root) where
+  module _ (rp : Path) (records : List S) (views : List RecordView) (t : Tree S) (s : Represents o rp records views t.root) where
     module _ (l : S) (m : Node S) (there : at (place o rp l) t.root ≡ Some m) (is : state m ≡ l) where
       led : route (o.path (state t.root)) (o.path l) ≡ Some (place o rp l)
       led = route_of o t.root m (place o rp l) (o.path l) s.sound.below there (ap o.path is)
@@ -86,14 +86,14 @@ module _ {S : Type 0} (o : Ops S) where
       alone_kind : (e : Event) → IsAlone e → doer e ≡ o.path l → Can o t e → same_own_action (does e) (own_action_of o m) ≡ true
       alone_kind e d its can =
           let u = there_is (after o e t) can in
-          let x = opened o e t u.0 d u.1 in
+          let x = split_event o e t u.0 d u.1 in
           let place_is : x.place ≡ place o rp l = some_same x.place (place o rp l) (sym x.route_is ∙ (ap (route (o.path (state t.root))) its ∙ led)) in
           let same : x.old ≡ m = some_same x.old m (sym x.there ∙ (ap (λ z. at z t.root) place_is ∙ there)) in
           ap (λ z. same_own_action (does e) (own_action_of o z)) (sym same) ∙ its_kind o e t u.0 x
 
       alone_can : (e : Event) (a : Acted S) → IsAlone e → doer e ≡ o.path l → same_own_action (does e) (own_action_of o m) ≡ true → act_here o m ≡ Some a → Can o t e
       alone_can e a d its kind acts =
-          not_none (after o e t) _ (shut o e t (place o rp l) m a d (ap (route (o.path (state t.root))) its ∙ led) there
+          not_none (after o e t) _ (join_event o e t (place o rp l) m a d (ap (route (o.path (state t.root))) its ∙ led) there
           (both_hold (same_path (o.path (state m)) (doer e)) (same_own_action (does e) (own_action_of o m)) (ap (λ z. same_path z (doer e)) (ap o.path is ∙ sym its) ∙ same_path_refl (doer e)) kind) acts)
 
       -- the meeting of a channel that it declared
@@ -109,17 +109,17 @@ module _ {S : Type 0} (o : Ops S) where
             (λ r. not_none (after o (Meet c) t) u (ap (λ b. cond b (Some u) None) (meets_is c home ∙ r))),
           )
 
-    live_there : (i f : ℕ) (l : S) → Has records stands i f l lives → at (place o rp l) t.root ≡ Some (Live l)
+    live_there : (i f : ℕ) (l : S) → Has records views i f l lives → at (place o rp l) t.root ≡ Some (Live l)
     live_there i f l has = seen_live (at (place o rp l) t.root) l (s.agrees.shown i f l lives has)
 
-    steps : (i f : ℕ) (l : S) → Has records stands i f l lives → Can o t (Own (o.path l)) ↔ (own_action_at (o.stop l) ≡ Steps)
+    steps : (i f : ℕ) (l : S) → Has records views i f l lives → Can o t (Own (o.path l)) ↔ (own_action_at (o.stop l) ≡ Steps)
     steps i f l has = (
       (λ can. steps_is (own_action_at (o.stop l)) (alone_kind l (Live l) (live_there i f l has) refl (Own (o.path l)) (λ z. cc) refl can)),
       (λ e. let k : same_own_action Steps (own_action_at (o.stop l)) ≡ true = ap (same_own_action Steps) e in let a = live_acts l Steps (o.stop l) k in
           alone_can l (Live l) (live_there i f l has) refl (Own (o.path l)) a.0 (λ z. cc) refl k a.1),
     )
 
-    ends : (i f : ℕ) (l : S) → Has records stands i f l lives → Can o t (End (o.path l)) ↔ (own_action_at (o.stop l) ≡ Ends)
+    ends : (i f : ℕ) (l : S) → Has records views i f l lives → Can o t (End (o.path l)) ↔ (own_action_at (o.stop l) ≡ Ends)
     ends i f l has = (
       (λ can. ends_is (own_action_at (o.stop l)) (alone_kind l (Live l) (live_there i f l has) refl (End (o.path l)) (λ z. cc) refl can)),
       (λ e. let k : same_own_action Ends (own_action_at (o.stop l)) ≡ true = ap (same_own_action Ends) e in let a = live_acts l Ends (o.stop l) k in
@@ -132,7 +132,7 @@ module _ {S : Type 0} (o : Ops S) where
         forth : Can o t (Close (o.path l)) → running_of ks ≡ 0
         forth can =
             let u = there_is (after o (Close (o.path l)) t) can in
-            let x = opened o (Close (o.path l)) t u.0 (λ z. cc) u.1 in
+            let x = split_event o (Close (o.path l)) t u.0 (λ z. cc) u.1 in
             let place_is : x.place ≡ place o rp l = some_same x.place (place o rp l) (sym x.route_is ∙ led l (Forked l ks) there refl) in
             let same : x.old ≡ Forked l ks = some_same x.old (Forked l ks) (sym x.there ∙ (ap (λ z. at z t.root) place_is ∙ there)) in
             none_goes ks (cond_some (all_done ks) (closed o l (states ks) (prevailing_death ks)) x.new (ap (act_here o) (sym same) ∙ x.here)).0
@@ -149,10 +149,10 @@ module _ {S : Type 0} (o : Ops S) where
         let at_its : has_path o p (led_to o t.root p) ≡ true = ap (λ z. has_path o p (at_route t.root z)) led ∙ (ap (has_path o p) there ∙ (ap (λ z. same_path z p) its ∙ same_path_refl p)) in
         ap (λ z. cond z (poison_route o c t.root (route (o.path (state t.root)) p)) None) at_its ∙ (ap (poison_route o c t.root) led ∙ (route_poisons o c b t.root q ∙ e))
 
-    module _ (law : LocalLaws o) (c : Channel) (i g n b f : ℕ) (l k : S) (x : ProcessStatus) (ks : Nodes S) (m : Node S) (fork : Has records stands i g l (forks n)) (child : Has records stands (g + b) f k x) (less : b < n)
+    module _ (law : LocalLaws o) (c : Channel) (i g n b f : ℕ) (l k : S) (x : ProcessStatus) (ks : Nodes S) (m : Node S) (fork : Has records views i g l (forks n)) (child : Has records views (g + b) f k x) (less : b < n)
         (there : at (place o rp l) t.root ≡ Some (Forked l ks)) (is_child : child_at b [] ks ≡ Some m) where
       child_place : place o rp k ≡ place o rp l ++ b ∷ []
-      child_place = let z = s.agrees.below i g n l fork b less in ap (place o rp) (one_state records stands (g + b) f z.0 k z.1 x z.2 child z.3) ∙ z.4
+      child_place = let z = s.agrees.below i g n l fork b less in ap (place o rp) (one_state records views (g + b) f z.0 k z.1 x z.2 child z.3) ∙ z.4
 
       at_m : at (place o rp l ++ b ∷ []) t.root ≡ Some m
       at_m = child_there (place o rp l) b t.root l ks there ∙ is_child
@@ -194,17 +194,17 @@ module _ {S : Type 0} (o : Ops S) where
     record Found (q : List ℕ) (m : Node S) : Type 0 where
       pub number : ℕ
       pub first : ℕ
-      pub has : Has records stands number first (state m) (process_status m)
+      pub has : Has records views number first (state m) (process_status m)
       pub placed : place o rp (state m) ≡ q
 
     found : (q : List ℕ) (m : Node S) → at q t.root ≡ Some m → Found q m
     found q m e =
-        let c = covered o rp records stands s.rooted t.root s.agrees q m e in
+        let c = covered o rp records views s.rooted t.root s.agrees q m e in
         let same = some_same (c.state_is, c.status_is) (state m, process_status m) c.is_seen in
         record {
           number = c.number;
           first = c.first;
-          has = subst (λ z. Has records stands c.number c.first (state m) z) (ap (λ z. z.1) same) (subst (λ z. Has records stands c.number c.first z c.status_is) (ap (λ z. z.0) same) c.has);
+          has = subst (λ z. Has records views c.number c.first (state m) z) (ap (λ z. z.1) same) (subst (λ z. Has records views c.number c.first z c.status_is) (ap (λ z. z.0) same) c.has);
           placed = ap (place o rp) (sym (ap (λ z. z.0) same)) ∙ c.is_there;
         }
 
@@ -247,23 +247,23 @@ module _ {S : Type 0} (o : Ops S) where
         on None w h = absurd cc
         on (Some m) w h = (q, m, w, same_path_is (o.path (state m)) c.home (first_holds (same_path (o.path (state m)) c.home) (ready o c m) h), second_holds (same_path (o.path (state m)) c.home) (ready o c m) h)
 
-    found_at : (e : Event) → Can o t e → (i : ℕ) × IsAt o records stands e i
+    found_at : (e : Event) → Can o t e → (i : ℕ) × IsAt o records views e i
     found_at (Own p) can =
         let u = there_is (after o (Own p) t) can in
-        let x = opened o (Own p) t u.0 (λ z. cc) u.1 in
+        let x = split_event o (Own p) t u.0 (λ z. cc) u.1 in
         let w = found x.place x.old x.there in
-        (w.number, at_step w.number w.first (state x.old) p (subst (Has records stands w.number w.first (state x.old)) (live_of x.old (inl (steps_is (own_action_of o x.old) (its_kind o (Own p) t u.0 x)))) w.has) (its_path o (Own p) t u.0 x))
+        (w.number, at_step w.number w.first (state x.old) p (subst (Has records views w.number w.first (state x.old)) (live_of x.old (inl (steps_is (own_action_of o x.old) (its_kind o (Own p) t u.0 x)))) w.has) (its_path o (Own p) t u.0 x))
     found_at (End p) can =
         let u = there_is (after o (End p) t) can in
-        let x = opened o (End p) t u.0 (λ z. cc) u.1 in
+        let x = split_event o (End p) t u.0 (λ z. cc) u.1 in
         let w = found x.place x.old x.there in
-        (w.number, at_end w.number w.first (state x.old) p (subst (Has records stands w.number w.first (state x.old)) (live_of x.old (inr (ends_is (own_action_of o x.old) (its_kind o (End p) t u.0 x)))) w.has) (its_path o (End p) t u.0 x))
+        (w.number, at_end w.number w.first (state x.old) p (subst (Has records views w.number w.first (state x.old)) (live_of x.old (inr (ends_is (own_action_of o x.old) (its_kind o (End p) t u.0 x)))) w.has) (its_path o (End p) t u.0 x))
     found_at (Close p) can =
         let u = there_is (after o (Close p) t) can in
-        let x = opened o (Close p) t u.0 (λ z. cc) u.1 in
+        let x = split_event o (Close p) t u.0 (λ z. cc) u.1 in
         let w = found x.place x.old x.there in
         let n = fork_of x.old (its_kind o (Close p) t u.0 x) in
-        (w.number, at_close w.number w.first n.0 (state x.old) p (subst (Has records stands w.number w.first (state x.old)) n.1 w.has) (its_path o (Close p) t u.0 x))
+        (w.number, at_close w.number w.first n.0 (state x.old) p (subst (Has records views w.number w.first (state x.old)) n.1 w.has) (its_path o (Close p) t u.0 x))
     found_at (Meet c) can =
         let y = ready_home c (route (o.path (state t.root)) c.home) (cond_there (meets o c t.root) (Some (met o c (value_of o c (source o c t.root)) t)) can).0 in
         let w = found y.0 y.1 y.2 in
@@ -284,33 +284,33 @@ module _ {S : Type 0} (o : Ops S) where
 
   pub enabled_by_records : LocalLaws o → EnabledByRecords o
   enabled_by_records law = record {
-    steps = λ rp records stands t i f l s has. steps rp records stands t s i f l has;
-    ends = λ rp records stands t i f l s has. ends rp records stands t s i f l has;
-    closes = λ rp records stands t i f n l ks s has there. closes rp records stands t s l ks there;
-    meets_alone = λ rp records stands t c i f l s has home. meet_can rp records stands t s l (Live l) (live_there rp records stands t s i f l has) refl c home;
-    meets_forked = λ rp records stands t c i f n l ks s has home there.
-        let w = meet_can rp records stands t s l (Forked l ks) there refl c home in
+    steps = λ rp records views t i f l s has. steps rp records views t s i f l has;
+    ends = λ rp records views t i f l s has. ends rp records views t s i f l has;
+    closes = λ rp records views t i f n l ks s has there. closes rp records views t s l ks there;
+    meets_alone = λ rp records views t c i f l s has home. meet_can rp records views t s l (Live l) (live_there rp records views t s i f l has) refl c home;
+    meets_forked = λ rp records views t c i f n l ks s has home there.
+        let w = meet_can rp records views t s l (Forked l ks) there refl c home in
         ((λ can. sym (by_counts o c l ks) ∙ w.0 can), (λ e. w.1 (by_counts o c l ks ∙ e)));
-    poisons = λ rp records stands t c i g n b f l k x ks m s fork child less there is_child. poison_can rp records stands t s law c i g n b f l k x ks m fork child less there is_child;
+    poisons = λ rp records views t c i g n b f l k x ks m s fork child less there is_child. poison_can rp records views t s law c i g n b f l k x ks m fork child less there is_child;
   }
 
   pub enabled_are_found : EnabledAreFound o
-  enabled_are_found rp records stands t e s can = found_at rp records stands t s e can
+  enabled_are_found rp records views t e s can = found_at rp records views t s e can
 
   pub nothing_new : LocalLaws o → NothingNew o
   nothing_new law =
       let by = enabled_by_records law in record {
-        steps = λ rp before behind stood stands t u i f g l s r old new. (
-          (λ can. (by.steps rp before stood t i f l s old).1 ((by.steps rp behind stands u i g l r new).0 can)),
-          (λ can. (by.ends rp before stood t i f l s old).1 ((by.ends rp behind stands u i g l r new).0 can)),
+        steps = λ rp before behind old_views views t u i f g l s r old new. (
+          (λ can. (by.steps rp before old_views t i f l s old).1 ((by.steps rp behind views u i g l r new).0 can)),
+          (λ can. (by.ends rp before old_views t i f l s old).1 ((by.ends rp behind views u i g l r new).0 can)),
         );
-        closes = λ rp before behind stood stands t u i f g n l ks js s r old new there here same can.
-            (by.closes rp before stood t i f n l ks s old there).1 (sym same ∙ (by.closes rp behind stands u i g n l js r new here).0 can);
-        meets_alone = λ rp before behind stood stands t u c i f g l s r old new home can.
-            (by.meets_alone rp before stood t c i f l s old home).1 ((by.meets_alone rp behind stands u c i g l r new home).0 can);
-        meets_forked = λ rp before behind stood stands t u c i f g n l ks js s r old new home there here same can.
-            (by.meets_forked rp before stood t c i f n l ks s old home there).1 (ap tally_ready (sym same) ∙ (by.meets_forked rp behind stands u c i g n l js r new home here).0 can);
-        poisons = λ rp before behind stood stands t u c i d g n b f h l j k x y ks js m a s r old new less child kid path there here is_m is_a ready_on label can.
-            let w = (by.poisons rp behind stands u c i g n b h l k y js a r new kid less here is_a).0 can in
-            (by.poisons rp before stood t c i d n b f l j x ks m s old child less there is_m).1 (w.0, sym ready_on ∙ w.1, ap (λ z. is_below z (o.handlers l)) (sym label) ∙ w.2);
+        closes = λ rp before behind old_views views t u i f g n l ks js s r old new there here same can.
+            (by.closes rp before old_views t i f n l ks s old there).1 (sym same ∙ (by.closes rp behind views u i g n l js r new here).0 can);
+        meets_alone = λ rp before behind old_views views t u c i f g l s r old new home can.
+            (by.meets_alone rp before old_views t c i f l s old home).1 ((by.meets_alone rp behind views u c i g l r new home).0 can);
+        meets_forked = λ rp before behind old_views views t u c i f g n l ks js s r old new home there here same can.
+            (by.meets_forked rp before old_views t c i f n l ks s old home there).1 (ap tally_ready (sym same) ∙ (by.meets_forked rp behind views u c i g n l js r new home here).0 can);
+        poisons = λ rp before behind old_views views t u c i d g n b f h l j k x y ks js m a s r old new less child kid path there here is_m is_a ready_on label can.
+            let w = (by.poisons rp behind views u c i g n b h l k y js a r new kid less here is_a).0 can in
+            (by.poisons rp before old_views t c i d n b f l j x ks m s old child less there is_m).1 (w.0, sym ready_on ∙ w.1, ap (λ z. is_below z (o.handlers l)) (sym label) ∙ w.2);
       }

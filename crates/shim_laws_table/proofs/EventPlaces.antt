@@ -13,11 +13,11 @@ use Rattle.shim_semantics.proofs.ReplacedNodes.{put}
 use Rattle.shim_semantics.proofs.PoisonsListed.{fork_and_last, at_child, PoisonsAt, poisons_at}
 use Rattle.shim_semantics.proofs.MeetStays.{meeting_stays}
 use Rattle.shim_semantics.proofs.PoisonStays.{poison_stays}
-use Rattle.shim_laws_schedules.proofs.Opened.{root_path, opened, its_path}
+use Rattle.shim_laws_schedules.proofs.EventParts.{root_path, split_event, its_path}
 use Rattle.shim_laws_schedules.proofs.PoisonDiamond.{nodes_changed_some, HasPoisoned as Poisoned}
 use Rattle.shim_base.proofs.Facts.{none_some, chosen, cond_some}
 use Rattle.shim_base.proofs.SamePaths.{same_path_is}
-use Rattle.shim_laws_table.specs.Seen.{seen}
+use Rattle.shim_laws_table.specs.NodeStatus.{seen}
 use Rattle.shim_laws_table.specs.Places.{IsReplaced, IsBy, HasActed, HasPoisoned, seen_killed, EventsShow}
 use Rattle.shim_laws_table.proofs.Aside.{there, outside, at_split}
 use Rattle.shim_laws_table.proofs.SameTrees.{put_replaces}
@@ -35,7 +35,7 @@ module _ {S : Type 0} (o : Ops S) where
   acted : (t u : Tree S) (p : Path) (e : Event) → IsBy p e → after o e t ≡ Some u → HasActed o p t.root u.root
   acted t u p e by h =
       let w = by_is_alone p e by in
-      let x = opened o e t u w.0 h in record {
+      let x = split_event o e t u w.0 h in record {
         place = x.place;
         node = x.old;
         acted = x.new;
@@ -114,7 +114,7 @@ module _ {S : Type 0} (o : Ops S) where
   module _ (law : LocalLaws o) where
     alone_path : (t u : Tree S) (e : Event) → IsSoundTree o t → IsAlone e → after o e t ≡ Some u → o.path (state u.root) ≡ o.path (state t.root)
     alone_path t u e s d h =
-        let x = opened o e t u d h in
+        let x = split_event o e t u d h in
         ap (λ (z : Tree S). o.path (state z.root)) (sym x.is) ∙ root_path o law x.place t.root x.old x.new s.below x.there x.here
 
     pub path_stays : (t u : Tree S) (e : Event) → IsSoundTree o t → after o e t ≡ Some u → o.path (state u.root) ≡ o.path (state t.root)

@@ -14,14 +14,14 @@ use Rattle.shim_semantics.proofs.Replaced.{sound_at}
 use Rattle.shim_semantics.proofs.Routes.{at_path}
 use Rattle.shim_base.proofs.Facts.{some_same, none_some}
 use Rattle.shim_base.proofs.SamePaths.{same_path_is, same_path_refl}
-use Rattle.shim_laws_table.specs.Seen.{ProcessStatus, forks, place, how_many_nodes}
+use Rattle.shim_laws_table.specs.NodeStatus.{ProcessStatus, forks, place, how_many_nodes}
 use Rattle.shim_laws_table.specs.Agrees.{RecordView, Has, Represents}
 use Rattle.shim_laws_table.specs.Counts.{Tally}
 use Rattle.shim_laws_table.specs.Tallied.{is_above, HaveCounts}
 use Rattle.shim_laws_table.specs.Updating.{AreLinked}
 use Rattle.shim_laws_table.proofs.SameTrees.{seen_some, seen_fork, child_counted}
 use Rattle.shim_laws_table.proofs.OneTree.{covered}
-use Rattle.shim_laws_table.proofs.Way.{way_from, fork_above}
+use Rattle.shim_laws_table.proofs.PlacesAbove.{way_from, fork_above}
 
 -- branches are none, or some and a last one
 pub ends_of : (p : List ℕ) → (p ≡ []) ⊎ ((r : List ℕ) × (b : ℕ) × (p ≡ r ++ b ∷ []))
@@ -40,7 +40,7 @@ shorter a b d e q m t v w e1 e2 e3 e4 e5 = omega (arith, e1, e2, e3, e4, e5)
 
 module _ {S : Type 0} (o : Ops S) where
   mutual
-    -- who shares a channel stands at its home or below
+    -- who shares a channel is at its home or below
     pub home_above : (c : Channel) (q : List ℕ) (n m : Node S) → SoundBelow o n → (o.shares (state n) c ≡ true → (r : Path) × (o.path (state n) ≡ c.home ++ r)) → at q n ≡ Some m → o.shares (state m) c ≡ true → (r : Path) × (o.path (state m) ≡ c.home ++ r)
     home_above c [] n m s own e h = let same = some_same n m e in let w = own (ap (λ z. o.shares (state z) c) same ∙ h) in (w.0, ap (λ z. o.path (state z)) (sym same) ∙ w.1)
     home_above c (i ∷ q) (Live l) m s own e h = none_some m e
@@ -69,7 +69,7 @@ module _ {S : Type 0} (o : Ops S) where
   given_child zero (node_and j ks) k c e h = inl (subst (λ z. IsGiven o (state z) c) (sym (some_same j k e)) h)
   given_child (suc i) (node_and j ks) k c e h = inr (given_child i ks k c e h)
 
-  -- the tree of a root, of which nothing was told
+  -- the tree of a root, without output and logs
   abbrev pub tree_of : Node S → Tree S
   tree_of n = record { root = n; output = []; histories = map.empty; logs = map.empty; counts = map.empty; events = 0 }
 
@@ -78,25 +78,25 @@ module _ {S : Type 0} (o : Ops S) where
   given_place law root [] b k c s e far shares = (children_share_given o law (tree_of root) s b [] k c e far).0 shares
   given_place law root (i ∷ q) b k c s e far shares = (children_share_given o law (tree_of root) s i (q ++ b ∷ []) k c e far).0 shares
 
-  module _ (rp : Path) (records : List S) (stands : List RecordView) (root : Node S) (s : Represents o rp records stands root) where
+  module _ (rp : Path) (records : List S) (views : List RecordView) (root : Node S) (s : Represents o rp records views root) where
     -- the node of a record
     pub record Node_of (i f : ℕ) (l : S) (k : ProcessStatus) : Type 0 where
       pub node : Node S
       pub there : at (place o rp l) root ≡ Some node
       pub state_is : state node ≡ l
 
-    pub node_of : (i f : ℕ) (l : S) (k : ProcessStatus) → Has records stands i f l k → Node_of i f l k
+    pub node_of : (i f : ℕ) (l : S) (k : ProcessStatus) → Has records views i f l k → Node_of i f l k
     node_of i f l k has = let w = seen_some (at (place o rp l) root) l k (s.agrees.shown i f l k has) in record { node = w.0; there = w.1; state_is = w.2 }
 
     -- its path is as long as the root's and its place
-    long : (i f : ℕ) (l : S) (k : ProcessStatus) → Has records stands i f l k → length (o.path l) ≡ length rp + length (place o rp l)
+    long : (i f : ℕ) (l : S) (k : ProcessStatus) → Has records views i f l k → length (o.path l) ≡ length rp + length (place o rp l)
     long i f l k has =
         let w = node_of i f l k has in
         let p = at_path o root w.node (place o rp l) s.sound.below w.there in
         ap (λ z. length (o.path z)) (sym w.state_is) ∙ (ap length p.1 ∙ (length-append (o.path (state root)) p.0 ∙ ((λ j. length (o.path (state root)) + sym (same_lengths p.0) j) ∙ (λ j. length (s.root_path j) + length (p.2 j)))))
 
     -- no fork above a process shares a channel that was declared there or below
-    pub none_above : (c : Channel) (x f i g n : ℕ) (l u : S) (k : ProcessStatus) (r : Path) → Has records stands x f l k → c.home ≡ o.path l ++ r → Has records stands i g u (forks n) → is_above (place o rp u) (place o rp l) ≡ true → o.shares u c ≡ true → ⊥
+    pub none_above : (c : Channel) (x f i g n : ℕ) (l u : S) (k : ProcessStatus) (r : Path) → Has records views x f l k → c.home ≡ o.path l ++ r → Has records views i g u (forks n) → is_above (place o rp u) (place o rp l) ≡ true → o.shares u c ≡ true → ⊥
     none_above c x f i g n l u k r has home fork above shared =
         let w = node_of i g u (forks n) fork in
         let h = home_above c (place o rp u) root w.node s.sound.below (λ y. ([], sym (s.sound.own c y) ∙ sym (append-nil c.home))) w.there (ap (λ z. o.shares z c) w.state_is ∙ shared) in
@@ -108,24 +108,24 @@ module _ {S : Type 0} (o : Ops S) where
     -- ---- parents
 
     -- what is known of a record that has a parent
-    pub record Below (x f : ℕ) (l : S) (k : ProcessStatus) : Type 0 where
+    pub record HasParent (x f : ℕ) (l : S) (k : ProcessStatus) : Type 0 where
       pub number : ℕ
       pub first : ℕ
       pub many : ℕ
       pub parent : S
       pub branch : ℕ
-      pub has : Has records stands number first parent (forks many)
+      pub has : Has records views number first parent (forks many)
       pub is : place o rp l ≡ place o rp parent ++ branch ∷ []
       pub within : branch < many
       pub mine : x ≡ first + branch
 
-    below_of : (x f : ℕ) (l : S) (k : ProcessStatus) → Has records stands x f l k → (r : List ℕ) (b : ℕ) → place o rp l ≡ r ++ b ∷ [] → Below x f l k
+    below_of : (x f : ℕ) (l : S) (k : ProcessStatus) → Has records views x f l k → (r : List ℕ) (b : ℕ) → place o rp l ≡ r ++ b ∷ [] → HasParent x f l k
     below_of x f l k has r b e =
         let w = node_of x f l k has in
         let v = fork_above r b [] root w.node (ap (λ z. at z root) (sym e) ∙ w.there) in
-        let c = covered o rp records stands s.rooted root s.agrees r (Forked v.state v.children) v.there in
+        let c = covered o rp records views s.rooted root s.agrees r (Forked v.state v.children) v.there in
         let is : c.status_is ≡ forks (how_many_nodes v.children) = ap (λ z. z.1) (some_same (c.state_is, c.status_is) (v.state, forks (how_many_nodes v.children)) c.is_seen) in
-        let fork = subst (Has records stands c.number c.first c.state_is) is c.has in
+        let fork = subst (Has records views c.number c.first c.state_is) is c.has in
         let less = child_counted b [] v.children w.node v.child in
         let z = s.agrees.below c.number c.first (how_many_nodes v.children) c.state_is fork b less in
         let place_is : place o rp l ≡ place o rp c.state_is ++ b ∷ [] = e ∙ ap (λ z. z ++ b ∷ []) (sym c.is_there) in
@@ -141,9 +141,9 @@ module _ {S : Type 0} (o : Ops S) where
           mine = s.agrees.apart x (c.first + b) f z.0 l z.1 k z.2 has z.3 (place_is ∙ sym z.4);
         }
 
-    module _ (up : ℕ → Option ℕ) (linked : AreLinked records stands up) where
+    module _ (up : ℕ → Option ℕ) (linked : AreLinked records views up) where
       -- a record has the parent that it knows
-      pub tied : (x f j : ℕ) (l : S) (k : ProcessStatus) → Has records stands x f l k → up x ≡ Some j → (b : Below x f l k) × (b.number ≡ j)
+      pub tied : (x f j : ℕ) (l : S) (k : ProcessStatus) → Has records views x f l k → up x ≡ Some j → (b : HasParent x f l k) × (b.number ≡ j)
       tied x f j l k has e = elim (ends_of (place o rp l)) [
         | inl w ↦
             let is_root : x ≡ 0 = s.agrees.apart x 0 f s.rooted.first l s.rooted.state k s.rooted.status has s.rooted.has (w ∙ sym s.rooted.at_root) in
@@ -154,7 +154,7 @@ module _ {S : Type 0} (o : Ops S) where
       ]
 
       -- and one that knows none is the root's
-      pub topmost : (x f : ℕ) (l : S) (k : ProcessStatus) → Has records stands x f l k → up x ≡ None → place o rp l ≡ []
+      pub topmost : (x f : ℕ) (l : S) (k : ProcessStatus) → Has records views x f l k → up x ≡ None → place o rp l ≡ []
       topmost x f l k has e = elim (ends_of (place o rp l)) [
         | inl w ↦ w
         | inr w ↦
@@ -164,15 +164,15 @@ module _ {S : Type 0} (o : Ops S) where
 
     -- ---- who counts a channel
 
-    module _ (c : Channel) (counts : ℕ → Option Tally) (have : HaveCounts o rp records stands c counts root) where
+    module _ (c : Channel) (counts : ℕ → Option Tally) (have : HaveCounts o rp records views c counts root) where
       -- a fork that has counts for a channel shares it
-      pub counts_share : (i f n : ℕ) (l : S) (y : Tally) → Has records stands i f l (forks n) → counts i ≡ Some y → o.shares l c ≡ true
+      pub counts_share : (i f n : ℕ) (l : S) (y : Tally) → Has records views i f l (forks n) → counts i ≡ Some y → o.shares l c ≡ true
       counts_share i f n l y has e =
           let w = seen_fork (at (place o rp l) root) l n (s.agrees.shown i f l (forks n) has) in
           ((have i f n l l w.0 has w.1).0 (λ z. none_some y (sym z ∙ e))).0
 
       -- where a child shares a channel for which its fork has no counts, it has declared it
-      pub declared : LocalLaws o → (x f : ℕ) (l : S) (k : ProcessStatus) → Has records stands x f l k → o.shares l c ≡ true → (b : Below x f l k) → counts b.number ≡ None → c.home ≡ o.path l
+      pub declared : LocalLaws o → (x f : ℕ) (l : S) (k : ProcessStatus) → Has records views x f l k → o.shares l c ≡ true → (b : HasParent x f l k) → counts b.number ≡ None → c.home ≡ o.path l
       declared law x f l k has shared b without = on (same_path c.home (o.path l)) refl
         where
           on : (t : Bool) → same_path c.home (o.path l) ≡ t → c.home ≡ o.path l

@@ -18,7 +18,7 @@ pub mod OneChange
 pub mod OneTree
 pub mod Poisoning
 pub mod Readiness
-pub mod Recounts
+pub mod Recomputes
 pub mod SameTrees
 pub mod Shown
 pub mod Singles
@@ -26,6 +26,6 @@ pub mod LabelsLowering
 pub mod Sources
 pub mod Suffices
 pub mod Tallies
-pub mod Tells
-pub mod Way
+pub mod EventEffects
+pub mod PlacesAbove
 pub mod RepresentedTree

@@ -6,15 +6,15 @@ use Rattle.shim_semantics.specs.Nodes.{Node, Nodes, Live, Forked, Ended, Dead, n
 use Rattle.shim_semantics.specs.Places.{at, child_at}
 use Rattle.shim_semantics.proofs.ReplacedNodes.{put, put_child}
 use Rattle.shim_base.proofs.Facts.{some_same}
-use Rattle.shim_laws_table.specs.Seen.{ProcessStatus, forks, process_status}
+use Rattle.shim_laws_table.specs.NodeStatus.{ProcessStatus, forks, process_status}
 use Rattle.shim_laws_table.specs.Agrees.{RecordView, free, used, Has}
 use Rattle.shim_laws_table.specs.Places.{IsReplaced}
 use Rattle.shim_laws_table.specs.Counts.{bit, running_of}
 use Rattle.shim_laws_table.specs.Links.{LinksFollow, RunningFollow}
 use Rattle.shim_laws_table.proofs.SameTrees.{same_or_not, is_put, no_fork, fork_count}
-use Rattle.shim_laws_table.proofs.OneChange.{one_sort}
+use Rattle.shim_laws_table.proofs.OneChange.{one_status}
 use Rattle.shim_laws_table.proofs.Tallies.{count_changed}
-use Rattle.shim_laws_table.proofs.Way.{with_split, fork_above}
+use Rattle.shim_laws_table.proofs.PlacesAbove.{with_split, fork_above}
 use Rattle.shim_laws_table.proofs.Begun.{fork_parts, lives_no_fork}
 
 -- which number the first child has
@@ -22,30 +22,30 @@ abbrev first_of : ℕ → RecordView → ℕ
 first_of d free = d
 first_of d (used f k) = f
 
-one_first : {S : Type 0} (states : List S) (stands : List RecordView) (i f g : ℕ) (s t : S) (k h : ProcessStatus) → Has states stands i f s k → Has states stands i g t h → f ≡ g
-one_first states stands i f g s t k h a b = ap (first_of f) (some_same (used f k) (used g h) (sym a.stands_so ∙ b.stands_so))
+one_first : {S : Type 0} (states : List S) (views : List RecordView) (i f g : ℕ) (s t : S) (k h : ProcessStatus) → Has states views i f s k → Has states views i g t h → f ≡ g
+one_first states views i f g s t k h a b = ap (first_of f) (some_same (used f k) (used g h) (sym a.view_is ∙ b.view_is))
 
 module _ {S : Type 0} (o : Ops S) where
   pub links_follow : LinksFollow o
   links_follow = record {
-    changed = λ before behind stood stands i a up leaf changed linked. record {
+    changed = λ before behind old_views views i a up leaf changed linked. record {
       parents = λ j d n s has b less. elim (same_or_not j i) [
-        | inl w ↦ no_fork a n leaf (sym (one_sort behind stands j d changed.first s (state a) (forks n) (process_status a) has (subst (λ z. Has behind stands z changed.first (state a) (process_status a)) (sym w) changed.mine)))
+        | inl w ↦ no_fork a n leaf (sym (one_status behind views j d changed.first s (state a) (forks n) (process_status a) has (subst (λ z. Has behind views z changed.first (state a) (process_status a)) (sym w) changed.mine)))
         | inr w ↦ linked.parents j d n s (changed.only j d s (forks n) w has) b less
       ];
       top = linked.top;
     };
-    closed = λ before behind stood stands i g n a up leaf closed linked. record {
+    closed = λ before behind old_views views i g n a up leaf closed linked. record {
       parents = λ j d m s has b less. elim (closed.only j d s (forks m) has) [
         | inl w ↦ no_fork a m leaf (sym w.2)
         | inr w ↦ linked.parents j d m s w.2 b less
       ];
       top = linked.top;
     };
-    forked = λ rp before behind stood stands root i f g l p ks up now shown has forked born stay linked. record {
+    forked = λ rp before behind old_views views root i f g l p ks up now shown has forked born stay linked. record {
       parents = λ j d n s fork b less. elim (forked.only j d s (forks n) fork) [
         | inl w ↦
-            let first : d ≡ g = one_first behind stands j d g s p (forks n) (forks (length ks)) fork (subst (λ z. Has behind stands z g p (forks (length ks))) (sym w.0) forked.parent) in
+            let first : d ≡ g = one_first behind views j d g s p (forks n) (forks (length ks)) fork (subst (λ z. Has behind views z g p (forks (length ks))) (sym w.0) forked.parent) in
             (λ t. now (first t + b)) ∙ (born b (subst (λ z. b < z) (fork_count n (length ks) w.2) less) ∙ ap Some (sym w.0))
         | inr (inl w) ↦ lives_no_fork o n (forks n) w.3 refl
         | inr (inr w) ↦

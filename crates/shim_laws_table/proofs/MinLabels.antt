@@ -1,4 +1,4 @@
--- The least label of dead sharers tells who is doomed, and how it follows a change.
+-- The least label of dead sharers decides who is doomed; and how it follows a change.
 use Rattle.std.proofs.Common.{◌≡◌, ◌≤◌, ◌<◌, ◌+◌, ℕ, zero, suc, Bool, true, false, ◌&&◌, ◌||◌, Option, Some, None, List, [], ◌∷◌, ◌++◌, length, cond, refl, sym, ap, subst, ◌∙◌, ltb, ltb-true, ltb-false, min, arith, not, inl, inr, ◌≢◌}
 use Rattle.std.proofs.lemmas.Bool.{lt-ltb}
 use Rattle.std.proofs.lemmas.List.{append-nil, length-append}
@@ -20,7 +20,7 @@ use Rattle.shim_laws_table.specs.Places.{IsReplaced}
 use Rattle.shim_laws_table.specs.Tallied.{is_above, IsCounted}
 use Rattle.shim_laws_table.specs.Dooms.{lesser, min_dead_label, min_dead_label_among, is_below, MinLabelsDecide, MinLabelsFollow}
 use Rattle.shim_laws_table.proofs.SameTrees.{is_put}
-use Rattle.shim_laws_table.proofs.Way.{untouched, way_from, with_split, fork_above}
+use Rattle.shim_laws_table.proofs.PlacesAbove.{untouched, way_from, with_split, fork_above}
 use Rattle.shim_laws_table.proofs.Begun.{fork_parts}
 use Rattle.shim_laws_table.proofs.Hanging.{home_above, given_child, given_place}
 

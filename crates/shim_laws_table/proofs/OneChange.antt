@@ -7,26 +7,26 @@ use Rattle.shim_semantics.specs.Nodes.{Node, state}
 use Rattle.shim_semantics.specs.Places.{at}
 use Rattle.shim_semantics.proofs.ReplacedNodes.{put}
 use Rattle.shim_base.proofs.Facts.{some_same, none_some}
-use Rattle.shim_laws_table.specs.Seen.{ProcessStatus, forks, seen, process_status, is_leaf, place, IsAside}
+use Rattle.shim_laws_table.specs.NodeStatus.{ProcessStatus, forks, seen, process_status, is_leaf, place, IsAside}
 use Rattle.shim_laws_table.specs.Agrees.{RecordView, free, used, Has, Agrees}
 use Rattle.shim_laws_table.specs.Changes.{HasChanged}
 use Rattle.shim_laws_table.proofs.Aside.{there, outside, none_below, at_split}
 use Rattle.shim_laws_table.proofs.SameTrees.{same_or_not, no_fork}
 
-abbrev sort_of : RecordView → ProcessStatus → ProcessStatus
-sort_of free d = d
-sort_of (used f k) d = k
+abbrev status_of : RecordView → ProcessStatus → ProcessStatus
+status_of free d = d
+status_of (used f k) d = k
 
 -- a number has one record
-pub one_state : {S : Type 0} (states : List S) (stands : List RecordView) (i f g : ℕ) (s t : S) (k h : ProcessStatus) → Has states stands i f s k → Has states stands i g t h → s ≡ t
-one_state states stands i f g s t k h a b = some_same s t (sym a.state_is ∙ b.state_is)
+pub one_state : {S : Type 0} (states : List S) (views : List RecordView) (i f g : ℕ) (s t : S) (k h : ProcessStatus) → Has states views i f s k → Has states views i g t h → s ≡ t
+one_state states views i f g s t k h a b = some_same s t (sym a.state_is ∙ b.state_is)
 
-pub one_sort : {S : Type 0} (states : List S) (stands : List RecordView) (i f g : ℕ) (s t : S) (k h : ProcessStatus) → Has states stands i f s k → Has states stands i g t h → k ≡ h
-one_sort states stands i f g s t k h a b = ap (λ z. sort_of z k) (some_same (used f k) (used g h) (sym a.stands_so ∙ b.stands_so))
+pub one_status : {S : Type 0} (states : List S) (views : List RecordView) (i f g : ℕ) (s t : S) (k h : ProcessStatus) → Has states views i f s k → Has states views i g t h → k ≡ h
+one_status states views i f g s t k h a b = ap (λ z. status_of z k) (some_same (used f k) (used g h) (sym a.view_is ∙ b.view_is))
 
-module _ {S : Type 0} (o : Ops S) (rp : Path) (before behind : List S) (stood stands : List RecordView) (root m a : Node S) (i f : ℕ)
-    (ok : Agrees o rp before stood root) (has : Has before stood i f (state m) (process_status m)) (is : at (place o rp (state m)) root ≡ Some m)
-    (leaf : is_leaf m ≡ true) (leaf' : is_leaf a ≡ true) (stays : place o rp (state a) ≡ place o rp (state m)) (changed : HasChanged before behind stood stands i (state a) (process_status a)) where
+module _ {S : Type 0} (o : Ops S) (rp : Path) (before behind : List S) (old_views views : List RecordView) (root m a : Node S) (i f : ℕ)
+    (ok : Agrees o rp before old_views root) (has : Has before old_views i f (state m) (process_status m)) (is : at (place o rp (state m)) root ≡ Some m)
+    (leaf : is_leaf m ≡ true) (leaf' : is_leaf a ≡ true) (stays : place o rp (state a) ≡ place o rp (state m)) (changed : HasChanged before behind old_views views i (state a) (process_status a)) where
   abbrev pub q : List ℕ
   q = place o rp (state m)
 
@@ -34,15 +34,15 @@ module _ {S : Type 0} (o : Ops S) (rp : Path) (before behind : List S) (stood st
   root' = put q a root
 
   abbrev After : ℕ → ℕ → S → ProcessStatus → Type 0
-  After j e t x = Has behind stands j e t x
+  After j e t x = Has behind views j e t x
 
   its : (j : ℕ) (e : ℕ) (t : S) (x : ProcessStatus) → j ≡ i → After j e t x → (t ≡ state a) × (x ≡ process_status a)
   its j e t x w h =
-      let mine : Has behind stands j changed.first (state a) (process_status a) = subst (λ z. Has behind stands z changed.first (state a) (process_status a)) (sym w) changed.mine in
-      (one_state behind stands j e changed.first t (state a) x (process_status a) h mine, one_sort behind stands j e changed.first t (state a) x (process_status a) h mine)
+      let mine : Has behind views j changed.first (state a) (process_status a) = subst (λ z. Has behind views z changed.first (state a) (process_status a)) (sym w) changed.mine in
+      (one_state behind views j e changed.first t (state a) x (process_status a) h mine, one_status behind views j e changed.first t (state a) x (process_status a) h mine)
 
-  -- no other record stands there or below
-  aside : (j d : ℕ) (t : S) (x : ProcessStatus) → j ≢ i → Has before stood j d t x → IsAside (place o rp t) q
+  -- no other record is there or below
+  aside : (j d : ℕ) (t : S) (x : ProcessStatus) → j ≢ i → Has before old_views j d t x → IsAside (place o rp t) q
   aside j d t x n h [] e = n (ok.apart j i d f t (state m) x (process_status m) h has (e ∙ append-nil q))
   aside j d t x n h (b ∷ s) e = none_some (t, x) (sym (ap (λ z. seen (at z root)) e ∙ ap seen (at_split q (b ∷ s) root m is ∙ none_below b s m leaf)) ∙ ok.shown j d t x h)
 
@@ -59,7 +59,7 @@ module _ {S : Type 0} (o : Ops S) (rp : Path) (before behind : List S) (stood st
         outside q m a root is (place o rp t) (aside j e t x n z) ∙ ok.shown j e t x z
   ]
 
-  not_there : (j d : ℕ) (t : S) (x : ProcessStatus) → j ≢ i → Has before stood j d t x → place o rp t ≢ q
+  not_there : (j d : ℕ) (t : S) (x : ProcessStatus) → j ≢ i → Has before old_views j d t x → place o rp t ≢ q
   not_there j d t x n h e = aside j d t x n h [] (e ∙ sym (append-nil q))
 
   apart_now : (j l e d : ℕ) (s t : S) (x y : ProcessStatus) → After j e s x → After l d t y → place o rp s ≡ place o rp t → j ≡ l
@@ -77,10 +77,10 @@ module _ {S : Type 0} (o : Ops S) (rp : Path) (before behind : List S) (stood st
   abbrev Child : S → ℕ → ℕ → Type 0
   Child s c b = (d : ℕ) × (t : S) × (k : ProcessStatus) × After c d t k × (place o rp t ≡ place o rp s ++ b ∷ [])
 
-  child_now : (s : S) (c b d : ℕ) (t : S) (k : ProcessStatus) → Has before stood c d t k → place o rp t ≡ place o rp s ++ b ∷ [] → Child s c b
+  child_now : (s : S) (c b d : ℕ) (t : S) (k : ProcessStatus) → Has before old_views c d t k → place o rp t ≡ place o rp s ++ b ∷ [] → Child s c b
   child_now s c b d t k h p = elim (same_or_not c i) [
     | inl w ↦
-        let same : t ≡ state m = one_state before stood c d f t (state m) k (process_status m) h (subst (λ z. Has before stood z f (state m) (process_status m)) (sym w) has) in
+        let same : t ≡ state m = one_state before old_views c d f t (state m) k (process_status m) h (subst (λ z. Has before old_views z f (state m) (process_status m)) (sym w) has) in
         (changed.first, state a, process_status a, subst (λ z. After z changed.first (state a) (process_status a)) (sym w) changed.mine, stays ∙ (ap (place o rp) (sym same) ∙ p))
     | inr n ↦ (d, t, k, changed.others c d t k n h, p)
   ]
@@ -91,5 +91,5 @@ module _ {S : Type 0} (o : Ops S) (rp : Path) (before behind : List S) (stood st
     | inr w ↦ let z = ok.below j e n s (changed.only j e s (forks n) w y) b less in child_now s (e + b) b z.0 z.1 z.2 z.3 z.4
   ]
 
-  pub agrees_changed : Agrees o rp behind stands root'
+  pub agrees_changed : Agrees o rp behind views root'
   agrees_changed = record { shown = shown_now; apart = apart_now; below = below_now }

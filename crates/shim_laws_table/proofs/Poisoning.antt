@@ -1,14 +1,14 @@
--- What is seen behind a poison, and that records which tell of it agree with the tree.
+-- What is seen behind a poison, and that records with its effects agree with the tree.
 use Rattle.std.proofs.Common.{◌≡◌, ℕ, zero, suc, ◌+◌, ◌-◌, Bool, true, false, Some, None, List, [], ◌∷◌, ◌++◌, cond, inl, inr, refl, sym, ap, ◌∙◌}
 use Rattle.shim_base.specs.Paths.{Path, Channel}
 use Rattle.shim_local.specs.Process.{Ops}
 use Rattle.shim_semantics.specs.Nodes.{Node, Nodes, Live, Forked, Ended, Dead, Death, death, no_node, node_and}
 use Rattle.shim_semantics.specs.Places.{at, child_at}
-use Rattle.shim_semantics.specs.Poison.{poisoned, all_poisoned, one_poisoned, can_poison, poison_here, poison, poison_child}
+use Rattle.shim_semantics.specs.Poison.{poisoned, all_poisoned, one_poisoned, can_poison, poison_node, poison, poison_child}
 use Rattle.shim_semantics.proofs.ReplacedNodes.{put, put_child}
 use Rattle.shim_semantics.proofs.PoisonStays.{above_some, before_some, after_some}
 use Rattle.shim_base.proofs.Facts.{some_same, none_some, chosen}
-use Rattle.shim_laws_table.specs.Seen.{ProcessStatus, lives, forks, ends, dies, seen, place, how_many_nodes}
+use Rattle.shim_laws_table.specs.NodeStatus.{ProcessStatus, lives, forks, ends, dies, seen, place, how_many_nodes}
 use Rattle.shim_laws_table.specs.Agrees.{RecordView, used, Has, Agrees}
 use Rattle.shim_laws_table.specs.Places.{killed, seen_killed, SameAside}
 use Rattle.shim_laws_table.specs.Changes.{HaveDied}
@@ -70,7 +70,7 @@ module _ {S : Type 0} (o : Ops S) (c : Channel) where
   mutual
     poison_put : (i : ℕ) (q : List ℕ) (n m : Node S) (l : S) (ks : Nodes S) → poison o c i q n ≡ Some m → at q n ≡ Some (Forked l ks) → m ≡ put q (fork_poisoned i l ks) n
     poison_put i [] n m l ks e f =
-        let w = ap (poison_here o c i) (sym (some_same n (Forked l ks) f)) ∙ e in
+        let w = ap (poison_node o c i) (sym (some_same n (Forked l ks) f)) ∙ e in
         sym (some_same (fork_poisoned i l ks) m (chosen (can_poison o l c i ks) (Some (fork_poisoned i l ks)) m w).1)
     poison_put i (b ∷ q) (Live k) m l ks e f = none_some m e
     poison_put i (b ∷ q) (Ended k) m l ks e f = none_some m e
@@ -97,18 +97,18 @@ module _ {S : Type 0} (o : Ops S) (c : Channel) where
 
   -- ---- the records
 
-  module _ (rp : Path) (q : List ℕ) (d : Death) (states : List S) (stood stands : List RecordView) (root new : Node S)
-      (ok : Agrees o rp states stood root) (died : HaveDied o rp q c d states stood stands)
+  module _ (rp : Path) (q : List ℕ) (d : Death) (states : List S) (old_views views : List RecordView) (root new : Node S)
+      (ok : Agrees o rp states old_views root) (died : HaveDied o rp q c d states old_views views)
       (represents : (s : List ℕ) → seen (at (q ++ s) new) ≡ seen_killed o c d (seen (at (q ++ s) root))) (aside : SameAside q root new) where
     -- what a record said before
     record Was (i f : ℕ) (s : S) (k : ProcessStatus) : Type 0 where
       pub old : ProcessStatus
-      pub had : Has states stood i f s old
+      pub had : Has states old_views i f s old
       pub shown : seen (at (place o rp s) new) ≡ Some (s, k)
       pub fork : (n : ℕ) → k ≡ forks n → old ≡ forks n
 
-    used_sort : (f : ℕ) (k h : ProcessStatus) → Some (used f k) ≡ Some (used f h) → k ≡ h
-    used_sort f k h e = cc
+    used_status : (f : ℕ) (k h : ProcessStatus) → Some (used f k) ≡ Some (used f h) → k ≡ h
+    used_status f k h e = cc
 
     dead_no_fork : (b : Bool) (n : ℕ) → cond b (dies d) lives ≡ forks n → lives ≡ forks n
     dead_no_fork true n e = absurd cc
@@ -120,16 +120,16 @@ module _ {S : Type 0} (o : Ops S) (c : Channel) where
     still_fork s ends n e = absurd cc
     still_fork s (dies x) n e = absurd cc
 
-    was : (i f : ℕ) (s : S) (k : ProcessStatus) → Has states stands i f s k → Was i f s k
+    was : (i f : ℕ) (s : S) (k : ProcessStatus) → Has states views i f s k → Was i f s k
     was i f s k h =
-        let w = died.had i f k h.stands_so in
-        let y : Has states stood i f s w.0 = record { state_is = h.state_is; stands_so = w.1 } in
+        let w = died.had i f k h.view_is in
+        let y : Has states old_views i f s w.0 = record { state_is = h.state_is; view_is = w.1 } in
         elim (aside_or_further q (place o rp s)) [
           | inl z ↦
-              let same : k ≡ w.0 = used_sort f k w.0 (sym h.stands_so ∙ died.aside i f s w.0 y z) in
+              let same : k ≡ w.0 = used_status f k w.0 (sym h.view_is ∙ died.aside i f s w.0 y z) in
               record { old = w.0; had = y; shown = aside (place o rp s) z ∙ (ok.shown i f s w.0 y ∙ ap (λ z. Some (s, z)) (sym same)); fork = λ n e. sym same ∙ e }
           | inr z ↦
-              let now : k ≡ killed o c d s w.0 = used_sort f k (killed o c d s w.0) (sym h.stands_so ∙ died.below i f s w.0 z.0 y z.1) in
+              let now : k ≡ killed o c d s w.0 = used_status f k (killed o c d s w.0) (sym h.view_is ∙ died.below i f s w.0 z.0 y z.1) in
               record {
                 old = w.0;
                 had = y;
@@ -139,16 +139,16 @@ module _ {S : Type 0} (o : Ops S) (c : Channel) where
         ]
 
     -- a record that was in use still is
-    still : (i f : ℕ) (s : S) (k : ProcessStatus) → Has states stood i f s k → (h : ProcessStatus) × Has states stands i f s h
+    still : (i f : ℕ) (s : S) (k : ProcessStatus) → Has states old_views i f s k → (h : ProcessStatus) × Has states views i f s h
     still i f s k h = elim (aside_or_further q (place o rp s)) [
-      | inl z ↦ (k, record { state_is = h.state_is; stands_so = died.aside i f s k h z })
-      | inr z ↦ (killed o c d s k, record { state_is = h.state_is; stands_so = died.below i f s k z.0 h z.1 })
+      | inl z ↦ (k, record { state_is = h.state_is; view_is = died.aside i f s k h z })
+      | inr z ↦ (killed o c d s k, record { state_is = h.state_is; view_is = died.below i f s k z.0 h z.1 })
     ]
 
-    had_fork : (i f n : ℕ) (s : S) → Has states stands i f s (forks n) → Has states stood i f s (forks n)
-    had_fork i f n s h = let w = was i f s (forks n) h in record { state_is = h.state_is; stands_so = w.had.stands_so ∙ ap (λ z. Some (used f z)) (w.fork n refl) }
+    had_fork : (i f n : ℕ) (s : S) → Has states views i f s (forks n) → Has states old_views i f s (forks n)
+    had_fork i f n s h = let w = was i f s (forks n) h in record { state_is = h.state_is; view_is = w.had.view_is ∙ ap (λ z. Some (used f z)) (w.fork n refl) }
 
-    pub agrees_poisoned : Agrees o rp states stands new
+    pub agrees_poisoned : Agrees o rp states views new
     agrees_poisoned = record {
       shown = λ i f s k h. (was i f s k h).shown;
       apart = λ i j f g s t k h x y e. ok.apart i j f g s t _ _ (was i f s k x).had (was j g t h y).had e;

@@ -5,34 +5,34 @@ use Rattle.shim_semantics.specs.Nodes.{Node, Nodes, Live, Forked, Ended, Dead, D
 use Rattle.shim_semantics.specs.Places.{at, child_at}
 use Rattle.shim_semantics.proofs.ReplacedNodes.{put}
 use Rattle.shim_base.proofs.Facts.{some_same, none_some}
-use Rattle.shim_laws_table.specs.Seen.{ProcessStatus, lives, forks, ends, dies, seen, process_status, is_leaf, how_many_nodes, IsAside}
+use Rattle.shim_laws_table.specs.NodeStatus.{ProcessStatus, lives, forks, ends, dies, seen, process_status, is_leaf, how_many_nodes, IsAside}
 use Rattle.shim_laws_table.specs.Places.{IsReplaced, NodesAreReplaced}
 use Rattle.shim_laws_table.proofs.Aside.{there, outside, at_split}
 
 -- two sorts
-abbrev sort_number : ProcessStatus → ℕ
-sort_number lives = 0
-sort_number (forks n) = 1
-sort_number ends = 2
-sort_number (dies x) = 3
+abbrev status_number : ProcessStatus → ℕ
+status_number lives = 0
+status_number (forks n) = 1
+status_number ends = 2
+status_number (dies x) = 3
 
-abbrev sort_count : ProcessStatus → ℕ
-sort_count lives = 0
-sort_count (forks n) = n
-sort_count ends = 0
-sort_count (dies x) = 0
+abbrev status_count : ProcessStatus → ℕ
+status_count lives = 0
+status_count (forks n) = n
+status_count ends = 0
+status_count (dies x) = 0
 
-abbrev sort_death : ProcessStatus → Death
-sort_death lives = death 0
-sort_death (forks n) = death 0
-sort_death ends = death 0
-sort_death (dies d) = d
+abbrev status_death : ProcessStatus → Death
+status_death lives = death 0
+status_death (forks n) = death 0
+status_death ends = death 0
+status_death (dies d) = d
 
-two_sorts : {B : Type 0} (k h : ProcessStatus) (m n : ℕ) → sort_number k ≡ m → sort_number h ≡ n → m ≢ n → k ≡ h → B
-two_sorts k h m n e f d w = absurd (d (sym e ∙ (ap sort_number w ∙ f)))
+two_statuses : {B : Type 0} (k h : ProcessStatus) (m n : ℕ) → status_number k ≡ m → status_number h ≡ n → m ≢ n → k ≡ h → B
+two_statuses k h m n e f d w = absurd (d (sym e ∙ (ap status_number w ∙ f)))
 
-sorts_of : {S : Type 0} (n m : Node S) → seen (Some n) ≡ seen (Some m) → process_status n ≡ process_status m
-sorts_of n m e = ap (λ z. z.1) (some_same (state n, process_status n) (state m, process_status m) e)
+same_status : {S : Type 0} (n m : Node S) → seen (Some n) ≡ seen (Some m) → process_status n ≡ process_status m
+same_status n m e = ap (λ z. z.1) (some_same (state n, process_status n) (state m, process_status m) e)
 
 states_of : {S : Type 0} (n m : Node S) → seen (Some n) ≡ seen (Some m) → state n ≡ state m
 states_of n m e = ap (λ z. z.0) (some_same (state n, process_status n) (state m, process_status m) e)
@@ -51,22 +51,22 @@ mutual
   pub same_tree : {S : Type 0} (t u : Node S) → ((p : List ℕ) → seen (at p t) ≡ seen (at p u)) → t ≡ u
   same_tree (Live l) (Live m) h = ap Live (states_of (Live l) (Live m) (h []))
   same_tree (Ended l) (Ended m) h = ap Ended (states_of (Ended l) (Ended m) (h []))
-  same_tree (Dead l x) (Dead m y) h = λ i. Dead (states_of (Dead l x) (Dead m y) (h []) i) (ap sort_death (sorts_of (Dead l x) (Dead m y) (h [])) i)
+  same_tree (Dead l x) (Dead m y) h = λ i. Dead (states_of (Dead l x) (Dead m y) (h []) i) (ap status_death (same_status (Dead l x) (Dead m y) (h [])) i)
   same_tree (Forked l ks) (Forked m js) h =
-      let same = same_trees ks js (ap sort_count (sorts_of (Forked l ks) (Forked m js) (h []))) (λ b p. h (b ∷ p)) in
+      let same = same_trees ks js (ap status_count (same_status (Forked l ks) (Forked m js) (h []))) (λ b p. h (b ∷ p)) in
       λ i. Forked (states_of (Forked l ks) (Forked m js) (h []) i) (same i)
-  same_tree (Live l) (Forked m js) h = two_sorts lives (forks (how_many_nodes js)) 0 1 refl refl (λ e. absurd cc) (sorts_of (Live l) (Forked m js) (h []))
-  same_tree (Live l) (Ended m) h = two_sorts lives ends 0 2 refl refl (λ e. absurd cc) (sorts_of (Live l) (Ended m) (h []))
-  same_tree (Live l) (Dead m y) h = two_sorts lives (dies y) 0 3 refl refl (λ e. absurd cc) (sorts_of (Live l) (Dead m y) (h []))
-  same_tree (Forked l ks) (Live m) h = two_sorts (forks (how_many_nodes ks)) lives 1 0 refl refl (λ e. absurd cc) (sorts_of (Forked l ks) (Live m) (h []))
-  same_tree (Forked l ks) (Ended m) h = two_sorts (forks (how_many_nodes ks)) ends 1 2 refl refl (λ e. absurd cc) (sorts_of (Forked l ks) (Ended m) (h []))
-  same_tree (Forked l ks) (Dead m y) h = two_sorts (forks (how_many_nodes ks)) (dies y) 1 3 refl refl (λ e. absurd cc) (sorts_of (Forked l ks) (Dead m y) (h []))
-  same_tree (Ended l) (Live m) h = two_sorts ends lives 2 0 refl refl (λ e. absurd cc) (sorts_of (Ended l) (Live m) (h []))
-  same_tree (Ended l) (Forked m js) h = two_sorts ends (forks (how_many_nodes js)) 2 1 refl refl (λ e. absurd cc) (sorts_of (Ended l) (Forked m js) (h []))
-  same_tree (Ended l) (Dead m y) h = two_sorts ends (dies y) 2 3 refl refl (λ e. absurd cc) (sorts_of (Ended l) (Dead m y) (h []))
-  same_tree (Dead l x) (Live m) h = two_sorts (dies x) lives 3 0 refl refl (λ e. absurd cc) (sorts_of (Dead l x) (Live m) (h []))
-  same_tree (Dead l x) (Forked m js) h = two_sorts (dies x) (forks (how_many_nodes js)) 3 1 refl refl (λ e. absurd cc) (sorts_of (Dead l x) (Forked m js) (h []))
-  same_tree (Dead l x) (Ended m) h = two_sorts (dies x) ends 3 2 refl refl (λ e. absurd cc) (sorts_of (Dead l x) (Ended m) (h []))
+  same_tree (Live l) (Forked m js) h = two_statuses lives (forks (how_many_nodes js)) 0 1 refl refl (λ e. absurd cc) (same_status (Live l) (Forked m js) (h []))
+  same_tree (Live l) (Ended m) h = two_statuses lives ends 0 2 refl refl (λ e. absurd cc) (same_status (Live l) (Ended m) (h []))
+  same_tree (Live l) (Dead m y) h = two_statuses lives (dies y) 0 3 refl refl (λ e. absurd cc) (same_status (Live l) (Dead m y) (h []))
+  same_tree (Forked l ks) (Live m) h = two_statuses (forks (how_many_nodes ks)) lives 1 0 refl refl (λ e. absurd cc) (same_status (Forked l ks) (Live m) (h []))
+  same_tree (Forked l ks) (Ended m) h = two_statuses (forks (how_many_nodes ks)) ends 1 2 refl refl (λ e. absurd cc) (same_status (Forked l ks) (Ended m) (h []))
+  same_tree (Forked l ks) (Dead m y) h = two_statuses (forks (how_many_nodes ks)) (dies y) 1 3 refl refl (λ e. absurd cc) (same_status (Forked l ks) (Dead m y) (h []))
+  same_tree (Ended l) (Live m) h = two_statuses ends lives 2 0 refl refl (λ e. absurd cc) (same_status (Ended l) (Live m) (h []))
+  same_tree (Ended l) (Forked m js) h = two_statuses ends (forks (how_many_nodes js)) 2 1 refl refl (λ e. absurd cc) (same_status (Ended l) (Forked m js) (h []))
+  same_tree (Ended l) (Dead m y) h = two_statuses ends (dies y) 2 3 refl refl (λ e. absurd cc) (same_status (Ended l) (Dead m y) (h []))
+  same_tree (Dead l x) (Live m) h = two_statuses (dies x) lives 3 0 refl refl (λ e. absurd cc) (same_status (Dead l x) (Live m) (h []))
+  same_tree (Dead l x) (Forked m js) h = two_statuses (dies x) (forks (how_many_nodes js)) 3 1 refl refl (λ e. absurd cc) (same_status (Dead l x) (Forked m js) (h []))
+  same_tree (Dead l x) (Ended m) h = two_statuses (dies x) ends 3 2 refl refl (λ e. absurd cc) (same_status (Dead l x) (Ended m) (h []))
 
   same_trees : {S : Type 0} (ks js : Nodes S) → how_many_nodes ks ≡ how_many_nodes js → ((b : ℕ) (p : List ℕ) → seen (child_at b p ks) ≡ seen (child_at b p js)) → ks ≡ js
   same_trees no_node no_node n h = refl
@@ -78,53 +78,53 @@ mutual
       λ i. node_and (one i) (rest i)
 
 -- what is seen where a node stands
-pub seen_sort : {S : Type 0} (n : Node S) (s : S) (k : ProcessStatus) → seen (Some n) ≡ Some (s, k) → process_status n ≡ k
-seen_sort n s k e = ap (λ z. z.1) (some_same (state n, process_status n) (s, k) e)
+pub seen_status : {S : Type 0} (n : Node S) (s : S) (k : ProcessStatus) → seen (Some n) ≡ Some (s, k) → process_status n ≡ k
+seen_status n s k e = ap (λ z. z.1) (some_same (state n, process_status n) (s, k) e)
 
 pub seen_state : {S : Type 0} (n : Node S) (s : S) (k : ProcessStatus) → seen (Some n) ≡ Some (s, k) → state n ≡ s
 seen_state n s k e = ap (λ z. z.0) (some_same (state n, process_status n) (s, k) e)
 
 pub seen_some : {S : Type 0} (x : Option (Node S)) (s : S) (k : ProcessStatus) → seen x ≡ Some (s, k) → (n : Node S) × (x ≡ Some n) × (state n ≡ s) × (process_status n ≡ k)
 seen_some None s k e = none_some (s, k) e
-seen_some (Some n) s k e = (n, refl, seen_state n s k e, seen_sort n s k e)
+seen_some (Some n) s k e = (n, refl, seen_state n s k e, seen_status n s k e)
 
 pub seen_live : {S : Type 0} (x : Option (Node S)) (s : S) → seen x ≡ Some (s, lives) → x ≡ Some (Live s)
 seen_live None s e = none_some (s, lives) e
 seen_live (Some (Live l)) s e = ap (λ z. Some (Live z)) (seen_state (Live l) s lives e)
-seen_live (Some (Forked l ks)) s e = two_sorts (forks (how_many_nodes ks)) lives 1 0 refl refl (λ w. absurd cc) (seen_sort (Forked l ks) s lives e)
-seen_live (Some (Ended l)) s e = two_sorts ends lives 2 0 refl refl (λ w. absurd cc) (seen_sort (Ended l) s lives e)
-seen_live (Some (Dead l x)) s e = two_sorts (dies x) lives 3 0 refl refl (λ w. absurd cc) (seen_sort (Dead l x) s lives e)
+seen_live (Some (Forked l ks)) s e = two_statuses (forks (how_many_nodes ks)) lives 1 0 refl refl (λ w. absurd cc) (seen_status (Forked l ks) s lives e)
+seen_live (Some (Ended l)) s e = two_statuses ends lives 2 0 refl refl (λ w. absurd cc) (seen_status (Ended l) s lives e)
+seen_live (Some (Dead l x)) s e = two_statuses (dies x) lives 3 0 refl refl (λ w. absurd cc) (seen_status (Dead l x) s lives e)
 
 pub seen_ended : {S : Type 0} (x : Option (Node S)) (s : S) → seen x ≡ Some (s, ends) → x ≡ Some (Ended s)
 seen_ended None s e = none_some (s, ends) e
-seen_ended (Some (Live l)) s e = two_sorts lives ends 0 2 refl refl (λ w. absurd cc) (seen_sort (Live l) s ends e)
-seen_ended (Some (Forked l ks)) s e = two_sorts (forks (how_many_nodes ks)) ends 1 2 refl refl (λ w. absurd cc) (seen_sort (Forked l ks) s ends e)
+seen_ended (Some (Live l)) s e = two_statuses lives ends 0 2 refl refl (λ w. absurd cc) (seen_status (Live l) s ends e)
+seen_ended (Some (Forked l ks)) s e = two_statuses (forks (how_many_nodes ks)) ends 1 2 refl refl (λ w. absurd cc) (seen_status (Forked l ks) s ends e)
 seen_ended (Some (Ended l)) s e = ap (λ z. Some (Ended z)) (seen_state (Ended l) s ends e)
-seen_ended (Some (Dead l x)) s e = two_sorts (dies x) ends 3 2 refl refl (λ w. absurd cc) (seen_sort (Dead l x) s ends e)
+seen_ended (Some (Dead l x)) s e = two_statuses (dies x) ends 3 2 refl refl (λ w. absurd cc) (seen_status (Dead l x) s ends e)
 
 pub seen_dead : {S : Type 0} (x : Option (Node S)) (s : S) (d : Death) → seen x ≡ Some (s, dies d) → x ≡ Some (Dead s d)
 seen_dead None s d e = none_some (s, dies d) e
-seen_dead (Some (Live l)) s d e = two_sorts lives (dies d) 0 3 refl refl (λ w. absurd cc) (seen_sort (Live l) s (dies d) e)
-seen_dead (Some (Forked l ks)) s d e = two_sorts (forks (how_many_nodes ks)) (dies d) 1 3 refl refl (λ w. absurd cc) (seen_sort (Forked l ks) s (dies d) e)
-seen_dead (Some (Ended l)) s d e = two_sorts ends (dies d) 2 3 refl refl (λ w. absurd cc) (seen_sort (Ended l) s (dies d) e)
-seen_dead (Some (Dead l x)) s d e = λ i. Some (Dead (seen_state (Dead l x) s (dies d) e i) (ap sort_death (seen_sort (Dead l x) s (dies d) e) i))
+seen_dead (Some (Live l)) s d e = two_statuses lives (dies d) 0 3 refl refl (λ w. absurd cc) (seen_status (Live l) s (dies d) e)
+seen_dead (Some (Forked l ks)) s d e = two_statuses (forks (how_many_nodes ks)) (dies d) 1 3 refl refl (λ w. absurd cc) (seen_status (Forked l ks) s (dies d) e)
+seen_dead (Some (Ended l)) s d e = two_statuses ends (dies d) 2 3 refl refl (λ w. absurd cc) (seen_status (Ended l) s (dies d) e)
+seen_dead (Some (Dead l x)) s d e = λ i. Some (Dead (seen_state (Dead l x) s (dies d) e i) (ap status_death (seen_status (Dead l x) s (dies d) e) i))
 
 -- where a fork is seen, one stands, with as many children
 pub seen_fork : {S : Type 0} (x : Option (Node S)) (s : S) (n : ℕ) → seen x ≡ Some (s, forks n) → (ks : Nodes S) × (x ≡ Some (Forked s ks)) × (how_many_nodes ks ≡ n)
 seen_fork None s n e = none_some (s, forks n) e
-seen_fork (Some (Live l)) s n e = two_sorts lives (forks n) 0 1 refl refl (λ w. absurd cc) (seen_sort (Live l) s (forks n) e)
-seen_fork (Some (Forked l ks)) s n e = (ks, ap (λ z. Some (Forked z ks)) (seen_state (Forked l ks) s (forks n) e), ap sort_count (seen_sort (Forked l ks) s (forks n) e))
-seen_fork (Some (Ended l)) s n e = two_sorts ends (forks n) 2 1 refl refl (λ w. absurd cc) (seen_sort (Ended l) s (forks n) e)
-seen_fork (Some (Dead l x)) s n e = two_sorts (dies x) (forks n) 3 1 refl refl (λ w. absurd cc) (seen_sort (Dead l x) s (forks n) e)
+seen_fork (Some (Live l)) s n e = two_statuses lives (forks n) 0 1 refl refl (λ w. absurd cc) (seen_status (Live l) s (forks n) e)
+seen_fork (Some (Forked l ks)) s n e = (ks, ap (λ z. Some (Forked z ks)) (seen_state (Forked l ks) s (forks n) e), ap status_count (seen_status (Forked l ks) s (forks n) e))
+seen_fork (Some (Ended l)) s n e = two_statuses ends (forks n) 2 1 refl refl (λ w. absurd cc) (seen_status (Ended l) s (forks n) e)
+seen_fork (Some (Dead l x)) s n e = two_statuses (dies x) (forks n) 3 1 refl refl (λ w. absurd cc) (seen_status (Dead l x) s (forks n) e)
 
 pub no_fork : {S : Type 0} {B : Type 0} (n : Node S) (m : ℕ) → is_leaf n ≡ true → process_status n ≡ forks m → B
-no_fork (Live l) m e f = two_sorts lives (forks m) 0 1 refl refl (λ w. absurd cc) f
+no_fork (Live l) m e f = two_statuses lives (forks m) 0 1 refl refl (λ w. absurd cc) f
 no_fork (Forked l ks) m e f = absurd cc
-no_fork (Ended l) m e f = two_sorts ends (forks m) 2 1 refl refl (λ w. absurd cc) f
-no_fork (Dead l x) m e f = two_sorts (dies x) (forks m) 3 1 refl refl (λ w. absurd cc) f
+no_fork (Ended l) m e f = two_statuses ends (forks m) 2 1 refl refl (λ w. absurd cc) f
+no_fork (Dead l x) m e f = two_statuses (dies x) (forks m) 3 1 refl refl (λ w. absurd cc) f
 
 pub fork_count : (m n : ℕ) → forks m ≡ forks n → m ≡ n
-fork_count m n e = ap sort_count e
+fork_count m n e = ap status_count e
 
 pub child_counted : {S : Type 0} (b : ℕ) (p : List ℕ) (ks : Nodes S) (m : Node S) → child_at b p ks ≡ Some m → b < how_many_nodes ks
 child_counted b p no_node m e = none_some m e
@@ -157,7 +157,7 @@ aside_or_further (i ∷ q) (j ∷ p) = elim (same_or_not j i) [
     tails : (r : List ℕ) → j ∷ p ≡ i ∷ (q ++ r) → p ≡ q ++ r
     tails r e = cc
 
--- what stands in the place is the whole difference
+-- what is in the place is the whole difference
 pub is_put : {S : Type 0} (q : List ℕ) (m a old new : Node S) → IsReplaced q m a old new → new ≡ put q a old
 is_put q m a old new x = same_tree new (put q a old) (λ p. elim (aside_or_further q p) [
   | inl h ↦ x.aside p h ∙ sym (outside q m a old x.was p h)

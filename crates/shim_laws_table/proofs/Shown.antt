@@ -20,7 +20,7 @@ use Rattle.shim_semantics.proofs.SoundEvents.{here_keeps, events_keep_sound, run
 use Rattle.shim_semantics.proofs.MeetStays.{meeting_stays}
 use Rattle.shim_laws_schedules.proofs.Lengths.{went_on}
 use Rattle.shim_base.proofs.Facts.{some_same, none_some, cond_some}
-use Rattle.shim_laws_table.specs.Seen.{ProcessStatus, lives, forks, ends, dies, seen, process_status, is_leaf, place}
+use Rattle.shim_laws_table.specs.NodeStatus.{ProcessStatus, lives, forks, ends, dies, seen, process_status, is_leaf, place}
 use Rattle.shim_laws_table.specs.Agrees.{RecordView, used, Has, Agrees, Rooted, Represents, StartRepresents}
 use Rattle.shim_laws_table.specs.Places.{IsBy, IsReplaced, got, killed, seen_killed}
 use Rattle.shim_laws_table.specs.Changes.{HasChanged, HasForked, HasClosed, HaveReceived, HaveDied, segment, prevailing_among, EventsPreserve, OneChangeIsRepresented}
@@ -82,8 +82,8 @@ module _ {S : Type 0} (o : Ops S) (law : LocalLaws o) where
       }
 
   -- what a tree keeps through any event
-  shows_after : (rp : Path) (before behind : List S) (stood stands : List RecordView) (t u : Tree S) (e : Event) → Represents o rp before stood t.root → after o e t ≡ Some u → Rooted o rp behind stands → Agrees o rp behind stands u.root → Represents o rp behind stands u.root
-  shows_after rp before behind stood stands t u e s h r ok = record {
+  shows_after : (rp : Path) (before behind : List S) (old_views views : List RecordView) (t u : Tree S) (e : Event) → Represents o rp before old_views t.root → after o e t ≡ Some u → Rooted o rp behind views → Agrees o rp behind views u.root → Represents o rp behind views u.root
+  shows_after rp before behind old_views views t u e s h r ok = record {
     sound = (events_keep_sound o law).kept t s.sound e u h;
     root_path = (events_show o law).root_path t u e s.sound h ∙ s.root_path;
     rooted = r;
@@ -99,26 +99,26 @@ module _ {S : Type 0} (o : Ops S) (law : LocalLaws o) where
 
   -- ---- one record that has changed
 
-  pub rooted_changed : (rp : Path) (before behind : List S) (stood stands : List RecordView) (i f : ℕ) (l m : S) (x k : ProcessStatus) → Rooted o rp before stood → Has before stood i f l x → o.path m ≡ o.path l → HasChanged before behind stood stands i m k → Rooted o rp behind stands
-  rooted_changed rp before behind stood stands i f l m x k r has same changed = elim (same_or_not 0 i) [
+  pub rooted_changed : (rp : Path) (before behind : List S) (old_views views : List RecordView) (i f : ℕ) (l m : S) (x k : ProcessStatus) → Rooted o rp before old_views → Has before old_views i f l x → o.path m ≡ o.path l → HasChanged before behind old_views views i m k → Rooted o rp behind views
+  rooted_changed rp before behind old_views views i f l m x k r has same changed = elim (same_or_not 0 i) [
     | inl w ↦
-        let old : r.state ≡ l = one_state before stood 0 r.first f r.state l r.status x r.has (subst (λ z. Has before stood z f l x) (sym w) has) in
-        record { first = changed.first; state = m; status = k; has = subst (λ z. Has behind stands z changed.first m k) (sym w) changed.mine; at_root = place_same rp l m same ∙ (ap (place o rp) (sym old) ∙ r.at_root) }
+        let old : r.state ≡ l = one_state before old_views 0 r.first f r.state l r.status x r.has (subst (λ z. Has before old_views z f l x) (sym w) has) in
+        record { first = changed.first; state = m; status = k; has = subst (λ z. Has behind views z changed.first m k) (sym w) changed.mine; at_root = place_same rp l m same ∙ (ap (place o rp) (sym old) ∙ r.at_root) }
     | inr n ↦ record { first = r.first; state = r.state; status = r.status; has = changed.others 0 r.first r.state r.status n r.has; at_root = r.at_root }
   ]
 
-  stepped : (rp : Path) (before behind : List S) (stood stands : List RecordView) (t u : Tree S) (e : Event) (i f : ℕ) (l : S) (a : Acted S)
-      → Represents o rp before stood t.root → Has before stood i f l lives → IsBy (o.path l) e → after o e t ≡ Some u → act_live o l (o.stop l) ≡ Some a → is_leaf a.node ≡ true
-      → HasChanged before behind stood stands i (state a.node) (process_status a.node) → Represents o rp behind stands u.root
-  stepped rp before behind stood stands t u e i f l a s has by h act leaf changed =
+  stepped : (rp : Path) (before behind : List S) (old_views views : List RecordView) (t u : Tree S) (e : Event) (i f : ℕ) (l : S) (a : Acted S)
+      → Represents o rp before old_views t.root → Has before old_views i f l lives → IsBy (o.path l) e → after o e t ≡ Some u → act_live o l (o.stop l) ≡ Some a → is_leaf a.node ≡ true
+      → HasChanged before behind old_views views i (state a.node) (process_status a.node) → Represents o rp behind views u.root
+  stepped rp before behind old_views views t u e i f l a s has by h act leaf changed =
       let there : at (place o rp l) t.root ≡ Some (Live l) = seen_live (at (place o rp l) t.root) l (s.agrees.shown i f l lives has) in
       let x = acts_by rp l (Live l) t u e s.root_path by h there in
       let same : x.acted ≡ a = some_same x.acted a (sym x.acts ∙ act) in
       let path : o.path (state a.node) ≡ o.path l = act_path (place o rp l) t.root (Live l) a s.sound there act in
       let rest : IsReplaced (place o rp l) (Live l) a.node t.root u.root = subst (λ (z : Acted S). IsReplaced (place o rp l) (Live l) z.node t.root u.root) same x.replaced in
-      let ok = agrees_changed o rp before behind stood stands t.root (Live l) a.node i f s.agrees has there refl leaf (place_same rp l (state a.node) path) changed in
-      shows_after rp before behind stood stands t u e s h (rooted_changed rp before behind stood stands i f l (state a.node) lives (process_status a.node) s.rooted has path changed)
-      (subst (Agrees o rp behind stands) (sym (is_put (place o rp l) (Live l) a.node t.root u.root rest)) ok)
+      let ok = agrees_changed o rp before behind old_views views t.root (Live l) a.node i f s.agrees has there refl leaf (place_same rp l (state a.node) path) changed in
+      shows_after rp before behind old_views views t u e s h (rooted_changed rp before behind old_views views i f l (state a.node) lives (process_status a.node) s.rooted has path changed)
+      (subst (Agrees o rp behind views) (sym (is_put (place o rp l) (Live l) a.node t.root u.root rest)) ok)
 
   -- ---- many quiet steps
 
@@ -153,19 +153,19 @@ module _ {S : Type 0} (o : Ops S) (law : LocalLaws o) where
       (ap (λ z. at z x.0.root) stays ∙ one.is) x.2 in
       replaced_twice (place o rp l) (Live l) (Live (o.quiet l)) (Live last) t.root x.0.root u.root one (subst (λ z. IsReplaced z (Live (o.quiet l)) (Live last) x.0.root u.root) stays rest)
 
-  advanced : (rp : Path) (before behind : List S) (stood stands : List RecordView) (t u : Tree S) (i f n : ℕ) (l last : S)
-      → Represents o rp before stood t.root → Has before stood i f l lives → QuietSteps o n l last → Advances o (o.path l) n t u
-      → HasChanged before behind stood stands i last lives → Represents o rp behind stands u.root
-  advanced rp before behind stood stands t u i f n l last s has taken h changed =
+  advanced : (rp : Path) (before behind : List S) (old_views views : List RecordView) (t u : Tree S) (i f n : ℕ) (l last : S)
+      → Represents o rp before old_views t.root → Has before old_views i f l lives → QuietSteps o n l last → Advances o (o.path l) n t u
+      → HasChanged before behind old_views views i last lives → Represents o rp behind views u.root
+  advanced rp before behind old_views views t u i f n l last s has taken h changed =
       let there : at (place o rp l) t.root ≡ Some (Live l) = seen_live (at (place o rp l) t.root) l (s.agrees.shown i f l lives has) in
       let path = quiet_path n l last (sound_at o (place o rp l) t.root (Live l) s.sound.below there) taken in
       let x = all_replaced rp n l last (o.path l) t u taken s.sound s.root_path refl there h in
-      let ok = agrees_changed o rp before behind stood stands t.root (Live l) (Live last) i f s.agrees has there refl refl (place_same rp l last path) changed in
+      let ok = agrees_changed o rp before behind old_views views t.root (Live l) (Live last) i f s.agrees has there refl refl (place_same rp l last path) changed in
       record {
         sound = runs_stay_sound o law t u (replicate n (Own (o.path l))) s.sound h;
         root_path = run_path (replicate n (Own (o.path l))) t u s.sound h ∙ s.root_path;
-        rooted = rooted_changed rp before behind stood stands i f l last lives lives s.rooted has path changed;
-        agrees = subst (Agrees o rp behind stands) (sym (is_put (place o rp l) (Live l) (Live last) t.root u.root x)) ok;
+        rooted = rooted_changed rp before behind old_views views i f l last lives lives s.rooted has path changed;
+        agrees = subst (Agrees o rp behind views) (sym (is_put (place o rp l) (Live l) (Live last) t.root u.root x)) ok;
       }
     where
       run_path : (es : List Event) (t u : Tree S) → IsSound o t.root → run (after o) es t ≡ Some u → o.path (state u.root) ≡ o.path (state t.root)
@@ -184,10 +184,10 @@ module _ {S : Type 0} (o : Ops S) (law : LocalLaws o) where
   abbrev forks_so : (p : S) (ks : List S) → S → Acted S
   forks_so p ks l = record { node = Forked p (all_live ks); effects = nothing }
 
-  forked : (rp : Path) (before behind : List S) (stood stands : List RecordView) (t u : Tree S) (i f g : ℕ) (l p : S) (ks : List S)
-      → Represents o rp before stood t.root → Has before stood i f l lives → after o (Own (o.path l)) t ≡ Some u → o.stop l ≡ AtFork → o.fork l ≡ Parted p ks
-      → HasForked before behind stood stands i g p ks → Represents o rp behind stands u.root
-  forked rp before behind stood stands t u i f g l p ks s has h stop parts changed =
+  forked : (rp : Path) (before behind : List S) (old_views views : List RecordView) (t u : Tree S) (i f g : ℕ) (l p : S) (ks : List S)
+      → Represents o rp before old_views t.root → Has before old_views i f l lives → after o (Own (o.path l)) t ≡ Some u → o.stop l ≡ AtFork → o.fork l ≡ Parted p ks
+      → HasForked before behind old_views views i g p ks → Represents o rp behind views u.root
+  forked rp before behind old_views views t u i f g l p ks s has h stop parts changed =
       let q = place o rp l in
       let there : at (place o rp l) t.root ≡ Some (Live l) = seen_live (at q t.root) l (s.agrees.shown i f l lives has) in
       let sound = sound_at o q t.root (Live l) s.sound.below there in
@@ -199,17 +199,17 @@ module _ {S : Type 0} (o : Ops S) (law : LocalLaws o) where
       let born = law.fork_children l p ks sound (stop, parts) in
       let its : (b : ℕ) (k : S) → slice_get ks b ≡ Some k → place o rp k ≡ place o rp l ++ b ∷ [] = λ b k e.
       place_further rp (o.path l) (o.path k) (born.0, 0 + b) x.within (child_path (o.path l) (o.handlers l) born.0 0 ks born.1 b k e) ∙ ap (λ z. place o rp l ++ z ∷ []) (zero_and b) in
-      let ok = agrees_forked o rp before behind stood stands t.root i f g l p ks s.agrees has changed (place_same rp l p path) its in
-      shows_after rp before behind stood stands t u (Own (o.path l)) s h (root path) (subst (Agrees o rp behind stands) (sym (is_put q (Live l) (Forked p (all_live ks)) t.root u.root rest)) ok)
+      let ok = agrees_forked o rp before behind old_views views t.root i f g l p ks s.agrees has changed (place_same rp l p path) its in
+      shows_after rp before behind old_views views t u (Own (o.path l)) s h (root path) (subst (Agrees o rp behind views) (sym (is_put q (Live l) (Forked p (all_live ks)) t.root u.root rest)) ok)
     where
       zero_and : (b : ℕ) → 0 + b ≡ b
       zero_and b = omega arith
 
-      root : o.path p ≡ o.path l → Rooted o rp behind stands
+      root : o.path p ≡ o.path l → Rooted o rp behind views
       root path = elim (same_or_not 0 i) [
         | inl w ↦
-            let old : s.rooted.state ≡ l = one_state before stood 0 s.rooted.first f s.rooted.state l s.rooted.status lives s.rooted.has (subst (λ z. Has before stood z f l lives) (sym w) has) in
-            record { first = g; state = p; status = forks (length ks); has = subst (λ z. Has behind stands z g p (forks (length ks))) (sym w) changed.parent; at_root = place_same rp l p path ∙ (ap (place o rp) (sym old) ∙ s.rooted.at_root) }
+            let old : s.rooted.state ≡ l = one_state before old_views 0 s.rooted.first f s.rooted.state l s.rooted.status lives s.rooted.has (subst (λ z. Has before old_views z f l lives) (sym w) has) in
+            record { first = g; state = p; status = forks (length ks); has = subst (λ z. Has behind views z g p (forks (length ks))) (sym w) changed.parent; at_root = place_same rp l p path ∙ (ap (place o rp) (sym old) ∙ s.rooted.at_root) }
         | inr n ↦ record { first = s.rooted.first; state = s.rooted.state; status = s.rooted.status; has = changed.others 0 s.rooted.first s.rooted.state s.rooted.status n s.rooted.has; at_root = s.rooted.at_root }
       ]
 
@@ -218,38 +218,38 @@ module _ {S : Type 0} (o : Ops S) (law : LocalLaws o) where
   closed_there : (l : S) (ks : Nodes S) (a : Acted S) → act_here o (Forked l ks) ≡ Some a → (all_done ks ≡ true) × (closed o l (states ks) (prevailing_death ks) ≡ a)
   closed_there l ks a e = cond_some (all_done ks) (closed o l (states ks) (prevailing_death ks)) a e
 
-  has_closed : (rp : Path) (before behind : List S) (stood stands : List RecordView) (t u : Tree S) (i g n : ℕ) (l : S) (a : Acted S)
-      → Represents o rp before stood t.root → Has before stood i g l (forks n) → after o (Close (o.path l)) t ≡ Some u → a ≡ closed o l (segment g n before) (prevailing_among (segment g n stood))
-      → HasClosed before behind stood stands i g n (state a.node) (process_status a.node) → Represents o rp behind stands u.root
-  has_closed rp before behind stood stands t u i g n l a s has h is changed =
+  has_closed : (rp : Path) (before behind : List S) (old_views views : List RecordView) (t u : Tree S) (i g n : ℕ) (l : S) (a : Acted S)
+      → Represents o rp before old_views t.root → Has before old_views i g l (forks n) → after o (Close (o.path l)) t ≡ Some u → a ≡ closed o l (segment g n before) (prevailing_among (segment g n old_views))
+      → HasClosed before behind old_views views i g n (state a.node) (process_status a.node) → Represents o rp behind views u.root
+  has_closed rp before behind old_views views t u i g n l a s has h is changed =
       let q = place o rp l in
       let k = seen_fork (at q t.root) l n (s.agrees.shown i g l (forks n) has) in
       let ks = k.0 in
       let there = k.1 in
-      let kids = children_are_represented o rp before stood t.root i g n l ks s.agrees has there in
+      let kids = children_are_represented o rp before old_views t.root i g n l ks s.agrees has there in
       let x = acts_by rp l (Forked l ks) t u (Close (o.path l)) s.root_path refl h there in
       let w = closed_there l ks x.acted x.acts in
       let same : x.acted ≡ a = sym w.1 ∙ ((λ j. closed o l (kids.1 j) (kids.2 j)) ∙ sym is) in
       let rest : IsReplaced (place o rp l) (Forked l ks) a.node t.root u.root = subst (λ (z : Acted S). IsReplaced q (Forked l ks) z.node t.root u.root) same x.replaced in
       let path : o.path (state a.node) ≡ o.path l = act_path q t.root (Forked l ks) a s.sound there (x.acts ∙ ap Some same) in
-      let leaf : is_leaf a.node ≡ true = ap (λ (z : Acted S). is_leaf z.node) is ∙ closed_leaf o l (segment g n before) (prevailing_among (segment g n stood)) in
+      let leaf : is_leaf a.node ≡ true = ap (λ (z : Acted S). is_leaf z.node) is ∙ closed_leaf o l (segment g n before) (prevailing_among (segment g n old_views)) in
       let many = kids.0 in
-      let ok = agrees_closed o rp before behind stood stands t.root i g l ks a.node s.agrees (subst (λ z. Has before stood i g l (forks z)) (sym many) has) there w.0
-      (subst (λ z. HasClosed before behind stood stands i g z (state a.node) (process_status a.node)) (sym many) changed) leaf (place_same rp l (state a.node) path) in
-      shows_after rp before behind stood stands t u (Close (o.path l)) s h (root path) (subst (Agrees o rp behind stands) (sym (is_put q (Forked l ks) a.node t.root u.root rest)) ok)
+      let ok = agrees_closed o rp before behind old_views views t.root i g l ks a.node s.agrees (subst (λ z. Has before old_views i g l (forks z)) (sym many) has) there w.0
+      (subst (λ z. HasClosed before behind old_views views i g z (state a.node) (process_status a.node)) (sym many) changed) leaf (place_same rp l (state a.node) path) in
+      shows_after rp before behind old_views views t u (Close (o.path l)) s h (root path) (subst (Agrees o rp behind views) (sym (is_put q (Forked l ks) a.node t.root u.root rest)) ok)
     where
-      root : o.path (state a.node) ≡ o.path l → Rooted o rp behind stands
+      root : o.path (state a.node) ≡ o.path l → Rooted o rp behind views
       root path = elim (same_or_not 0 i) [
         | inl w ↦
-            let old : s.rooted.state ≡ l = one_state before stood 0 s.rooted.first g s.rooted.state l s.rooted.status (forks n) s.rooted.has (subst (λ z. Has before stood z g l (forks n)) (sym w) has) in
-            record { first = changed.first; state = state a.node; status = process_status a.node; has = subst (λ z. Has behind stands z changed.first (state a.node) (process_status a.node)) (sym w) changed.parent; at_root = place_same rp l (state a.node) path ∙ (ap (place o rp) (sym old) ∙ s.rooted.at_root) }
+            let old : s.rooted.state ≡ l = one_state before old_views 0 s.rooted.first g s.rooted.state l s.rooted.status (forks n) s.rooted.has (subst (λ z. Has before old_views z g l (forks n)) (sym w) has) in
+            record { first = changed.first; state = state a.node; status = process_status a.node; has = subst (λ z. Has behind views z changed.first (state a.node) (process_status a.node)) (sym w) changed.parent; at_root = place_same rp l (state a.node) path ∙ (ap (place o rp) (sym old) ∙ s.rooted.at_root) }
         | inr other ↦ record {
           first = s.rooted.first;
           state = s.rooted.state;
           status = s.rooted.status;
           has = changed.others 0 s.rooted.first s.rooted.state s.rooted.status other
               (λ b less e. let z = s.agrees.below i g n l has b less in
-              let same = one_state before stood 0 s.rooted.first z.0 s.rooted.state z.1 s.rooted.status z.2 s.rooted.has (subst (λ y. Has before stood y z.0 z.1 z.2) (sym e) z.3) in
+              let same = one_state before old_views 0 s.rooted.first z.0 s.rooted.state z.1 s.rooted.status z.2 s.rooted.has (subst (λ y. Has before old_views y z.0 z.1 z.2) (sym e) z.3) in
               nothing_before b (place o rp l) (sym s.rooted.at_root ∙ (ap (place o rp) same ∙ z.4)))
               s.rooted.has;
           at_root = s.rooted.at_root;
@@ -264,43 +264,43 @@ module _ {S : Type 0} (o : Ops S) (law : LocalLaws o) where
   got_path rp c v s ends sound = refl
   got_path rp c v s (dies d) sound = refl
 
-  has_met : (rp : Path) (before behind : List S) (stands : List RecordView) (t u : Tree S) (c : Channel) (v : ℤ)
-      → Represents o rp before stands t.root → after o (Meet c) t ≡ Some u → v ≡ value_of o c (source o c t.root) → HaveReceived o c v stands before behind → Represents o rp behind stands u.root
-  has_met rp before behind stands t u c v s h is changed =
-      let ok = agrees_met o c v rp before behind stands t.root changed (λ i f l k has. stays i f l k has) s.agrees in
+  has_met : (rp : Path) (before behind : List S) (views : List RecordView) (t u : Tree S) (c : Channel) (v : ℤ)
+      → Represents o rp before views t.root → after o (Meet c) t ≡ Some u → v ≡ value_of o c (source o c t.root) → HaveReceived o c v views before behind → Represents o rp behind views u.root
+  has_met rp before behind views t u c v s h is changed =
+      let ok = agrees_met o c v rp before behind views t.root changed (λ i f l k has. stays i f l k has) s.agrees in
       let r = s.rooted in
-      shows_after rp before behind stands stands t u (Meet c) s h
-      (record { first = r.first; state = got o c v r.status r.state; status = r.status; has = record { state_is = changed.gets 0 r.first r.state r.status r.has; stands_so = r.has.stands_so }; at_root = stays 0 r.first r.state r.status r.has ∙ r.at_root })
-      (subst (Agrees o rp behind stands) (sym (met_root o t u c h ∙ ap (λ z. received o c z t.root) (sym is))) ok)
+      shows_after rp before behind views views t u (Meet c) s h
+      (record { first = r.first; state = got o c v r.status r.state; status = r.status; has = record { state_is = changed.gets 0 r.first r.state r.status r.has; view_is = r.has.view_is }; at_root = stays 0 r.first r.state r.status r.has ∙ r.at_root })
+      (subst (Agrees o rp behind views) (sym (met_root o t u c h ∙ ap (λ z. received o c z t.root) (sym is))) ok)
     where
-      stays : (i f : ℕ) (l : S) (k : ProcessStatus) → Has before stands i f l k → place o rp (got o c v k l) ≡ place o rp l
+      stays : (i f : ℕ) (l : S) (k : ProcessStatus) → Has before views i f l k → place o rp (got o c v k l) ≡ place o rp l
       stays i f l k has = place_same rp l (got o c v k l) (got_path rp c v l k (λ e.
           sound_at o (place o rp l) t.root (Live l) s.sound.below (seen_live (at (place o rp l) t.root) l (s.agrees.shown i f l k has ∙ ap (λ z. Some (l, z)) e))))
 
   -- ---- a poison
 
-  has_poisoned : (rp : Path) (states' : List S) (stood stands : List RecordView) (t u : Tree S) (c : Channel) (i f g b n : ℕ) (l k : S) (x : ProcessStatus)
-      → Represents o rp states' stood t.root → Has states' stood i g l (forks n) → b < n → Has states' stood (g + b) f k x → after o (Poison (o.path k) c) t ≡ Some u
-      → HaveDied o rp (place o rp k) c (death (o.handlers l - 1)) states' stood stands → Represents o rp states' stands u.root
-  has_poisoned rp states' stood stands t u c i f g b n l k x s has less child h changed =
+  has_poisoned : (rp : Path) (states' : List S) (old_views views : List RecordView) (t u : Tree S) (c : Channel) (i f g b n : ℕ) (l k : S) (x : ProcessStatus)
+      → Represents o rp states' old_views t.root → Has states' old_views i g l (forks n) → b < n → Has states' old_views (g + b) f k x → after o (Poison (o.path k) c) t ≡ Some u
+      → HaveDied o rp (place o rp k) c (death (o.handlers l - 1)) states' old_views views → Represents o rp states' views u.root
+  has_poisoned rp states' old_views views t u c i f g b n l k x s has less child h changed =
       let y = (events_show o law).poisons t u (o.path k) c h in
       let r = route_rest rp (o.path k) (y.fork_place ++ y.branch ∷ []) (ap (λ z. route z (o.path k)) (sym s.root_path) ∙ y.leads) in
       let z = s.agrees.below i g n l has b less in
-      let same : k ≡ z.1 = one_state states' stood (g + b) f z.0 k z.1 x z.2 child z.3 in
+      let same : k ≡ z.1 = one_state states' old_views (g + b) f z.0 k z.1 x z.2 child z.3 in
       let at_child : y.fork_place ++ y.branch ∷ [] ≡ place o rp l ++ b ∷ [] = r.1 ∙ (ap (place o rp) same ∙ z.4) in
       let fork_is : y.fork_place ≡ place o rp l = one_less y.fork_place (place o rp l) y.branch b at_child in
       let w = seen_fork (at (place o rp l) t.root) l n (s.agrees.shown i g l (forks n) has) in
       let parent : y.parent ≡ l = ap state (some_same (Forked y.parent y.children) (Forked l w.0) (sym y.fork ∙ (ap (λ z. at z t.root) fork_is ∙ w.1))) in
       let d : death (o.handlers y.parent - 1) ≡ death (o.handlers l - 1) = ap (λ z. death (o.handlers z - 1)) parent in
-      let ok = agrees_poisoned o c rp (place o rp k) (death (o.handlers l - 1)) states' stood stands t.root u.root s.agrees changed
+      let ok = agrees_poisoned o c rp (place o rp k) (death (o.handlers l - 1)) states' old_views views t.root u.root s.agrees changed
       (λ r'. ap (λ z. seen (at (z ++ r') u.root)) (sym r.1) ∙ (y.killed r' ∙ (λ j. seen_killed o c (d j) (seen (at (r.1 j ++ r') t.root)))))
       (λ p far. y.aside p (λ r' e. far r' (e ∙ ap (λ z. z ++ r') r.1))) in
-      shows_after rp states' states' stood stands t u (Poison (o.path k) c) s h (root changed) ok
+      shows_after rp states' states' old_views views t u (Poison (o.path k) c) s h (root changed) ok
     where
-      root : HaveDied o rp (place o rp k) c (death (o.handlers l - 1)) states' stood stands → Rooted o rp states' stands
+      root : HaveDied o rp (place o rp k) c (death (o.handlers l - 1)) states' old_views views → Rooted o rp states' views
       root changed = elim (aside_or_further (place o rp k) (place o rp s.rooted.state)) [
-        | inl far ↦ record { first = s.rooted.first; state = s.rooted.state; status = s.rooted.status; has = record { state_is = s.rooted.has.state_is; stands_so = changed.aside 0 s.rooted.first s.rooted.state s.rooted.status s.rooted.has far }; at_root = s.rooted.at_root }
-        | inr far ↦ record { first = s.rooted.first; state = s.rooted.state; status = killed o c (death (o.handlers l - 1)) s.rooted.state s.rooted.status; has = record { state_is = s.rooted.has.state_is; stands_so = changed.below 0 s.rooted.first s.rooted.state s.rooted.status far.0 s.rooted.has far.1 }; at_root = s.rooted.at_root }
+        | inl far ↦ record { first = s.rooted.first; state = s.rooted.state; status = s.rooted.status; has = record { state_is = s.rooted.has.state_is; view_is = changed.aside 0 s.rooted.first s.rooted.state s.rooted.status s.rooted.has far }; at_root = s.rooted.at_root }
+        | inr far ↦ record { first = s.rooted.first; state = s.rooted.state; status = killed o c (death (o.handlers l - 1)) s.rooted.state s.rooted.status; has = record { state_is = s.rooted.has.state_is; view_is = changed.below 0 s.rooted.first s.rooted.state s.rooted.status far.0 s.rooted.has far.1 }; at_root = s.rooted.at_root }
       ]
 
   pub events_preserve : EventsPreserve o
@@ -315,9 +315,9 @@ module _ {S : Type 0} (o : Ops S) (law : LocalLaws o) where
 
 module _ {S : Type 0} (o : Ops S) where
   pub one_change_is_represented : OneChangeIsRepresented o
-  one_change_is_represented rp before behind stood stands old new m a i f ok has leaf leaf' path x changed =
-      subst (Agrees o rp behind stands) (sym (is_put (place o rp (state m)) m a old new x))
-      (agrees_changed o rp before behind stood stands old m a i f ok has x.was leaf leaf' (ap (λ z. branches (drop (length rp) z)) path) changed)
+  one_change_is_represented rp before behind old_views views old new m a i f ok has leaf leaf' path x changed =
+      subst (Agrees o rp behind views) (sym (is_put (place o rp (state m)) m a old new x))
+      (agrees_changed o rp before behind old_views views old m a i f ok has x.was leaf leaf' (ap (λ z. branches (drop (length rp) z)) path) changed)
 
   own_branches : (p : Path) → branches (drop (length p) p) ≡ []
   own_branches [] = refl
@@ -328,10 +328,10 @@ module _ {S : Type 0} (o : Ops S) where
     One i f t k = Has (l ∷ []) (used 0 lives ∷ []) i f t k
 
     is_one : (i f : ℕ) (t : S) (k : ProcessStatus) → One i f t k → (i ≡ 0) × (t ≡ l) × (k ≡ lives)
-    is_one zero f t k h = (refl, sym (some_same l t h.state_is), sort_same (some_same (used 0 lives) (used f k) h.stands_so))
+    is_one zero f t k h = (refl, sym (some_same l t h.state_is), status_same (some_same (used 0 lives) (used f k) h.view_is))
       where
-        sort_same : used 0 lives ≡ used f k → k ≡ lives
-        sort_same e = cc
+        status_same : used 0 lives ≡ used f k → k ≡ lives
+        status_same e = cc
     is_one (suc i) f t k h = none_some t h.state_is
 
     no_forks : (n : ℕ) → forks n ≡ lives → ⊥
@@ -349,6 +349,6 @@ module _ {S : Type 0} (o : Ops S) where
   start_represents l s = record {
     sound = s;
     root_path = refl;
-    rooted = record { first = 0; state = l; status = lives; has = record { state_is = refl; stands_so = refl }; at_root = own_branches (o.path l) };
+    rooted = record { first = 0; state = l; status = lives; has = record { state_is = refl; view_is = refl }; at_root = own_branches (o.path l) };
     agrees = agrees_one l;
   }

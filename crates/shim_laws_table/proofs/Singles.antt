@@ -13,7 +13,7 @@ use Rattle.shim_semantics.proofs.ReplacedNodes.{put}
 use Rattle.shim_semantics.proofs.Replaced.{sound_at, replaced}
 use Rattle.shim_laws_schedules.proofs.Stood.{base_below}
 use Rattle.shim_base.proofs.Facts.{some_same}
-use Rattle.shim_laws_table.specs.Seen.{lives, process_status, is_leaf, place}
+use Rattle.shim_laws_table.specs.NodeStatus.{lives, process_status, is_leaf, place}
 use Rattle.shim_laws_table.specs.Agrees.{RecordView, Has, Agrees, Represents}
 use Rattle.shim_laws_table.specs.Places.{IsReplaced}
 use Rattle.shim_laws_table.specs.Changes.{HasChanged}
@@ -30,27 +30,27 @@ module _ {S : Type 0} (o : Ops S) (law : LocalLaws o) where
   root_put (i ∷ q) (Ended l) m a e same = refl
   root_put (i ∷ q) (Dead l d) m a e same = refl
 
-  single : (rp : Path) (before behind : List S) (stood stands : List RecordView) (old new : Node S) (i f : ℕ) (l : S) (a : Node S) → Represents o rp before stood old → Has before stood i f l lives → Keeps o (Live l) a → is_leaf a ≡ true
-      → IsReplaced (place o rp l) (Live l) a old new → HasChanged before behind stood stands i (state a) (process_status a) → Represents o rp behind stands new
-  single rp before behind stood stands old new i f l a s has keeps leaf rep changed =
+  single : (rp : Path) (before behind : List S) (old_views views : List RecordView) (old new : Node S) (i f : ℕ) (l : S) (a : Node S) → Represents o rp before old_views old → Has before old_views i f l lives → Keeps o (Live l) a → is_leaf a ≡ true
+      → IsReplaced (place o rp l) (Live l) a old new → HasChanged before behind old_views views i (state a) (process_status a) → Represents o rp behind views new
+  single rp before behind old_views views old new i f l a s has keeps leaf rep changed =
       let q = place o rp l in
       let is = is_put q (Live l) a old new rep in
       let path = keeps.follows.path in
       record {
         sound = subst (IsSound o) (sym is) (replaced o law q old (Live l) a s.sound rep.was keeps);
         root_path = ap (λ z. o.path (state z)) is ∙ (root_put q old (Live l) a rep.was path ∙ s.root_path);
-        rooted = rooted_changed o law rp before behind stood stands i f l (state a) lives (process_status a) s.rooted has path changed;
-        agrees = subst (Agrees o rp behind stands) (sym is) (agrees_changed o rp before behind stood stands old (Live l) a i f s.agrees has rep.was refl leaf (ap (λ z. branches (drop (length rp) z)) path) changed);
+        rooted = rooted_changed o law rp before behind old_views views i f l (state a) lives (process_status a) s.rooted has path changed;
+        agrees = subst (Agrees o rp behind views) (sym is) (agrees_changed o rp before behind old_views views old (Live l) a i f s.agrees has rep.was refl leaf (ap (λ z. branches (drop (length rp) z)) path) changed);
       }
 
   pub single_changes_are_represented : SingleChangesAreRepresented o
   single_changes_are_represented = record {
-    received = λ rp before behind stood stands old new i f l c v s has stop rep changed.
+    received = λ rp before behind old_views views old new i f l c v s has stop rep changed.
         let sound = sound_at o (place o rp l) old (Live l) s.sound.below rep.was in
-        single rp before behind stood stands old new i f l (Live (o.receive l v)) s has (stays_keeps o (Live l) (Live (o.receive l v)) (call_stays o law l (o.receive l v) sound (by_receive c v stop refl))) refl rep changed;
-    died = λ rp before behind stood stands old new i f l d s has less rep changed.
+        single rp before behind old_views views old new i f l (Live (o.receive l v)) s has (stays_keeps o (Live l) (Live (o.receive l v)) (call_stays o law l (o.receive l v) sound (by_receive c v stop refl))) refl rep changed;
+    died = λ rp before behind old_views views old new i f l d s has less rep changed.
         let sound = sound_at o (place o rp l) old (Live l) s.sound.below rep.was in
-        single rp before behind stood stands old new i f l (Dead l d) s has (stays_keeps o (Live l) (Dead l d) (death_stays o l d sound less)) refl rep changed;
+        single rp before behind old_views views old new i f l (Dead l d) s has (stays_keeps o (Live l) (Dead l d) (death_stays o l d sound less)) refl rep changed;
     handled = λ root m q l ks b r s e h.
         let sound = sound_at o q root (Forked l ks) s.below e in
         base_below o law l sound.number 0 ks b r m sound.children h;

@@ -11,7 +11,7 @@ use Rattle.shim_laws_schedules.proofs.Two.{two_count}
 use Rattle.shim_laws_schedules.proofs.Unshared.{no_name}
 use Rattle.shim_base.proofs.Facts.{some_same, none_some, true_or_false, false_unless, or_left, or_right}
 use Rattle.shim_base.proofs.SamePaths.{same_channel_refl}
-use Rattle.shim_laws_table.specs.Seen.{ProcessStatus, lives, process_status, place}
+use Rattle.shim_laws_table.specs.NodeStatus.{ProcessStatus, lives, process_status, place}
 use Rattle.shim_laws_table.specs.Agrees.{RecordView, Has, Represents}
 use Rattle.shim_laws_table.specs.Sources.{is_before, SourcesByRecords}
 use Rattle.shim_laws_table.proofs.SameTrees.{seen_live, seen_some}
@@ -106,15 +106,15 @@ module _ {S : Type 0} (o : Ops S) (c : Channel) where
     source_none_in (node_and k ks) e zero q m f = source_none k (no_option (source o c k) (source_among o c ks) e).0 q m f
     source_none_in (node_and k ks) e (suc i) q m f = source_none_in ks (no_option (source o c k) (source_among o c ks) e).1 i q m f
 
-  module _ (rp : Path) (records : List S) (stands : List RecordView) (root : Node S) (s : Represents o rp records stands root) where
-    -- two that carry it stand in one place
+  module _ (rp : Path) (records : List S) (views : List RecordView) (root : Node S) (s : Represents o rp records views root) where
+    -- two that carry it are in one place
     one_place : (p q : List ℕ) (m k : Node S) → at p root ≡ Some m → at q root ≡ Some k → o.carries (state m) c ≡ true → o.carries (state k) c ≡ true → p ≡ q
     one_place p q m k e f g h = elim (same_places p q) [
       | inl n ↦ absurd (two_is_more _ (two_count (λ z. o.carries z c) p q root m k n e f g h) (s.sound.carrying c))
       | inr w ↦ w
     ]
 
-    source_is : (i f : ℕ) (l : S) (k : ProcessStatus) → Has records stands i f l k → o.carries l c ≡ true → source o c root ≡ Some l
+    source_is : (i f : ℕ) (l : S) (k : ProcessStatus) → Has records views i f l k → o.carries l c ≡ true → source o c root ≡ Some l
     source_is i f l k has carries = on (source o c root) refl
       where
         on : (x : Option S) → source o c root ≡ x → source o c root ≡ Some l
@@ -128,18 +128,18 @@ module _ {S : Type 0} (o : Ops S) (c : Channel) where
             let same : y.node ≡ w.0 = some_same y.node w.0 (sym y.there ∙ (ap (λ z. at z root) places ∙ w.1)) in
             e ∙ ap Some (sym y.is ∙ (ap state same ∙ w.2))
 
-    no_source : ((i f : ℕ) (l : S) (k : ProcessStatus) → Has records stands i f l k → o.carries l c ≡ false) → source o c root ≡ None
+    no_source : ((i f : ℕ) (l : S) (k : ProcessStatus) → Has records views i f l k → o.carries l c ≡ false) → source o c root ≡ None
     no_source none = on (source o c root) refl
       where
         on : (x : Option S) → source o c root ≡ x → source o c root ≡ None
         on None e = e
         on (Some x) e =
             let y = source_found root x e in
-            let w = covered o rp records stands s.rooted root s.agrees y.branches y.node y.there in
+            let w = covered o rp records views s.rooted root s.agrees y.branches y.node y.there in
             let same : w.state_is ≡ x = ap (λ z. z.0) (some_same (w.state_is, w.status_is) (state y.node, process_status y.node) w.is_seen) ∙ y.is in
             clash (o.carries x c) y.carries (ap (λ z. o.carries z c) (sym same) ∙ none w.number w.first w.state_is w.status_is w.has)
 
-    carry_once : (i j f g : ℕ) (l m : S) (k h : ProcessStatus) → Has records stands i f l k → Has records stands j g m h → o.carries l c ≡ true → o.carries m c ≡ true → i ≡ j
+    carry_once : (i j f g : ℕ) (l m : S) (k h : ProcessStatus) → Has records views i f l k → Has records views j g m h → o.carries l c ≡ true → o.carries m c ≡ true → i ≡ j
     carry_once i j f g l m k h a b x y =
         let v = seen_some (at (place o rp l) root) l k (s.agrees.shown i f l k a) in
         let w = seen_some (at (place o rp m) root) m h (s.agrees.shown j g m h b) in
@@ -186,16 +186,16 @@ module _ {S : Type 0} (o : Ops S) (c : Channel) where
 module _ {S : Type 0} (o : Ops S) where
   pub sources_by_records : SourcesByRecords o
   sources_by_records = record {
-    carrier = λ rp records stands root c i f l k s has carries. source_is o c rp records stands root s i f l k has carries;
-    none = λ rp records stands root c s none. no_source o c rp records stands root s none;
-    once = λ rp records stands root c i j f g l m k h s a b x y. carry_once o c rp records stands root s i j f g l m k h a b x y;
-    name = λ rp records stands root c i f l d s has stop is first.
+    carrier = λ rp records views root c i f l k s has carries. source_is o c rp records views root s i f l k has carries;
+    none = λ rp records views root c s none. no_source o c rp records views root s none;
+    once = λ rp records views root c i j f g l m k h s a b x y. carry_once o c rp records views root s i j f g l m k h a b x y;
+    name = λ rp records views root c i f l d s has stop is first.
         let named : name_for c (next_channel (o.stop l)) ≡ Some d.name = ap (λ z. name_for c (next_channel z)) stop ∙ ap (λ b. cond b (Some d.name) None) (ap (same_channel d.channel) (sym is) ∙ same_channel_refl d.channel) in
         first_is o c l d.name named (place o rp l) root (seen_live (at (place o rp l) root) l (s.agrees.shown i f l lives has))
         (λ p t e y.
-        let w = covered o rp records stands s.rooted root s.agrees p (Live t) e in
+        let w = covered o rp records views s.rooted root s.agrees p (Live t) e in
         let same = some_same (w.state_is, w.status_is) (t, lives) w.is_seen in
-        let has' : Has records stands w.number w.first t lives = subst (λ z. Has records stands w.number w.first t z) (ap (λ z. z.1) same) (subst (λ z. Has records stands w.number w.first z w.status_is) (ap (λ z. z.0) same) w.has) in
+        let has' : Has records views w.number w.first t lives = subst (λ z. Has records views w.number w.first t z) (ap (λ z. z.1) same) (subst (λ z. Has records views w.number w.first z w.status_is) (ap (λ z. z.0) same) w.has) in
         let placed : place o rp t ≡ p = ap (place o rp) (sym (ap (λ z. z.0) same)) ∙ w.is_there in
         ap (λ z. is_before z (place o rp l)) (sym placed) ∙ first w.number w.first t has' y);
   }

@@ -15,7 +15,7 @@ use Rattle.shim_semantics.proofs.ReplacedNodes.{put, put_child}
 use Rattle.shim_semantics.proofs.Replaced.{sound_at}
 use Rattle.shim_semantics.proofs.SoundEvents.{here_keeps}
 use Rattle.shim_laws_schedules.proofs.Homes.{unshared_is_unshared}
-use Rattle.shim_laws_table.specs.Seen.{ProcessStatus, process_status, is_leaf, place}
+use Rattle.shim_laws_table.specs.NodeStatus.{ProcessStatus, process_status, is_leaf, place}
 use Rattle.shim_laws_table.specs.Agrees.{RecordView, Has, Represents}
 use Rattle.shim_laws_table.specs.Places.{IsReplaced}
 use Rattle.shim_laws_table.specs.Counts.{Tally, child_status}
@@ -24,7 +24,7 @@ use Rattle.shim_laws_table.specs.Dooms.{min_dead_label, min_dead_label_among}
 use Rattle.shim_laws_table.specs.LoweredLabels.{Labelled, LabelsOnTheWay}
 use Rattle.shim_laws_table.specs.Sufficing.{GivenSuffice, leaf_status, ActorsAreRead}
 use Rattle.shim_laws_table.proofs.SameTrees.{is_put}
-use Rattle.shim_laws_table.proofs.Way.{way_from, with_split, fork_above}
+use Rattle.shim_laws_table.proofs.PlacesAbove.{way_from, with_split, fork_above}
 use Rattle.shim_laws_table.proofs.Begun.{fork_parts}
 use Rattle.shim_laws_table.proofs.Brought.{counts_follow}
 use Rattle.shim_laws_table.proofs.Foreign.{foreign_stays}
@@ -55,14 +55,14 @@ some_counts : (o : Option Tally) → o ≢ None → (y : Tally) × (o ≡ Some y
 some_counts None h = absurd (h refl)
 some_counts (Some y) h = (y, refl)
 
-module _ {S : Type 0} (o : Ops S) (law : LocalLaws o) (rp : Path) (records : List S) (stands : List RecordView) (c : Channel) (old new m : Node S) (a : Acted S) (x f : ℕ) (s : S) (k : ProcessStatus)
-    (sound : IsSound o old) (shown : Represents o rp records stands new) (has : Has records stands x f s k) (rep : IsReplaced (place o rp s) m a.node old new) (acts : act_here o m ≡ Some a) (not_given : IsGiven o s c → o.shares s c ≡ true → ⊥) where
+module _ {S : Type 0} (o : Ops S) (law : LocalLaws o) (rp : Path) (records : List S) (views : List RecordView) (c : Channel) (old new m : Node S) (a : Acted S) (x f : ℕ) (s : S) (k : ProcessStatus)
+    (sound : IsSound o old) (shown : Represents o rp records views new) (has : Has records views x f s k) (rep : IsReplaced (place o rp s) m a.node old new) (acts : act_here o m ≡ Some a) (not_given : IsGiven o s c → o.shares s c ≡ true → ⊥) where
   abbrev q : List ℕ
   q = place o rp s
 
   -- its state is what it says
   its_state : state a.node ≡ s
-  its_state = let w = node_of o rp records stands new shown x f s k has in ap state (some_same a.node w.node (sym rep.is ∙ w.there)) ∙ w.state_is
+  its_state = let w = node_of o rp records views new shown x f s k has in ap state (some_same a.node w.node (sym rep.is ∙ w.there)) ∙ w.state_is
 
   -- it shares the channel only where it declared it
   lacks : ((r : Path) → c.home ≢ o.path s ++ r) → o.shares s c ≡ false
@@ -92,24 +92,24 @@ module _ {S : Type 0} (o : Ops S) (law : LocalLaws o) (rp : Path) (records : Lis
     no_label_now : min_dead_label o c a.node ≡ None
     no_label_now = unshared_least o c a.node (unshared_is_unshared o c a.node (sound_at o q new a.node shown.sound.below rep.is) (ap (λ z. o.shares z c) its_state ∙ lacks out) (λ r e. out r (e ∙ ap (λ z. o.path z ++ r) its_state)))
 
-  module _ (counts : ℕ → Option Tally) (have : HaveCounts o rp records stands c counts new) where
-    counts_stay : OnTheWay o rp records stands c counts old new q → Tallied o rp records stands c counts new
+  module _ (counts : ℕ → Option Tally) (have : HaveCounts o rp records views c counts new) where
+    counts_stay : OnTheWay o rp records views c counts old new q → Tallied o rp records views c counts new
     counts_stay way = elim (below_or_not (o.path s) c.home) [
-      | inl e ↦ (counts_follow o law).own rp records stands c old new x f s k e.0 counts shown has e.1 have way
-      | inr out ↦ (counts_follow o law).alike rp records stands c old new m a.node q counts rep ((foreign_stays o law).reads old m q a c sound rep.was acts (out_before out) (lacked out)) way
+      | inl e ↦ (counts_follow o law).own rp records views c old new x f s k e.0 counts shown has e.1 have way
+      | inr out ↦ (counts_follow o law).alike rp records views c old new m a.node q counts rep ((foreign_stays o law).reads old m q a c sound rep.was acts (out_before out) (lacked out)) way
     ]
 
-    module _ (labels : ℕ → Option ℕ) (way : LabelsOnTheWay o rp records stands c counts labels old new q) where
-      cut_off : (r : Path) → c.home ≡ o.path s ++ r → Labelled o rp records stands c counts labels new
+    module _ (labels : ℕ → Option ℕ) (way : LabelsOnTheWay o rp records views c counts labels old new q) where
+      cut_off : (r : Path) → c.home ≡ o.path s ++ r → Labelled o rp records views c counts labels new
       cut_off r home i d n u l ks fork counted there = on (is_above (place o rp u) q) refl
         where
           on : (b : Bool) → is_above (place o rp u) q ≡ b → labels i ≡ min_dead_label_among o c ks
           on false w = way i d n u l ks fork counted (ap (λ z. at (place o rp u) (cond z old new)) w ∙ there)
           on true w =
               let y = some_counts (counts i) counted in
-              absurd (none_above o rp records stands new shown c x f i d n s u k r has home fork w (counts_share o rp records stands new shown c counts have i d n u y.0 fork y.1))
+              absurd (none_above o rp records views new shown c x f i d n s u k r has home fork w (counts_share o rp records views new shown c counts have i d n u y.0 fork y.1))
 
-      as_before : min_dead_label o c a.node ≡ min_dead_label o c m → Labelled o rp records stands c counts labels new
+      as_before : min_dead_label o c a.node ≡ min_dead_label o c m → Labelled o rp records views c counts labels new
       as_before same i d n u l ks fork counted there = on (is_above (place o rp u) q) refl
         where
           on : (b : Bool) → is_above (place o rp u) q ≡ b → labels i ≡ min_dead_label_among o c ks
@@ -123,7 +123,7 @@ module _ {S : Type 0} (o : Ops S) (law : LocalLaws o) (rp : Path) (records : Lis
               let stays = (min_labels_follow o).stays c old new m a.node q (place o rp u) v.state v.children (put_child y.branch y.rest a.node v.children) rep same w v.there now in
               way i d n u v.state v.children fork counted (ap (λ z. at (place o rp u) (cond z old new)) w ∙ v.there) ∙ (sym stays ∙ ap (min_dead_label_among o c) (sym parts.1))
 
-      labels_stay : Labelled o rp records stands c counts labels new
+      labels_stay : Labelled o rp records views c counts labels new
       labels_stay = elim (below_or_not (o.path s) c.home) [
         | inl e ↦ cut_off e.0 e.1
         | inr out ↦ as_before (no_label_now out ∙ sym (no_label_before out))
@@ -131,9 +131,9 @@ module _ {S : Type 0} (o : Ops S) (law : LocalLaws o) (rp : Path) (records : Lis
 
 pub given_suffice : {S : Type 0} (o : Ops S) → LocalLaws o → GivenSuffice o
 given_suffice o law = record {
-  counts = λ rp records stands c old new m a x f s k counts sound shown has rep acts not_given have way. counts_stay o law rp records stands c old new m a x f s k sound shown has rep acts not_given counts have way;
-  labels = λ rp records stands c old new m a x f s k counts labels sound shown has rep acts not_given have way.
-      labels_stay o law rp records stands c old new m a x f s k sound shown has rep acts not_given counts have labels way;
+  counts = λ rp records views c old new m a x f s k counts sound shown has rep acts not_given have way. counts_stay o law rp records views c old new m a x f s k sound shown has rep acts not_given counts have way;
+  labels = λ rp records views c old new m a x f s k counts labels sound shown has rep acts not_given have way.
+      labels_stay o law rp records views c old new m a x f s k sound shown has rep acts not_given counts have labels way;
 }
 
 -- ---- what is read of the process

@@ -5,46 +5,46 @@ use Rattle.shim_local.specs.Process.{Ops}
 use Rattle.shim_semantics.specs.Nodes.{Node, Live, state}
 use Rattle.shim_semantics.specs.Places.{at}
 use Rattle.shim_semantics.specs.Sound.{IsSound}
-use Rattle.shim_laws_table.specs.Seen.{ProcessStatus, lives, forks, seen, place}
+use Rattle.shim_laws_table.specs.NodeStatus.{ProcessStatus, lives, forks, seen, place}
 
 -- what came of a process: the number of its first child, and what is seen of its node beside the state; or the record is free
 pub data RecordView : Type 0 where
   free : RecordView
   used : ℕ → ProcessStatus → RecordView
 
--- The states of the processes and what came of them stand side by side; a process's number is its place in both. The record with this number is in use, with this state and this status.
-pub record Has {S : Type 0} (states : List S) (stands : List RecordView) (i first : ℕ) (s : S) (k : ProcessStatus) : Type 0 where
+-- The states of the processes and what came of them are side by side; a process's number is its place in both. The record with this number is in use, with this state and this status.
+pub record Has {S : Type 0} (states : List S) (views : List RecordView) (i first : ℕ) (s : S) (k : ProcessStatus) : Type 0 where
   pub state_is : slice_get states i ≡ Some s
-  pub stands_so : slice_get stands i ≡ Some (used first k)
+  pub view_is : slice_get views i ≡ Some (used first k)
 
--- The root's path is rp, so that a state's own path tells its place.
-pub record Agrees {S : Type 0} (o : Ops S) (rp : Path) (states : List S) (stands : List RecordView) (root : Node S) : Type 0 where
+-- The root's path is rp, so that a state's own path determines its place.
+pub record Agrees {S : Type 0} (o : Ops S) (rp : Path) (states : List S) (views : List RecordView) (root : Node S) : Type 0 where
   -- what a record says is what is seen at its place
-  pub shown : (i f : ℕ) (s : S) (k : ProcessStatus) → Has states stands i f s k → seen (at (place o rp s) root) ≡ Some (s, k)
+  pub shown : (i f : ℕ) (s : S) (k : ProcessStatus) → Has states views i f s k → seen (at (place o rp s) root) ≡ Some (s, k)
   -- no two records have one place
-  pub apart : (i j f g : ℕ) (s t : S) (k h : ProcessStatus) → Has states stands i f s k → Has states stands j g t h → place o rp s ≡ place o rp t → i ≡ j
+  pub apart : (i j f g : ℕ) (s t : S) (k h : ProcessStatus) → Has states views i f s k → Has states views j g t h → place o rp s ≡ place o rp t → i ≡ j
   -- the children of a fork lie together, from the number of the first one
-  pub below : (i f n : ℕ) (s : S) → Has states stands i f s (forks n) → (b : ℕ) → b < n
-      → (g : ℕ) × (t : S) × (k : ProcessStatus) × Has states stands (f + b) g t k × (place o rp t ≡ place o rp s ++ b ∷ [])
+  pub below : (i f n : ℕ) (s : S) → Has states views i f s (forks n) → (b : ℕ) → b < n
+      → (g : ℕ) × (t : S) × (k : ProcessStatus) × Has states views (f + b) g t k × (place o rp t ≡ place o rp s ++ b ∷ [])
 
 -- the root has the record 0
-pub record Rooted {S : Type 0} (o : Ops S) (rp : Path) (states : List S) (stands : List RecordView) : Type 0 where
+pub record Rooted {S : Type 0} (o : Ops S) (rp : Path) (states : List S) (views : List RecordView) : Type 0 where
   pub first : ℕ
   pub state : S
   pub status : ProcessStatus
-  pub has : Has states stands 0 first state status
+  pub has : Has states views 0 first state status
   pub at_root : place o rp state ≡ []
 
 -- the records show a sound tree
-pub record Represents {S : Type 0} (o : Ops S) (rp : Path) (states : List S) (stands : List RecordView) (root : Node S) : Type 0 where
+pub record Represents {S : Type 0} (o : Ops S) (rp : Path) (states : List S) (views : List RecordView) (root : Node S) : Type 0 where
   pub sound : IsSound o root
   pub root_path : o.path (state root) ≡ rp
-  pub rooted : Rooted o rp states stands
-  pub agrees : Agrees o rp states stands root
+  pub rooted : Rooted o rp states views
+  pub agrees : Agrees o rp states views root
 
 -- records agree with one tree at most
 abbrev pub OneTree : {S : Type 0} → Ops S → Type 0
-OneTree {S} o = (rp : Path) (states : List S) (stands : List RecordView) (t u : Node S) → Rooted o rp states stands → Agrees o rp states stands t → Agrees o rp states stands u → t ≡ u
+OneTree {S} o = (rp : Path) (states : List S) (views : List RecordView) (t u : Node S) → Rooted o rp states views → Agrees o rp states views t → Agrees o rp states views u → t ≡ u
 
 -- one live process has one record
 abbrev pub StartRepresents : {S : Type 0} → Ops S → Type 0

@@ -6,7 +6,7 @@ use Rattle.shim_semantics.specs.Nodes.{Node, Nodes, Live, Forked, state, all_liv
 use Rattle.shim_semantics.specs.Acts.{Acted, act_here}
 use Rattle.shim_semantics.specs.Places.{at}
 use Rattle.shim_semantics.specs.Sound.{IsSound}
-use Rattle.shim_laws_table.specs.Seen.{lives, process_status, is_leaf, place}
+use Rattle.shim_laws_table.specs.NodeStatus.{lives, process_status, is_leaf, place}
 use Rattle.shim_laws_table.specs.Agrees.{RecordView, Has, Agrees}
 use Rattle.shim_laws_table.specs.Places.{IsReplaced}
 use Rattle.shim_laws_table.specs.Changes.{HasChanged, HasForked, HasClosed}
@@ -22,37 +22,37 @@ pub record AreOf {S : Type 0} (o : Ops S) (c : Channel) (p : S) (ks : Nodes S) (
 -- Where the counts were right for a channel, those above the change are still those of the tree before, and all others are those of the tree behind.
 pub record CountsBegin {S : Type 0} (o : Ops S) : Type 0 where
   -- a process with nothing below it has changed, or ended, or died
-  pub changed : (rp : Path) (before behind : List S) (stood stands : List RecordView) (c : Channel) (old new m a : Node S) (i : ℕ) (counts : ℕ → Option Tally)
-      → IsReplaced (place o rp (state m)) m a old new → is_leaf a ≡ true → o.given (state a) ≡ o.given (state m) → HasChanged before behind stood stands i (state a) (process_status a)
-      → Tallied o rp before stood c counts old → HaveCounts o rp before stood c counts old
-      → OnTheWay o rp behind stands c counts old new (place o rp (state m)) × HaveCounts o rp behind stands c counts new
+  pub changed : (rp : Path) (before behind : List S) (old_views views : List RecordView) (c : Channel) (old new m a : Node S) (i : ℕ) (counts : ℕ → Option Tally)
+      → IsReplaced (place o rp (state m)) m a old new → is_leaf a ≡ true → o.given (state a) ≡ o.given (state m) → HasChanged before behind old_views views i (state a) (process_status a)
+      → Tallied o rp before old_views c counts old → HaveCounts o rp before old_views c counts old
+      → OnTheWay o rp behind views c counts old new (place o rp (state m)) × HaveCounts o rp behind views c counts new
   -- it has forked
-  pub forked : (rp : Path) (before behind : List S) (stood stands : List RecordView) (c : Channel) (old new : Node S) (i f g : ℕ) (l p : S) (ks : List S) (counts now : ℕ → Option Tally)
-      → Agrees o rp before stood old → Has before stood i f l lives → IsReplaced (place o rp l) (Live l) (Forked p (all_live ks)) old new → o.path p ≡ o.path l → o.given p ≡ o.given l → HasForked before behind stood stands i g p ks
+  pub forked : (rp : Path) (before behind : List S) (old_views views : List RecordView) (c : Channel) (old new : Node S) (i f g : ℕ) (l p : S) (ks : List S) (counts now : ℕ → Option Tally)
+      → Agrees o rp before old_views old → Has before old_views i f l lives → IsReplaced (place o rp l) (Live l) (Forked p (all_live ks)) old new → o.path p ≡ o.path l → o.given p ≡ o.given l → HasForked before behind old_views views i g p ks
       → ((j : ℕ) → j ≢ i → now j ≡ counts j) → AreOf o c p (all_live ks) (now i)
-      → Tallied o rp before stood c counts old → HaveCounts o rp before stood c counts old
-      → OnTheWay o rp behind stands c now old new (place o rp l) × HaveCounts o rp behind stands c now new
+      → Tallied o rp before old_views c counts old → HaveCounts o rp before old_views c counts old
+      → OnTheWay o rp behind views c now old new (place o rp l) × HaveCounts o rp behind views c now new
   -- its fork has closed
-  pub closed : (rp : Path) (before behind : List S) (stood stands : List RecordView) (c : Channel) (old new : Node S) (i g n : ℕ) (l : S) (ks : Nodes S) (a : Node S) (counts now : ℕ → Option Tally)
-      → IsReplaced (place o rp l) (Forked l ks) a old new → is_leaf a ≡ true → o.given (state a) ≡ o.given l → HasClosed before behind stood stands i g n (state a) (process_status a)
+  pub closed : (rp : Path) (before behind : List S) (old_views views : List RecordView) (c : Channel) (old new : Node S) (i g n : ℕ) (l : S) (ks : Nodes S) (a : Node S) (counts now : ℕ → Option Tally)
+      → IsReplaced (place o rp l) (Forked l ks) a old new → is_leaf a ≡ true → o.given (state a) ≡ o.given l → HasClosed before behind old_views views i g n (state a) (process_status a)
       → ((j : ℕ) → j ≢ i → now j ≡ counts j)
-      → Tallied o rp before stood c counts old → HaveCounts o rp before stood c counts old
-      → OnTheWay o rp behind stands c now old new (place o rp l) × HaveCounts o rp behind stands c now new
+      → Tallied o rp before old_views c counts old → HaveCounts o rp before old_views c counts old
+      → OnTheWay o rp behind views c now old new (place o rp l) × HaveCounts o rp behind views c now new
 
 -- Where the least labels of dead sharers were right for a channel, those above the change are still those of the tree before, and all others are those of the tree behind.
 pub record LabelsBegin {S : Type 0} (o : Ops S) : Type 0 where
-  pub changed : (rp : Path) (before behind : List S) (stood stands : List RecordView) (c : Channel) (old new m a : Node S) (i : ℕ) (counts : ℕ → Option Tally) (labels : ℕ → Option ℕ)
-      → IsReplaced (place o rp (state m)) m a old new → is_leaf a ≡ true → HasChanged before behind stood stands i (state a) (process_status a)
-      → Labelled o rp before stood c counts labels old → LabelsOnTheWay o rp behind stands c counts labels old new (place o rp (state m))
+  pub changed : (rp : Path) (before behind : List S) (old_views views : List RecordView) (c : Channel) (old new m a : Node S) (i : ℕ) (counts : ℕ → Option Tally) (labels : ℕ → Option ℕ)
+      → IsReplaced (place o rp (state m)) m a old new → is_leaf a ≡ true → HasChanged before behind old_views views i (state a) (process_status a)
+      → Labelled o rp before old_views c counts labels old → LabelsOnTheWay o rp behind views c counts labels old new (place o rp (state m))
   -- no new child is dead
-  pub forked : (rp : Path) (before behind : List S) (stood stands : List RecordView) (c : Channel) (old new : Node S) (i f g : ℕ) (l p : S) (ks : List S) (counts now : ℕ → Option Tally) (labels say : ℕ → Option ℕ)
-      → Agrees o rp before stood old → Has before stood i f l lives → IsReplaced (place o rp l) (Live l) (Forked p (all_live ks)) old new → o.path p ≡ o.path l → HasForked before behind stood stands i g p ks
+  pub forked : (rp : Path) (before behind : List S) (old_views views : List RecordView) (c : Channel) (old new : Node S) (i f g : ℕ) (l p : S) (ks : List S) (counts now : ℕ → Option Tally) (labels say : ℕ → Option ℕ)
+      → Agrees o rp before old_views old → Has before old_views i f l lives → IsReplaced (place o rp l) (Live l) (Forked p (all_live ks)) old new → o.path p ≡ o.path l → HasForked before behind old_views views i g p ks
       → ((j : ℕ) → j ≢ i → now j ≡ counts j) → ((j : ℕ) → j ≢ i → say j ≡ labels j) → say i ≡ None
-      → Labelled o rp before stood c counts labels old → LabelsOnTheWay o rp behind stands c now say old new (place o rp l)
-  pub closed : (rp : Path) (before behind : List S) (stood stands : List RecordView) (c : Channel) (old new : Node S) (i g n : ℕ) (l : S) (ks : Nodes S) (a : Node S) (counts now : ℕ → Option Tally) (labels say : ℕ → Option ℕ)
-      → IsReplaced (place o rp l) (Forked l ks) a old new → is_leaf a ≡ true → HasClosed before behind stood stands i g n (state a) (process_status a)
+      → Labelled o rp before old_views c counts labels old → LabelsOnTheWay o rp behind views c now say old new (place o rp l)
+  pub closed : (rp : Path) (before behind : List S) (old_views views : List RecordView) (c : Channel) (old new : Node S) (i g n : ℕ) (l : S) (ks : Nodes S) (a : Node S) (counts now : ℕ → Option Tally) (labels say : ℕ → Option ℕ)
+      → IsReplaced (place o rp l) (Forked l ks) a old new → is_leaf a ≡ true → HasClosed before behind old_views views i g n (state a) (process_status a)
       → ((j : ℕ) → j ≢ i → now j ≡ counts j) → ((j : ℕ) → j ≢ i → say j ≡ labels j)
-      → Labelled o rp before stood c counts labels old → LabelsOnTheWay o rp behind stands c now say old new (place o rp l)
+      → Labelled o rp before old_views c counts labels old → LabelsOnTheWay o rp behind views c now say old new (place o rp l)
 
 -- what a process does by itself leaves what its fork gave it, and what it shares of the channels of others
 pub record ForeignStays {S : Type 0} (o : Ops S) : Type 0 where

@@ -8,43 +8,43 @@ use Rattle.shim_semantics.specs.Acts.{Acted, act_live, closed}
 use Rattle.shim_semantics.specs.Places.{at}
 use Rattle.shim_semantics.specs.Quiets.{Advances}
 use Rattle.shim_semantics.specs.Trees.{Tree, Event, Own, Meet, Poison, Close, after}
-use Rattle.shim_laws_table.specs.Seen.{ProcessStatus, lives, forks, ends, dies, process_status, is_leaf, place, how_many_nodes}
+use Rattle.shim_laws_table.specs.NodeStatus.{ProcessStatus, lives, forks, ends, dies, process_status, is_leaf, place, how_many_nodes}
 use Rattle.shim_laws_table.specs.Agrees.{RecordView, free, used, Has, Agrees, Represents}
 use Rattle.shim_laws_table.specs.Places.{IsReplaced, IsBy, got, killed}
 
 -- the record i says this now, and no other record has changed
-pub record HasChanged {S : Type 0} (before after : List S) (stood stands : List RecordView) (i : ℕ) (s : S) (k : ProcessStatus) : Type 0 where
+pub record HasChanged {S : Type 0} (before after : List S) (old_views views : List RecordView) (i : ℕ) (s : S) (k : ProcessStatus) : Type 0 where
   pub first : ℕ
-  pub mine : Has after stands i first s k
-  pub others : (j d : ℕ) (t : S) (x : ProcessStatus) → j ≢ i → Has before stood j d t x → Has after stands j d t x
-  pub only : (j d : ℕ) (t : S) (x : ProcessStatus) → j ≢ i → Has after stands j d t x → Has before stood j d t x
+  pub mine : Has after views i first s k
+  pub others : (j d : ℕ) (t : S) (x : ProcessStatus) → j ≢ i → Has before old_views j d t x → Has after views j d t x
+  pub only : (j d : ℕ) (t : S) (x : ProcessStatus) → j ≢ i → Has after views j d t x → Has before old_views j d t x
 
 -- the record i, of a process that forked, has its new state and its children, which have the records from g on; no other record has changed
-pub record HasForked {S : Type 0} (before after : List S) (stood stands : List RecordView) (i g : ℕ) (p : S) (ks : List S) : Type 0 where
-  pub parent : Has after stands i g p (forks (length ks))
-  pub born : (b : ℕ) (k : S) → slice_get ks b ≡ Some k → (d : ℕ) × Has after stands (g + b) d k lives
-  pub others : (j d : ℕ) (t : S) (x : ProcessStatus) → j ≢ i → Has before stood j d t x → Has after stands j d t x
-  pub only : (j d : ℕ) (t : S) (x : ProcessStatus) → Has after stands j d t x
-      → ((j ≡ i) × (t ≡ p) × (x ≡ forks (length ks))) ⊎ (((b : ℕ) × (slice_get ks b ≡ Some t) × (j ≡ g + b) × (x ≡ lives)) ⊎ ((j ≢ i) × Has before stood j d t x))
+pub record HasForked {S : Type 0} (before after : List S) (old_views views : List RecordView) (i g : ℕ) (p : S) (ks : List S) : Type 0 where
+  pub parent : Has after views i g p (forks (length ks))
+  pub born : (b : ℕ) (k : S) → slice_get ks b ≡ Some k → (d : ℕ) × Has after views (g + b) d k lives
+  pub others : (j d : ℕ) (t : S) (x : ProcessStatus) → j ≢ i → Has before old_views j d t x → Has after views j d t x
+  pub only : (j d : ℕ) (t : S) (x : ProcessStatus) → Has after views j d t x
+      → ((j ≡ i) × (t ≡ p) × (x ≡ forks (length ks))) ⊎ (((b : ℕ) × (slice_get ks b ≡ Some t) × (j ≡ g + b) × (x ≡ lives)) ⊎ ((j ≢ i) × Has before old_views j d t x))
 
 -- the record i, of a process whose fork closed, says what came of it, and those of its n children from g on are free; no other record has changed
-pub record HasClosed {S : Type 0} (before after : List S) (stood stands : List RecordView) (i g n : ℕ) (s : S) (k : ProcessStatus) : Type 0 where
+pub record HasClosed {S : Type 0} (before after : List S) (old_views views : List RecordView) (i g n : ℕ) (s : S) (k : ProcessStatus) : Type 0 where
   pub first : ℕ
-  pub parent : Has after stands i first s k
-  pub others : (j d : ℕ) (t : S) (x : ProcessStatus) → j ≢ i → ((b : ℕ) → b < n → j ≢ g + b) → Has before stood j d t x → Has after stands j d t x
-  pub only : (j d : ℕ) (t : S) (x : ProcessStatus) → Has after stands j d t x
-      → ((j ≡ i) × (t ≡ s) × (x ≡ k)) ⊎ ((j ≢ i) × ((b : ℕ) → b < n → j ≢ g + b) × Has before stood j d t x)
+  pub parent : Has after views i first s k
+  pub others : (j d : ℕ) (t : S) (x : ProcessStatus) → j ≢ i → ((b : ℕ) → b < n → j ≢ g + b) → Has before old_views j d t x → Has after views j d t x
+  pub only : (j d : ℕ) (t : S) (x : ProcessStatus) → Has after views j d t x
+      → ((j ≡ i) × (t ≡ s) × (x ≡ k)) ⊎ ((j ≢ i) × ((b : ℕ) → b < n → j ≢ g + b) × Has before old_views j d t x)
 
--- each live process that stands at c has received the value, and nothing else has changed
-pub record HaveReceived {S : Type 0} (o : Ops S) (c : Channel) (v : ℤ) (stands : List RecordView) (before after : List S) : Type 0 where
-  pub gets : (i f : ℕ) (s : S) (k : ProcessStatus) → Has before stands i f s k → slice_get after i ≡ Some (got o c v k s)
+-- each live process that is at c has received the value, and nothing else has changed
+pub record HaveReceived {S : Type 0} (o : Ops S) (c : Channel) (v : ℤ) (views : List RecordView) (before after : List S) : Type 0 where
+  pub gets : (i f : ℕ) (s : S) (k : ProcessStatus) → Has before views i f s k → slice_get after i ≡ Some (got o c v k s)
   pub had : (i : ℕ) (s : S) → slice_get after i ≡ Some s → (r : S) × (slice_get before i ≡ Some r)
 
 -- each live process from the place q on that shares c has died so, and nothing else has changed
-pub record HaveDied {S : Type 0} (o : Ops S) (rp : Path) (q : List ℕ) (c : Channel) (d : Death) (states : List S) (stood stands : List RecordView) : Type 0 where
-  pub below : (i f : ℕ) (s : S) (k : ProcessStatus) (r : List ℕ) → Has states stood i f s k → place o rp s ≡ q ++ r → slice_get stands i ≡ Some (used f (killed o c d s k))
-  pub aside : (i f : ℕ) (s : S) (k : ProcessStatus) → Has states stood i f s k → ((r : List ℕ) → place o rp s ≢ q ++ r) → slice_get stands i ≡ Some (used f k)
-  pub had : (i f : ℕ) (k : ProcessStatus) → slice_get stands i ≡ Some (used f k) → (h : ProcessStatus) × (slice_get stood i ≡ Some (used f h))
+pub record HaveDied {S : Type 0} (o : Ops S) (rp : Path) (q : List ℕ) (c : Channel) (d : Death) (states : List S) (old_views views : List RecordView) : Type 0 where
+  pub below : (i f : ℕ) (s : S) (k : ProcessStatus) (r : List ℕ) → Has states old_views i f s k → place o rp s ≡ q ++ r → slice_get views i ≡ Some (used f (killed o c d s k))
+  pub aside : (i f : ℕ) (s : S) (k : ProcessStatus) → Has states old_views i f s k → ((r : List ℕ) → place o rp s ≢ q ++ r) → slice_get views i ≡ Some (used f k)
+  pub had : (i f : ℕ) (k : ProcessStatus) → slice_get views i ≡ Some (used f k) → (h : ProcessStatus) × (slice_get old_views i ≡ Some (used f h))
 
 -- of some deaths and others the label of the outermost exception prevails
 abbrev pub prevailing_with : RecordView → Option Death → Option Death
@@ -54,7 +54,7 @@ prevailing_with (used f (forks n)) d = d
 prevailing_with (used f ends) d = d
 prevailing_with (used f (dies e)) d = prevailing e d
 
--- the prevailing death of which these records tell
+-- the prevailing death among these records
 abbrev pub prevailing_among : List RecordView → Option Death
 prevailing_among [] = None
 prevailing_among (x ∷ xs) = prevailing_with x (prevailing_among xs)
@@ -66,33 +66,33 @@ segment g n xs = take n (drop g xs)
 -- Records that show a tree and have changed so show the tree after the event.
 pub record EventsPreserve {S : Type 0} (o : Ops S) : Type 0 where
   -- a live process's own step that is no fork, or its end
-  pub stepped : (rp : Path) (before behind : List S) (stood stands : List RecordView) (t u : Tree S) (e : Event) (i f : ℕ) (l : S) (a : Acted S)
-      → Represents o rp before stood t.root → Has before stood i f l lives → IsBy (o.path l) e → after o e t ≡ Some u → act_live o l (o.stop l) ≡ Some a → is_leaf a.node ≡ true
-      → HasChanged before behind stood stands i (state a.node) (process_status a.node) → Represents o rp behind stands u.root
+  pub stepped : (rp : Path) (before behind : List S) (old_views views : List RecordView) (t u : Tree S) (e : Event) (i f : ℕ) (l : S) (a : Acted S)
+      → Represents o rp before old_views t.root → Has before old_views i f l lives → IsBy (o.path l) e → after o e t ≡ Some u → act_live o l (o.stop l) ≡ Some a → is_leaf a.node ≡ true
+      → HasChanged before behind old_views views i (state a.node) (process_status a.node) → Represents o rp behind views u.root
   -- so many quiet steps of it
-  pub advanced : (rp : Path) (before behind : List S) (stood stands : List RecordView) (t u : Tree S) (i f n : ℕ) (l last : S)
-      → Represents o rp before stood t.root → Has before stood i f l lives → QuietSteps o n l last → Advances o (o.path l) n t u
-      → HasChanged before behind stood stands i last lives → Represents o rp behind stands u.root
-  pub forked : (rp : Path) (before behind : List S) (stood stands : List RecordView) (t u : Tree S) (i f g : ℕ) (l p : S) (ks : List S)
-      → Represents o rp before stood t.root → Has before stood i f l lives → after o (Own (o.path l)) t ≡ Some u → o.stop l ≡ AtFork → o.fork l ≡ Parted p ks
-      → HasForked before behind stood stands i g p ks → Represents o rp behind stands u.root
-  pub closed : (rp : Path) (before behind : List S) (stood stands : List RecordView) (t u : Tree S) (i g n : ℕ) (l : S) (a : Acted S)
-      → Represents o rp before stood t.root → Has before stood i g l (forks n) → after o (Close (o.path l)) t ≡ Some u → a ≡ closed o l (segment g n before) (prevailing_among (segment g n stood))
-      → HasClosed before behind stood stands i g n (state a.node) (process_status a.node) → Represents o rp behind stands u.root
-  pub met : (rp : Path) (before behind : List S) (stands : List RecordView) (t u : Tree S) (c : Channel) (v : ℤ)
-      → Represents o rp before stands t.root → after o (Meet c) t ≡ Some u → v ≡ value_of o c (source o c t.root) → HaveReceived o c v stands before behind → Represents o rp behind stands u.root
-  pub poisoned : (rp : Path) (states : List S) (stood stands : List RecordView) (t u : Tree S) (c : Channel) (i f g b n : ℕ) (l k : S) (x : ProcessStatus)
-      → Represents o rp states stood t.root → Has states stood i g l (forks n) → b < n → Has states stood (g + b) f k x → after o (Poison (o.path k) c) t ≡ Some u
-      → HaveDied o rp (place o rp k) c (death (o.handlers l - 1)) states stood stands → Represents o rp states stands u.root
+  pub advanced : (rp : Path) (before behind : List S) (old_views views : List RecordView) (t u : Tree S) (i f n : ℕ) (l last : S)
+      → Represents o rp before old_views t.root → Has before old_views i f l lives → QuietSteps o n l last → Advances o (o.path l) n t u
+      → HasChanged before behind old_views views i last lives → Represents o rp behind views u.root
+  pub forked : (rp : Path) (before behind : List S) (old_views views : List RecordView) (t u : Tree S) (i f g : ℕ) (l p : S) (ks : List S)
+      → Represents o rp before old_views t.root → Has before old_views i f l lives → after o (Own (o.path l)) t ≡ Some u → o.stop l ≡ AtFork → o.fork l ≡ Parted p ks
+      → HasForked before behind old_views views i g p ks → Represents o rp behind views u.root
+  pub closed : (rp : Path) (before behind : List S) (old_views views : List RecordView) (t u : Tree S) (i g n : ℕ) (l : S) (a : Acted S)
+      → Represents o rp before old_views t.root → Has before old_views i g l (forks n) → after o (Close (o.path l)) t ≡ Some u → a ≡ closed o l (segment g n before) (prevailing_among (segment g n old_views))
+      → HasClosed before behind old_views views i g n (state a.node) (process_status a.node) → Represents o rp behind views u.root
+  pub met : (rp : Path) (before behind : List S) (views : List RecordView) (t u : Tree S) (c : Channel) (v : ℤ)
+      → Represents o rp before views t.root → after o (Meet c) t ≡ Some u → v ≡ value_of o c (source o c t.root) → HaveReceived o c v views before behind → Represents o rp behind views u.root
+  pub poisoned : (rp : Path) (states : List S) (old_views views : List RecordView) (t u : Tree S) (c : Channel) (i f g b n : ℕ) (l k : S) (x : ProcessStatus)
+      → Represents o rp states old_views t.root → Has states old_views i g l (forks n) → b < n → Has states old_views (g + b) f k x → after o (Poison (o.path k) c) t ≡ Some u
+      → HaveDied o rp (place o rp k) c (death (o.handlers l - 1)) states old_views views → Represents o rp states views u.root
 
 -- What the records of a fork's children say of them: they lie together, side by side in both lists.
 abbrev pub ChildrenAreRepresented : {S : Type 0} → Ops S → Type 0
-ChildrenAreRepresented {S} o = (rp : Path) (states' : List S) (stands : List RecordView) (root : Node S) (i g n : ℕ) (l : S) (ks : Nodes S)
-    → Agrees o rp states' stands root → Has states' stands i g l (forks n) → at (place o rp l) root ≡ Some (Forked l ks)
-    → (how_many_nodes ks ≡ n) × (states ks ≡ segment g n states') × (prevailing_death ks ≡ prevailing_among (segment g n stands))
+ChildrenAreRepresented {S} o = (rp : Path) (states' : List S) (views : List RecordView) (root : Node S) (i g n : ℕ) (l : S) (ks : Nodes S)
+    → Agrees o rp states' views root → Has states' views i g l (forks n) → at (place o rp l) root ≡ Some (Forked l ks)
+    → (how_many_nodes ks ≡ n) × (states ks ≡ segment g n states') × (prevailing_death ks ≡ prevailing_among (segment g n views))
 
 -- One record gets another state of the same path, or another status, neither with children: the records agree with the tree in which the node at its place is changed.
 abbrev pub OneChangeIsRepresented : {S : Type 0} → Ops S → Type 0
-OneChangeIsRepresented {S} o = (rp : Path) (before behind : List S) (stood stands : List RecordView) (old new m a : Node S) (i f : ℕ)
-    → Agrees o rp before stood old → Has before stood i f (state m) (process_status m) → is_leaf m ≡ true → is_leaf a ≡ true → o.path (state a) ≡ o.path (state m)
-    → IsReplaced (place o rp (state m)) m a old new → HasChanged before behind stood stands i (state a) (process_status a) → Agrees o rp behind stands new
+OneChangeIsRepresented {S} o = (rp : Path) (before behind : List S) (old_views views : List RecordView) (old new m a : Node S) (i f : ℕ)
+    → Agrees o rp before old_views old → Has before old_views i f (state m) (process_status m) → is_leaf m ≡ true → is_leaf a ≡ true → o.path (state a) ≡ o.path (state m)
+    → IsReplaced (place o rp (state m)) m a old new → HasChanged before behind old_views views i (state a) (process_status a) → Agrees o rp behind views new

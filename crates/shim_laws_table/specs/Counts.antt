@@ -18,16 +18,16 @@ bit true = 1
 bit false = 0
 
 -- it shares the channel and has neither ended nor died
-abbrev pub joins : {S : Type 0} → Ops S → Channel → Node S → Bool
-joins o c k = goes k && o.shares (state k) c
+abbrev pub is_alive_on : {S : Type 0} → Ops S → Channel → Node S → Bool
+is_alive_on o c k = goes k && o.shares (state k) c
 
 -- it shares the channel and has neither ended nor died, and isn't ready
 abbrev pub isnt_ready : {S : Type 0} → Ops S → Channel → Node S → Bool
-isnt_ready o c k = joins o c k && not (ready o c k)
+isnt_ready o c k = is_alive_on o c k && not (ready o c k)
 
 -- it shares the channel and is dead
-abbrev pub fails : {S : Type 0} → Ops S → Channel → Node S → Bool
-fails o c k = is_dead k && o.shares (state k) c
+abbrev pub is_dead_on : {S : Type 0} → Ops S → Channel → Node S → Bool
+is_dead_on o c k = is_dead k && o.shares (state k) c
 
 -- of how many it is true
 abbrev pub count : {S : Type 0} → (Node S → Bool) → Nodes S → ℕ
@@ -45,7 +45,7 @@ pub record Tally : Type 0 where
 
 -- the counts of these children for the channel
 abbrev pub tally_of : {S : Type 0} → Ops S → Channel → Nodes S → Tally
-tally_of o c ks = record { live = count (joins o c) ks; not_ready = count (isnt_ready o c) ks; dead = count (fails o c) ks }
+tally_of o c ks = record { live = count (is_alive_on o c) ks; not_ready = count (isnt_ready o c) ks; dead = count (is_dead_on o c) ks }
 
 -- how many children have neither ended nor died
 abbrev pub running_of : {S : Type 0} → Nodes S → ℕ
@@ -63,20 +63,20 @@ pub record ChildStatus : Type 0 where
 
 -- what a fork reads of this child
 abbrev pub child_status : {S : Type 0} → Ops S → Channel → Node S → ChildStatus
-child_status o c k = record { alive = joins o c k; ready_on = ready o c k; dead_on = fails o c k }
+child_status o c k = record { alive = is_alive_on o c k; ready_on = ready o c k; dead_on = is_dead_on o c k }
 
 -- what is read of a child that goes on and shares the channel, and is ready or not
 abbrev pub live_child_status : Bool → ChildStatus
 live_child_status b = record { alive = true; ready_on = b; dead_on = false }
 
 -- it is alive, and isn't ready
-abbrev pub is_missing : ChildStatus → Bool
-is_missing r = r.alive && not r.ready_on
+abbrev pub not_ready_on : ChildStatus → Bool
+not_ready_on r = r.alive && not r.ready_on
 
 -- the counts with another status of one child in place of that before
 pub record IsExchanged (was is : ChildStatus) (y z : Tally) : Type 0 where
   pub live : z.live + bit was.alive ≡ y.live + bit is.alive
-  pub not_ready : z.not_ready + bit (is_missing was) ≡ y.not_ready + bit (is_missing is)
+  pub not_ready : z.not_ready + bit (not_ready_on was) ≡ y.not_ready + bit (not_ready_on is)
   pub dead : z.dead + bit was.dead_on ≡ y.dead + bit is.dead_on
 
 -- what a fork with these counts is read as, by its own fork
@@ -87,7 +87,7 @@ fork_status shares y = record { alive = shares; ready_on = tally_ready y; dead_o
 abbrev pub fresh_tally : {S : Type 0} → Ops S → Channel → List S → Tally
 fresh_tally o c ks = record { live = how_many (λ s. o.shares s c) ks; not_ready = how_many (λ s. o.shares s c && not (is_next (o.stop s) c)) ks; dead = 0 }
 
--- What counts tell of a fork and of its children:
+-- What counts say of a fork and of its children:
 pub record CountsTell {S : Type 0} (o : Ops S) : Type 0 where
   -- a fork's own status is that of its counts; so it is ready exactly if they are
   pub fork : (c : Channel) (l : S) (ks : Nodes S) → child_status o c (Forked l ks) ≡ fork_status (o.shares l c) (tally_of o c ks)
@@ -97,6 +97,6 @@ pub record CountsTell {S : Type 0} (o : Ops S) : Type 0 where
   -- and so many go on as before, but for the child
   pub running_children : (l : S) (ks js : Nodes S) (b : ℕ) (p : List ℕ) (m a k h : Node S) → IsReplaced (b ∷ p) m a (Forked l ks) (Forked l js)
       → child_at b [] ks ≡ Some k → child_at b [] js ≡ Some h → running_of js + bit (goes k) ≡ running_of ks + bit (goes h)
-  -- of new children the states alone tell
+  -- of new children the states alone decide
   pub fresh : (c : Channel) (ks : List S) → tally_of o c (all_live ks) ≡ fresh_tally o c ks
   pub all_go : (ks : List S) → running_of {S = S} (all_live ks) ≡ length ks

@@ -6,7 +6,7 @@ use Rattle.shim_semantics.specs.Nodes.{Node, Nodes, Live, Forked, Ended, Dead, n
 use Rattle.shim_semantics.specs.Poison.{dooms, any_dooms, can_poison}
 use Rattle.shim_semantics.specs.Places.{at, child_at}
 use Rattle.shim_semantics.specs.Sound.{IsSound}
-use Rattle.shim_laws_table.specs.Seen.{IsAside}
+use Rattle.shim_laws_table.specs.NodeStatus.{IsAside}
 use Rattle.shim_laws_table.specs.Places.{IsReplaced}
 use Rattle.shim_laws_table.specs.Tallied.{is_above, IsCounted}
 
@@ -33,7 +33,7 @@ abbrev pub is_below : Option ℕ → ℕ → Bool
 is_below None h = false
 is_below (Some x) h = ltb x h
 
--- What the least labels of dead sharers tell of who is doomed:
+-- What the least labels of dead sharers say of who is doomed:
 pub record MinLabelsDecide {S : Type 0} (o : Ops S) : Type 0 where
   -- where a death dooms, the least label does
   pub here : (h : ℕ) (c : Channel) (n : Node S) → dooms o h c n ≡ is_below (min_dead_label o c n) h
@@ -44,7 +44,7 @@ pub record MinLabelsDecide {S : Type 0} (o : Ops S) : Type 0 where
   -- below a fork that doesn't count a channel, which was declared by none below it, no dead process shares it
   pub uncounted : (root : Node S) (q : List ℕ) (l : S) (ks : Nodes S) (c : Channel) → IsSound o root → at q root ≡ Some (Forked l ks) → ((x : ℕ × ℕ) (r : Path) → c.home ≢ o.path l ++ x ∷ r) → (IsCounted o l ks c → ⊥) → min_dead_label_among o c ks ≡ None
 
--- Another node stands in a place. What that does to the least label of each fork:
+-- Another node is in a place. What that does to the least label of each fork:
 pub record MinLabelsFollow {S : Type 0} (o : Ops S) : Type 0 where
   -- where there was none at the place, the label that came is taken into all forks above
   pub taken_in : (c : Channel) (old new m a : Node S) (q r : List ℕ) (l : S) (ks js : Nodes S) → IsReplaced q m a old new → min_dead_label o c m ≡ None → is_above r q ≡ true

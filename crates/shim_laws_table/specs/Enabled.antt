@@ -5,7 +5,7 @@ use Rattle.shim_local.specs.Process.{Ops}
 use Rattle.shim_semantics.specs.Nodes.{Node, Nodes, Forked, is_next, ready}
 use Rattle.shim_semantics.specs.Places.{at, child_at}
 use Rattle.shim_semantics.specs.Trees.{Tree, Event, Own, Meet, Poison, Close, End, Steps, Ends, own_action_at, after}
-use Rattle.shim_laws_table.specs.Seen.{ProcessStatus, lives, forks, place}
+use Rattle.shim_laws_table.specs.NodeStatus.{ProcessStatus, lives, forks, place}
 use Rattle.shim_laws_table.specs.Agrees.{RecordView, Has, Represents}
 use Rattle.shim_laws_table.specs.Counts.{tally_of, running_of, tally_ready}
 use Rattle.shim_laws_table.specs.Dooms.{min_dead_label_among, is_below}
@@ -14,45 +14,45 @@ use Rattle.shim_laws_table.specs.Dooms.{min_dead_label_among, is_below}
 abbrev pub Can : {S : Type 0} → Ops S → Tree S → Event → Type 0
 Can o t e = after o e t ≢ None
 
--- In records that represent a tree, which events are enabled by each of them. A process steps or ends by its stop; a fork closes when none of its children goes on; a channel meets where the process that declared it stands at it, or its fork's children are all there; and a child is poisoned where it is ready, and a death below its fork dooms it.
+-- In records that represent a tree, which events are enabled by each of them. A process steps or ends by its stop; a fork closes when none of its children goes on; a channel meets where the process that declared it is at it, or its fork's children are all there; and a child is poisoned where it is ready, and a death below its fork dooms it.
 pub record EnabledByRecords {S : Type 0} (o : Ops S) : Type 0 where
-  pub steps : (rp : Path) (records : List S) (stands : List RecordView) (t : Tree S) (i f : ℕ) (l : S) → Represents o rp records stands t.root → Has records stands i f l lives → Can o t (Own (o.path l)) ↔ (own_action_at (o.stop l) ≡ Steps)
-  pub ends : (rp : Path) (records : List S) (stands : List RecordView) (t : Tree S) (i f : ℕ) (l : S) → Represents o rp records stands t.root → Has records stands i f l lives → Can o t (End (o.path l)) ↔ (own_action_at (o.stop l) ≡ Ends)
-  pub closes : (rp : Path) (records : List S) (stands : List RecordView) (t : Tree S) (i f n : ℕ) (l : S) (ks : Nodes S) → Represents o rp records stands t.root → Has records stands i f l (forks n) → at (place o rp l) t.root ≡ Some (Forked l ks)
+  pub steps : (rp : Path) (records : List S) (views : List RecordView) (t : Tree S) (i f : ℕ) (l : S) → Represents o rp records views t.root → Has records views i f l lives → Can o t (Own (o.path l)) ↔ (own_action_at (o.stop l) ≡ Steps)
+  pub ends : (rp : Path) (records : List S) (views : List RecordView) (t : Tree S) (i f : ℕ) (l : S) → Represents o rp records views t.root → Has records views i f l lives → Can o t (End (o.path l)) ↔ (own_action_at (o.stop l) ≡ Ends)
+  pub closes : (rp : Path) (records : List S) (views : List RecordView) (t : Tree S) (i f n : ℕ) (l : S) (ks : Nodes S) → Represents o rp records views t.root → Has records views i f l (forks n) → at (place o rp l) t.root ≡ Some (Forked l ks)
       → Can o t (Close (o.path l)) ↔ (running_of ks ≡ 0)
-  pub meets_alone : (rp : Path) (records : List S) (stands : List RecordView) (t : Tree S) (c : Channel) (i f : ℕ) (l : S) → Represents o rp records stands t.root → Has records stands i f l lives → o.path l ≡ c.home → Can o t (Meet c) ↔ (is_next (o.stop l) c ≡ true)
-  pub meets_forked : (rp : Path) (records : List S) (stands : List RecordView) (t : Tree S) (c : Channel) (i f n : ℕ) (l : S) (ks : Nodes S) → Represents o rp records stands t.root → Has records stands i f l (forks n) → o.path l ≡ c.home → at (place o rp l) t.root ≡ Some (Forked l ks)
+  pub meets_alone : (rp : Path) (records : List S) (views : List RecordView) (t : Tree S) (c : Channel) (i f : ℕ) (l : S) → Represents o rp records views t.root → Has records views i f l lives → o.path l ≡ c.home → Can o t (Meet c) ↔ (is_next (o.stop l) c ≡ true)
+  pub meets_forked : (rp : Path) (records : List S) (views : List RecordView) (t : Tree S) (c : Channel) (i f n : ℕ) (l : S) (ks : Nodes S) → Represents o rp records views t.root → Has records views i f l (forks n) → o.path l ≡ c.home → at (place o rp l) t.root ≡ Some (Forked l ks)
       → Can o t (Meet c) ↔ (tally_ready (tally_of o c ks) ≡ true)
-  pub poisons : (rp : Path) (records : List S) (stands : List RecordView) (t : Tree S) (c : Channel) (i g n b f : ℕ) (l k : S) (x : ProcessStatus) (ks : Nodes S) (m : Node S) → Represents o rp records stands t.root → Has records stands i g l (forks n) → Has records stands (g + b) f k x → b < n
+  pub poisons : (rp : Path) (records : List S) (views : List RecordView) (t : Tree S) (c : Channel) (i g n b f : ℕ) (l k : S) (x : ProcessStatus) (ks : Nodes S) (m : Node S) → Represents o rp records views t.root → Has records views i g l (forks n) → Has records views (g + b) f k x → b < n
       → at (place o rp l) t.root ≡ Some (Forked l ks) → child_at b [] ks ≡ Some m → Can o t (Poison (o.path k) c) ↔ ((o.shares l c ≡ true) × (ready o c m ≡ true) × (is_below (min_dead_label_among o c ks) (o.handlers l) ≡ true))
 
 -- The event is looked for at the record with this number: that of the process which does it, that of the channel's home, which lives or has forked, or that of the fork whose child is poisoned.
-pub data IsAt {S : Type 0} (o : Ops S) (records : List S) (stands : List RecordView) : Event → ℕ → Type 0 where
-  at_step : (i f : ℕ) (l : S) (p : Path) → Has records stands i f l lives → o.path l ≡ p → IsAt o records stands (Own p) i
-  at_end : (i f : ℕ) (l : S) (p : Path) → Has records stands i f l lives → o.path l ≡ p → IsAt o records stands (End p) i
-  at_close : (i f n : ℕ) (l : S) (p : Path) → Has records stands i f l (forks n) → o.path l ≡ p → IsAt o records stands (Close p) i
-  at_home : (i f : ℕ) (l : S) (k : ProcessStatus) (c : Channel) → Has records stands i f l k → (k ≡ lives) ⊎ ((n : ℕ) × (k ≡ forks n)) → o.path l ≡ c.home → IsAt o records stands (Meet c) i
-  at_child : (i g n b f : ℕ) (l k : S) (x : ProcessStatus) (p : Path) (c : Channel) → Has records stands i g l (forks n) → b < n → Has records stands (g + b) f k x → o.path k ≡ p → IsAt o records stands (Poison p c) i
+pub data IsAt {S : Type 0} (o : Ops S) (records : List S) (views : List RecordView) : Event → ℕ → Type 0 where
+  at_step : (i f : ℕ) (l : S) (p : Path) → Has records views i f l lives → o.path l ≡ p → IsAt o records views (Own p) i
+  at_end : (i f : ℕ) (l : S) (p : Path) → Has records views i f l lives → o.path l ≡ p → IsAt o records views (End p) i
+  at_close : (i f n : ℕ) (l : S) (p : Path) → Has records views i f l (forks n) → o.path l ≡ p → IsAt o records views (Close p) i
+  at_home : (i f : ℕ) (l : S) (k : ProcessStatus) (c : Channel) → Has records views i f l k → (k ≡ lives) ⊎ ((n : ℕ) × (k ≡ forks n)) → o.path l ≡ c.home → IsAt o records views (Meet c) i
+  at_child : (i g n b f : ℕ) (l k : S) (x : ProcessStatus) (p : Path) (c : Channel) → Has records views i g l (forks n) → b < n → Has records views (g + b) f k x → o.path k ≡ p → IsAt o records views (Poison p c) i
 
 -- each enabled event is found at a record
 abbrev pub EnabledAreFound : {S : Type 0} → Ops S → Type 0
-EnabledAreFound {S} o = (rp : Path) (records : List S) (stands : List RecordView) (t : Tree S) (e : Event) → Represents o rp records stands t.root → Can o t e → (i : ℕ) × IsAt o records stands e i
+EnabledAreFound {S} o = (rp : Path) (records : List S) (views : List RecordView) (t : Tree S) (e : Event) → Represents o rp records views t.root → Can o t e → (i : ℕ) × IsAt o records views e i
 
 -- Nothing new can happen at records that are as before. Of two trees shown by records:
 pub record NothingNew {S : Type 0} (o : Ops S) : Type 0 where
   -- a live process with the same state does what it did
-  pub steps : (rp : Path) (before behind : List S) (stood stands : List RecordView) (t u : Tree S) (i f g : ℕ) (l : S) → Represents o rp before stood t.root → Represents o rp behind stands u.root → Has before stood i f l lives → Has behind stands i g l lives
+  pub steps : (rp : Path) (before behind : List S) (old_views views : List RecordView) (t u : Tree S) (i f g : ℕ) (l : S) → Represents o rp before old_views t.root → Represents o rp behind views u.root → Has before old_views i f l lives → Has behind views i g l lives
       → (Can o u (Own (o.path l)) → Can o t (Own (o.path l))) × (Can o u (End (o.path l)) → Can o t (End (o.path l)))
   -- so does a fork with the same state, as many of whose children go on
-  pub closes : (rp : Path) (before behind : List S) (stood stands : List RecordView) (t u : Tree S) (i f g n : ℕ) (l : S) (ks js : Nodes S) → Represents o rp before stood t.root → Represents o rp behind stands u.root → Has before stood i f l (forks n) → Has behind stands i g l (forks n)
+  pub closes : (rp : Path) (before behind : List S) (old_views views : List RecordView) (t u : Tree S) (i f g n : ℕ) (l : S) (ks js : Nodes S) → Represents o rp before old_views t.root → Represents o rp behind views u.root → Has before old_views i f l (forks n) → Has behind views i g l (forks n)
       → at (place o rp l) t.root ≡ Some (Forked l ks) → at (place o rp l) u.root ≡ Some (Forked l js) → running_of js ≡ running_of ks → Can o u (Close (o.path l)) → Can o t (Close (o.path l))
   -- a channel's home that lives with the same state, or is a fork that counts as much for it
-  pub meets_alone : (rp : Path) (before behind : List S) (stood stands : List RecordView) (t u : Tree S) (c : Channel) (i f g : ℕ) (l : S) → Represents o rp before stood t.root → Represents o rp behind stands u.root → Has before stood i f l lives → Has behind stands i g l lives
+  pub meets_alone : (rp : Path) (before behind : List S) (old_views views : List RecordView) (t u : Tree S) (c : Channel) (i f g : ℕ) (l : S) → Represents o rp before old_views t.root → Represents o rp behind views u.root → Has before old_views i f l lives → Has behind views i g l lives
       → o.path l ≡ c.home → Can o u (Meet c) → Can o t (Meet c)
-  pub meets_forked : (rp : Path) (before behind : List S) (stood stands : List RecordView) (t u : Tree S) (c : Channel) (i f g n : ℕ) (l : S) (ks js : Nodes S) → Represents o rp before stood t.root → Represents o rp behind stands u.root → Has before stood i f l (forks n) → Has behind stands i g l (forks n)
+  pub meets_forked : (rp : Path) (before behind : List S) (old_views views : List RecordView) (t u : Tree S) (c : Channel) (i f g n : ℕ) (l : S) (ks js : Nodes S) → Represents o rp before old_views t.root → Represents o rp behind views u.root → Has before old_views i f l (forks n) → Has behind views i g l (forks n)
       → o.path l ≡ c.home → at (place o rp l) t.root ≡ Some (Forked l ks) → at (place o rp l) u.root ≡ Some (Forked l js) → tally_of o c js ≡ tally_of o c ks → Can o u (Meet c) → Can o t (Meet c)
   -- and a child of a fork with the same state and the same least label, of which child the same is read
-  pub poisons : (rp : Path) (before behind : List S) (stood stands : List RecordView) (t u : Tree S) (c : Channel) (i d g n b f h : ℕ) (l j k : S) (x y : ProcessStatus) (ks js : Nodes S) (m a : Node S) → Represents o rp before stood t.root → Represents o rp behind stands u.root
-      → Has before stood i d l (forks n) → Has behind stands i g l (forks n) → b < n → Has before stood (d + b) f j x → Has behind stands (g + b) h k y → o.path k ≡ o.path j
+  pub poisons : (rp : Path) (before behind : List S) (old_views views : List RecordView) (t u : Tree S) (c : Channel) (i d g n b f h : ℕ) (l j k : S) (x y : ProcessStatus) (ks js : Nodes S) (m a : Node S) → Represents o rp before old_views t.root → Represents o rp behind views u.root
+      → Has before old_views i d l (forks n) → Has behind views i g l (forks n) → b < n → Has before old_views (d + b) f j x → Has behind views (g + b) h k y → o.path k ≡ o.path j
       → at (place o rp l) t.root ≡ Some (Forked l ks) → at (place o rp l) u.root ≡ Some (Forked l js) → child_at b [] ks ≡ Some m → child_at b [] js ≡ Some a
       → ready o c a ≡ ready o c m → min_dead_label_among o c js ≡ min_dead_label_among o c ks → Can o u (Poison (o.path k) c) → Can o t (Poison (o.path j) c)

@@ -1,5 +1,5 @@
 -- The definitions of this crate, one module for each subject.
-pub mod Seen
+pub mod NodeStatus
 pub mod Agrees
 pub mod Places
 pub mod Changes
@@ -14,6 +14,6 @@ pub mod Links
 pub mod Sources
 pub mod EventEffects
 pub mod LoweredLabels
-pub mod Recounting
+pub mod Recomputing
 pub mod Sufficing
 pub mod RepresentedTree

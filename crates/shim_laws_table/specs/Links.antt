@@ -4,7 +4,7 @@ use Rattle.shim_base.specs.Paths.{Path}
 use Rattle.shim_local.specs.Process.{Ops}
 use Rattle.shim_semantics.specs.Nodes.{Node, Nodes, Forked, state, goes}
 use Rattle.shim_semantics.specs.Places.{at}
-use Rattle.shim_laws_table.specs.Seen.{ProcessStatus, lives, process_status, is_leaf}
+use Rattle.shim_laws_table.specs.NodeStatus.{ProcessStatus, lives, process_status, is_leaf}
 use Rattle.shim_laws_table.specs.Agrees.{RecordView, Has, Represents}
 use Rattle.shim_laws_table.specs.Places.{IsReplaced}
 use Rattle.shim_laws_table.specs.Changes.{HasChanged, HasForked, HasClosed}
@@ -14,16 +14,16 @@ use Rattle.shim_laws_table.specs.Updating.{AreLinked}
 -- How what children know of their forks follows what records do:
 pub record LinksFollow {S : Type 0} (o : Ops S) : Type 0 where
   -- where a process with nothing below it changes, and where a fork closes, they stay
-  pub changed : (before behind : List S) (stood stands : List RecordView) (i : ℕ) (a : Node S) (up : ℕ → Option ℕ) → is_leaf a ≡ true → HasChanged before behind stood stands i (state a) (process_status a)
-      → AreLinked before stood up → AreLinked behind stands up
-  pub closed : (before behind : List S) (stood stands : List RecordView) (i g n : ℕ) (a : Node S) (up : ℕ → Option ℕ) → is_leaf a ≡ true → HasClosed before behind stood stands i g n (state a) (process_status a)
-      → AreLinked before stood up → AreLinked behind stands up
+  pub changed : (before behind : List S) (old_views views : List RecordView) (i : ℕ) (a : Node S) (up : ℕ → Option ℕ) → is_leaf a ≡ true → HasChanged before behind old_views views i (state a) (process_status a)
+      → AreLinked before old_views up → AreLinked behind views up
+  pub closed : (before behind : List S) (old_views views : List RecordView) (i g n : ℕ) (a : Node S) (up : ℕ → Option ℕ) → is_leaf a ≡ true → HasClosed before behind old_views views i g n (state a) (process_status a)
+      → AreLinked before old_views up → AreLinked behind views up
   -- where it forks the children know it, and the others what they did
-  pub forked : (rp : Path) (before behind : List S) (stood stands : List RecordView) (root : Node S) (i f g : ℕ) (l p : S) (ks : List S) (up now : ℕ → Option ℕ) → Represents o rp before stood root → Has before stood i f l lives
-      → HasForked before behind stood stands i g p ks → ((b : ℕ) → b < length ks → now (g + b) ≡ Some i) → ((j d : ℕ) (s : S) (k : ProcessStatus) → Has before stood j d s k → now j ≡ up j)
-      → AreLinked before stood up → AreLinked behind stands now
+  pub forked : (rp : Path) (before behind : List S) (old_views views : List RecordView) (root : Node S) (i f g : ℕ) (l p : S) (ks : List S) (up now : ℕ → Option ℕ) → Represents o rp before old_views root → Has before old_views i f l lives
+      → HasForked before behind old_views views i g p ks → ((b : ℕ) → b < length ks → now (g + b) ≡ Some i) → ((j d : ℕ) (s : S) (k : ProcessStatus) → Has before old_views j d s k → now j ≡ up j)
+      → AreLinked before old_views up → AreLinked behind views now
 
--- Another node stands in a place: of the fork right above so many children go on as before, but for this one, and of each other fork above as many as before.
+-- Another node is in a place: of the fork right above so many children go on as before, but for this one, and of each other fork above as many as before.
 pub record RunningFollow {S : Type 0} (o : Ops S) : Type 0 where
   pub right_above : (old new m a : Node S) (r : List ℕ) (b : ℕ) (l : S) (ks js : Nodes S) → IsReplaced (r ++ b ∷ []) m a old new → at r old ≡ Some (Forked l ks) → at r new ≡ Some (Forked l js)
       → running_of js + bit (goes m) ≡ running_of ks + bit (goes a)

@@ -4,7 +4,7 @@ use Rattle.shim_base.specs.Paths.{Path, Channel}
 use Rattle.shim_local.specs.Process.{Ops}
 use Rattle.shim_semantics.specs.Nodes.{Node, Nodes, Forked}
 use Rattle.shim_semantics.specs.Places.{at}
-use Rattle.shim_laws_table.specs.Seen.{ProcessStatus, forks, place}
+use Rattle.shim_laws_table.specs.NodeStatus.{ProcessStatus, forks, place}
 use Rattle.shim_laws_table.specs.Agrees.{RecordView, Has, Represents}
 use Rattle.shim_laws_table.specs.Places.{IsReplaced}
 use Rattle.shim_laws_table.specs.Counts.{Tally}
@@ -14,15 +14,15 @@ use Rattle.shim_laws_table.specs.Dooms.{lesser, min_dead_label, min_dead_label_a
 
 -- What records keep for a channel: a number's label. Where a fork counts the channel, it is the least one of the node in its place, of the tree for each place.
 abbrev pub LabelledIn : {S : Type 0} → Ops S → Path → List S → List RecordView → Channel → (ℕ → Option Tally) → (ℕ → Option ℕ) → (List ℕ → Node S) → Type 0
-LabelledIn {S} o rp records stands c counts labels tree = (i f n : ℕ) (s : S) (l : S) (ks : Nodes S) → Has records stands i f s (forks n) → counts i ≢ None → at (place o rp s) (tree (place o rp s)) ≡ Some (Forked l ks) → labels i ≡ min_dead_label_among o c ks
+LabelledIn {S} o rp records views c counts labels tree = (i f n : ℕ) (s : S) (l : S) (ks : Nodes S) → Has records views i f s (forks n) → counts i ≢ None → at (place o rp s) (tree (place o rp s)) ≡ Some (Forked l ks) → labels i ≡ min_dead_label_among o c ks
 
 -- they are those of the nodes of one tree
 abbrev pub Labelled : {S : Type 0} → Ops S → Path → List S → List RecordView → Channel → (ℕ → Option Tally) → (ℕ → Option ℕ) → Node S → Type 0
-Labelled o rp records stands c counts labels root = LabelledIn o rp records stands c counts labels (λ p. root)
+Labelled o rp records views c counts labels root = LabelledIn o rp records views c counts labels (λ p. root)
 
 -- on the way up from the place p: above it they are still those of the first tree
 abbrev pub LabelsOnTheWay : {S : Type 0} → Ops S → Path → List S → List RecordView → Channel → (ℕ → Option Tally) → (ℕ → Option ℕ) → Node S → Node S → List ℕ → Type 0
-LabelsOnTheWay o rp records stands c counts labels old new p = LabelledIn o rp records stands c counts labels (λ r. cond (is_above r p) old new)
+LabelsOnTheWay o rp records views c counts labels old new p = LabelledIn o rp records views c counts labels (λ r. cond (is_above r p) old new)
 
 -- one record takes the label in, and no others change
 pub record IsLowered (before : ℕ → Option ℕ) (j : ℕ) (y : Option ℕ) (behind : ℕ → Option ℕ) : Type 0 where
@@ -39,7 +39,7 @@ pub data LoweredAbove (up : ℕ → Option ℕ) (counts : ℕ → Option Tally) 
 
 -- Where a node without dead sharers made room for one, and that was taken into the labels above, all labels are those of the tree behind.
 abbrev pub LabelsLowered : {S : Type 0} → Ops S → Type 0
-LabelsLowered {S} o = (rp : Path) (records : List S) (stands : List RecordView) (up : ℕ → Option ℕ) (c : Channel) (old new m a : Node S) (n x f : ℕ) (s : S) (k : ProcessStatus) (counts : ℕ → Option Tally) (before behind : ℕ → Option ℕ)
-    → Represents o rp records stands new → AreLinked records stands up → Has records stands x f s k → IsReplaced (place o rp s) m a old new → min_dead_label o c m ≡ None → o.shares s c ≡ true
-    → HaveCounts o rp records stands c counts new → length (place o rp s) ≤ n → LabelsOnTheWay o rp records stands c counts before old new (place o rp s) → LoweredAbove up counts (min_dead_label o c a) n before x behind
-    → Labelled o rp records stands c counts behind new
+LabelsLowered {S} o = (rp : Path) (records : List S) (views : List RecordView) (up : ℕ → Option ℕ) (c : Channel) (old new m a : Node S) (n x f : ℕ) (s : S) (k : ProcessStatus) (counts : ℕ → Option Tally) (before behind : ℕ → Option ℕ)
+    → Represents o rp records views new → AreLinked records views up → Has records views x f s k → IsReplaced (place o rp s) m a old new → min_dead_label o c m ≡ None → o.shares s c ≡ true
+    → HaveCounts o rp records views c counts new → length (place o rp s) ≤ n → LabelsOnTheWay o rp records views c counts before old new (place o rp s) → LoweredAbove up counts (min_dead_label o c a) n before x behind
+    → Labelled o rp records views c counts behind new

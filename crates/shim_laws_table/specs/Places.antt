@@ -7,13 +7,13 @@ use Rattle.shim_semantics.specs.Acts.{Acted, act_here}
 use Rattle.shim_semantics.specs.Places.{at, route}
 use Rattle.shim_semantics.specs.Laws.{IsSoundTree}
 use Rattle.shim_semantics.specs.Trees.{Tree, Event, Own, Meet, Poison, Close, End, after}
-use Rattle.shim_laws_table.specs.Seen.{ProcessStatus, lives, forks, ends, dies, seen, IsAside}
+use Rattle.shim_laws_table.specs.NodeStatus.{ProcessStatus, lives, forks, ends, dies, seen, IsAside}
 
 -- nothing is seen otherwise in the second tree but from the place q on
 abbrev pub SameAside : {S : Type 0} → List ℕ → Node S → Node S → Type 0
 SameAside q old new = (p : List ℕ) → IsAside p q → seen (at p new) ≡ seen (at p old)
 
--- in the second tree another node stands at the place, and nothing else has changed
+-- in the second tree another node is at the place, and nothing else has changed
 pub record IsReplaced {S : Type 0} (q : List ℕ) (m a old new : Node S) : Type 0 where
   pub was : at q old ≡ Some m
   pub is : at q new ≡ Some a
@@ -27,7 +27,7 @@ IsBy p (Poison r c) = ⊥
 IsBy p (Close r) = r ≡ p
 IsBy p (End r) = r ≡ p
 
--- what the process of the path did by itself: another node stands at its place
+-- what the process of the path did by itself: another node is at its place
 pub record HasActed {S : Type 0} (o : Ops S) (p : Path) (old new : Node S) : Type 0 where
   pub place : List ℕ
   pub node : Node S

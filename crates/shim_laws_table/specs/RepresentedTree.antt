@@ -3,7 +3,7 @@ use Rattle.std.specs.Prelude.{◌≡◌, ℕ, zero, suc, ◌+◌, Option, Some, 
 use Rattle.shim_base.specs.Paths.{Path}
 use Rattle.shim_local.specs.Process.{Ops}
 use Rattle.shim_semantics.specs.Nodes.{Node, Nodes, Live, Forked, Ended, Dead, no_node, node_and}
-use Rattle.shim_laws_table.specs.Seen.{ProcessStatus, lives, forks, ends, dies}
+use Rattle.shim_laws_table.specs.NodeStatus.{ProcessStatus, lives, forks, ends, dies}
 use Rattle.shim_laws_table.specs.Agrees.{RecordView, used, Represents}
 
 -- a node in front of others, where there are all of them
@@ -33,20 +33,20 @@ abbrev pub node_in : {S : Type 0} → (ℕ → Option (Node S)) → Option S →
 node_in node (Some s) (Some (used first k)) = node_by node s first k
 node_in node _ _ = None
 
--- the node of the record with a number, where so many forks at most stand in each other
+-- the node of the record with a number, where so many forks at most are in each other
 abbrev pub node_of : {S : Type 0} → List S → List RecordView → ℕ → ℕ → Option (Node S)
-node_of states stands zero i = None
-node_of states stands (suc m) i = node_in (node_of states stands m) (slice_get states i) (slice_get stands i)
+node_of states views zero i = None
+node_of states views (suc m) i = node_in (node_of states views m) (slice_get states i) (slice_get views i)
 
--- how long the paths of these are together: no process stands further from the root
+-- how long the paths of these are together: no process is further from the root
 abbrev pub lengths_of : {S : Type 0} → Ops S → List S → ℕ
 lengths_of o [] = 0
 lengths_of o (s ∷ ss) = length (o.path s) + lengths_of o ss
 
 -- the tree of the root's record
 abbrev pub represented_tree : {S : Type 0} → Ops S → List S → List RecordView → Option (Node S)
-represented_tree o states stands = node_of states stands (suc (lengths_of o states)) 0
+represented_tree o states views = node_of states views (suc (lengths_of o states)) 0
 
 -- where records show a tree, it is the one that is computed
 abbrev pub TreeIsComputed : {S : Type 0} → Ops S → Type 0
-TreeIsComputed {S} o = (rp : Path) (states : List S) (stands : List RecordView) (root : Node S) → Represents o rp states stands root → represented_tree o states stands ≡ Some root
+TreeIsComputed {S} o = (rp : Path) (states : List S) (views : List RecordView) (root : Node S) → Represents o rp states views root → represented_tree o states views ≡ Some root

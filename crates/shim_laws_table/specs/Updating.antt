@@ -4,28 +4,28 @@ use Rattle.shim_base.specs.Paths.{Path, Channel}
 use Rattle.shim_local.specs.Process.{Ops}
 use Rattle.shim_semantics.specs.Nodes.{Node, state}
 use Rattle.shim_semantics.specs.Places.{SoundBelow}
-use Rattle.shim_laws_table.specs.Seen.{ProcessStatus, forks, place}
+use Rattle.shim_laws_table.specs.NodeStatus.{ProcessStatus, forks, place}
 use Rattle.shim_laws_table.specs.Agrees.{RecordView, Has, Represents}
 use Rattle.shim_laws_table.specs.Places.{IsReplaced}
-use Rattle.shim_laws_table.specs.Counts.{Tally, ChildStatus, child_status, bit, is_missing, tally_ready, fork_status, IsExchanged}
+use Rattle.shim_laws_table.specs.Counts.{Tally, ChildStatus, child_status, bit, not_ready_on, tally_ready, fork_status, IsExchanged}
 use Rattle.shim_laws_table.specs.Tallied.{Tallied, OnTheWay, HaveCounts}
 
 -- each child of a fork knows the fork's number, and the root knows none
-pub record AreLinked {S : Type 0} (records : List S) (stands : List RecordView) (up : ℕ → Option ℕ) : Type 0 where
-  pub parents : (i f n : ℕ) (s : S) → Has records stands i f s (forks n) → (b : ℕ) → b < n → up (f + b) ≡ Some i
+pub record AreLinked {S : Type 0} (records : List S) (views : List RecordView) (up : ℕ → Option ℕ) : Type 0 where
+  pub parents : (i f n : ℕ) (s : S) → Has records views i f s (forks n) → (b : ℕ) → b < n → up (f + b) ≡ Some i
   pub top : up 0 ≡ None
 
 -- no fork has more children than that
 abbrev pub AreAtMost : {S : Type 0} → ℕ → List S → List RecordView → Type 0
-AreAtMost {S} most records stands = (i f n : ℕ) (s : S) → Has records stands i f s (forks n) → n ≤ most
+AreAtMost {S} most records views = (i f n : ℕ) (s : S) → Has records views i f s (forks n) → n ≤ most
 
 -- The counts hold what is read of the child at first, and there is room for what is read then.
 pub record CanMove (most : ℕ) (was is : ChildStatus) (y : Tally) : Type 0 where
   pub live : bit was.alive ≤ y.live
-  pub not_ready : bit (is_missing was) ≤ y.not_ready
+  pub not_ready : bit (not_ready_on was) ≤ y.not_ready
   pub dead : bit was.dead_on ≤ y.dead
   pub live_fits : y.live + bit is.alive ≤ most + bit was.alive
-  pub not_ready_fits : y.not_ready + bit (is_missing is) ≤ most + bit (is_missing was)
+  pub not_ready_fits : y.not_ready + bit (not_ready_on is) ≤ most + bit (not_ready_on was)
   pub dead_fits : y.dead + bit is.dead_on ≤ most + bit was.dead_on
 
 -- One record's counts are moved, wherever that can be, and no others change.
@@ -45,21 +45,21 @@ pub data UpdatedAbove (up : ℕ → Option ℕ) (most : ℕ) : ℕ → (ℕ → 
   goes_on : (n : ℕ) (before between behind : ℕ → Option Tally) (x j : ℕ) (was is : ChildStatus) (y z : Tally) → up x ≡ Some j → AreMoved most before j was is y z between
       → UpdatedAbove up most n between j (fork_status true y) (fork_status true z) behind → UpdatedAbove up most (suc n) before x was is behind
 
--- Another node stands at a process's place, and so far the counts above are those of the tree before. Of each channel they are then those of the tree behind:
+-- Another node is at a process's place, and so far the counts above are those of the tree before. Of each channel they are then those of the tree behind:
 pub record CountsFollow {S : Type 0} (o : Ops S) : Type 0 where
   -- where they were updated above the process (`UpdatedAbove`)
-  pub updated : (rp : Path) (records : List S) (stands : List RecordView) (up : ℕ → Option ℕ) (c : Channel) (old new m a : Node S) (most n x f : ℕ) (s : S) (k : ProcessStatus) (was is : ChildStatus) (before behind : ℕ → Option Tally)
-      → Represents o rp records stands new → AreLinked records stands up → AreAtMost most records stands → Has records stands x f s k → IsReplaced (place o rp s) m a old new
+  pub updated : (rp : Path) (records : List S) (views : List RecordView) (up : ℕ → Option ℕ) (c : Channel) (old new m a : Node S) (most n x f : ℕ) (s : S) (k : ProcessStatus) (was is : ChildStatus) (before behind : ℕ → Option Tally)
+      → Represents o rp records views new → AreLinked records views up → AreAtMost most records views → Has records views x f s k → IsReplaced (place o rp s) m a old new
       → child_status o c m ≡ was → child_status o c a ≡ is → length (place o rp s) ≤ n → o.shares s c ≡ true
-      → HaveCounts o rp records stands c before new → OnTheWay o rp records stands c before old new (place o rp s) → UpdatedAbove up most n before x was is behind
-      → Tallied o rp records stands c behind new × HaveCounts o rp records stands c behind new
+      → HaveCounts o rp records views c before new → OnTheWay o rp records views c before old new (place o rp s) → UpdatedAbove up most n before x was is behind
+      → Tallied o rp records views c behind new × HaveCounts o rp records views c behind new
   -- where the same is read of both nodes, with nothing done
-  pub alike : (rp : Path) (records : List S) (stands : List RecordView) (c : Channel) (old new m a : Node S) (q : List ℕ) (counts : ℕ → Option Tally)
-      → IsReplaced q m a old new → child_status o c m ≡ child_status o c a → OnTheWay o rp records stands c counts old new q → Tallied o rp records stands c counts new
+  pub alike : (rp : Path) (records : List S) (views : List RecordView) (c : Channel) (old new m a : Node S) (q : List ℕ) (counts : ℕ → Option Tally)
+      → IsReplaced q m a old new → child_status o c m ≡ child_status o c a → OnTheWay o rp records views c counts old new q → Tallied o rp records views c counts new
   -- where the channel was declared by the process, or by one below it, with nothing done
-  pub own : (rp : Path) (records : List S) (stands : List RecordView) (c : Channel) (old new : Node S) (x f : ℕ) (s : S) (k : ProcessStatus) (r : Path) (counts : ℕ → Option Tally)
-      → Represents o rp records stands new → Has records stands x f s k → c.home ≡ o.path s ++ r
-      → HaveCounts o rp records stands c counts new → OnTheWay o rp records stands c counts old new (place o rp s) → Tallied o rp records stands c counts new
+  pub own : (rp : Path) (records : List S) (views : List RecordView) (c : Channel) (old new : Node S) (x f : ℕ) (s : S) (k : ProcessStatus) (r : Path) (counts : ℕ → Option Tally)
+      → Represents o rp records views new → Has records views x f s k → c.home ≡ o.path s ++ r
+      → HaveCounts o rp records views c counts new → OnTheWay o rp records views c counts old new (place o rp s) → Tallied o rp records views c counts new
   -- and of a channel that a process doesn't share and that was declared neither by it nor below, nothing is read
   pub unshared : (c : Channel) (n : Node S) → SoundBelow o n → o.shares (state n) c ≡ false → ((r : Path) → c.home ≢ o.path (state n) ++ r)
       → child_status o c n ≡ record { alive = false; ready_on = false; dead_on = false }

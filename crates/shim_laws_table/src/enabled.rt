@@ -1,13 +1,13 @@
-// Laws of what can happen, told by records and their counts.
+// Laws of what can happen, read off records and their counts.
 ghost use Rattle.shim_laws_table.specs.Dooms.{MinLabelsDecide, MinLabelsFollow};
 ghost use Rattle.shim_laws_table.specs.Beginning.{LabelsBegin};
 ghost use Rattle.shim_laws_table.specs.Enabled.{EnabledByRecords, EnabledAreFound, NothingNew};
 ghost use Rattle.shim_laws_table.specs.LoweredLabels.{LabelsLowered};
-ghost use Rattle.shim_laws_table.specs.Recounting.{LabelsRecount};
+ghost use Rattle.shim_laws_table.specs.Recomputing.{LabelsRecomputed};
 
 use shim_local::Local;
 
-/// The least label of the dead below a fork that share a channel tells who is doomed: a child can be
+/// The least label of the dead below a fork that share a channel decides who is doomed: a child can be
 /// poisoned where its fork shares the channel, it is ready, and that label has its handler at the fork or
 /// above.
 pub fn min_labels_decide<L: Local>()
@@ -20,7 +20,7 @@ pub fn min_labels_follow<L: Local>()
     ensures { MinLabelsFollow L.ops }
 {}
 
-/// What can happen at a record is told by its state, its counts and that label.
+/// What can happen at a record follows from its state, its counts and that label.
 pub fn enabled_by_records<L: Local>()
     ensures { EnabledByRecords L.ops }
 {}
@@ -49,8 +49,8 @@ pub fn labels_lowered<L: Local>()
     ensures { LabelsLowered L.ops }
 {}
 
-/// Where another node stands in a place, as a fork has closed, and the labels above were read off the forks'
+/// Where another node is in a place, as a fork has closed, and the labels above were read off the forks'
 /// children again, they are all those of the tree behind.
-pub fn labels_recount<L: Local>()
-    ensures { LabelsRecount L.ops }
+pub fn labels_recomputed<L: Local>()
+    ensures { LabelsRecomputed L.ops }
 {}

@@ -9,7 +9,7 @@
 pub mod seen;
 /// What forks count of their children, and how the counts follow an event up the tree.
 pub mod counts;
-/// What can happen, told by records and their counts.
+/// What can happen, read off records and their counts.
 pub mod enabled;
 /// The tree that records show, as a function of them.
 pub mod represented_tree;

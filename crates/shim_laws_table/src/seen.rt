@@ -19,7 +19,7 @@ pub fn nodes_are_replaced<L: Local>()
 {}
 
 /// What an event shows, place by place: of what a process does by itself nothing is seen but at its place
-/// and below; of a meeting, at each process that stands at the channel; of a poison, at each live sharer at
+/// and below; of a rendezvous, at each process that waits at the channel; of a poison, at each live sharer at
 /// and below the child.
 pub fn events_show<L: Local>()
     ensures { EventsShow L.ops }
@@ -49,20 +49,20 @@ pub fn one_change_is_represented<L: Local>()
 {}
 
 /// Where one process has received a value, or has died of an exception for which it has no handler, and
-/// nobody else has changed, the records show a sound tree again. So meetings and poisons can be done one
+/// nobody else has changed, the records show a sound tree again. So a rendezvous and a poison can be done one
 /// process after the other.
 pub fn single_changes_are_represented<L: Local>()
     ensures { SingleChangesAreRepresented L.ops }
 {}
 
-/// What an event leaves of a tree beside its nodes: what it puts, logs and counts, and what a meeting adds to
-/// its channel's history.
+/// What an event leaves of a tree beside its nodes: what it puts, logs and counts, and what a rendezvous adds to its
+/// channel's history.
 pub fn effects_of_events<L: Local>()
     ensures { EffectsOfEvents L.ops }
 {}
 
-/// The source of a channel is in the one record that carries it, and the name that its first meeting brings
-/// is that of the live process at the channel whose place comes first.
+/// The source of a channel is in the one record that carries it, and the name that its first rendezvous brings is
+/// that of the live process at the channel whose place comes first.
 pub fn sources_by_records<L: Local>()
     ensures { SourcesByRecords L.ops }
 {}

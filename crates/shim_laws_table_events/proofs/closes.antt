@@ -5,4 +5,4 @@ pub mod Cuts
 pub mod RunningChildren
 pub mod Labels
 pub mod Saying
-pub mod Taking
+pub mod ClosedFork

@@ -1,6 +1,6 @@
 -- The lemmas of meetings, one module for each subject.
 pub mod Among
-pub mod Below
+pub mod BelowForks
 pub mod AtHome
 pub mod Descents
 pub mod Dies

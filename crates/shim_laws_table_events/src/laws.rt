@@ -57,7 +57,7 @@ pub fn truncate_preserves<L: Local>()
     ensures { TruncatePreserves L.ops }
 {}
 
-/// Where a live process receives at the channel at which it stands, the records show the tree behind that.
+/// Where a live process receives at the channel at which it is, the records show the tree behind that.
 pub fn receive_preserves<L: Local>()
     ensures { ReceivePreserves L.ops }
 {}
@@ -72,18 +72,18 @@ pub fn descents_find<L: Local>()
     ensures { DescentsFind L.ops }
 {}
 
-/// Where all that stand at a channel received the value of its source one after the other, the tree moves by the
-/// meeting.
+/// Where all that wait at a channel received the value of its source one after the other, the tree moves by the
+/// rendezvous.
 pub fn meeting_preserves<L: Local>()
     ensures { MeetingPreserves L.ops }
 {}
 
-/// All that share a channel at and below its home are receivers enough for a meeting.
+/// All that share a channel at and below its home are receivers enough for a rendezvous.
 pub fn sharers_receive<L: Local>()
     ensures { SharersReceive L.ops }
 {}
 
-/// A walk from a channel's home by what forks know of their children's branches finds all that stand at the
+/// A walk from a channel's home by what forks know of their children's branches finds all that wait at the
 /// channel, each once.
 pub fn plans_find<L: Local>()
     ensures { PlansFind L.ops }
@@ -100,7 +100,7 @@ pub fn poison_preserves<L: Local>()
     ensures { PoisonPreserves L.ops }
 {}
 
-/// The first name among all that share a channel is the one that its first meeting brings.
+/// The first name among all that share a channel is the one that its first rendezvous brings.
 pub fn names_found<L: Local>()
     ensures { NamesFound L.ops }
 {}

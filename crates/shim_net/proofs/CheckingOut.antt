@@ -15,10 +15,10 @@ use Rattle.shim_semantics.specs.Trees.{Tree}
 use Rattle.shim_semantics.proofs.HowMany.{clash}
 use Rattle.shim_laws_replay.specs.Grants.{IsGrantable}
 use Rattle.shim_laws_replay.specs.Journals.{Entry}
-use Rattle.shim_laws_table.specs.Seen.{ProcessStatus, lives, place}
+use Rattle.shim_laws_table.specs.NodeStatus.{ProcessStatus, lives, place}
 use Rattle.shim_laws_table.proofs.OneChange.{one_state}
 use Rattle.shim_laws_table.proofs.SameTrees.{same_or_not}
-use Rattle.shim_laws_table_events.specs.keeping.Tables.{HasProcessState, stands}
+use Rattle.shim_laws_table_events.specs.keeping.Tables.{HasProcessState, views}
 use Rattle.shim_laws_table_events.specs.queues.EventQueue.{is_listed}
 use Rattle.shim_run_state.specs.RunStates.{RunStateView, tree_in, IsQuietAt, IsCheckedOut, RunStateInvariant}
 use Rattle.shim_run_state.specs.CheckingOut.{SameCheckedOut, NoneCheckedOut, IsHomeAt, SameTree, ChecksOut, ChecksIn}
@@ -108,7 +108,7 @@ module _ {S : Type 0} (o : Ops S) where
     zero_at_root i f l k has =
         let r = kept.represents.represents.rooted in
         let root : o.path r.state ≡ [] = no_branches (o.path r.state) r.at_root in (
-          λ e. ap o.path (one_state v.table.states (stands v.table) 0 f r.first l r.state k r.status (subst (λ z. HasProcessState v.table z f l k) e has) r.has) ∙ root,
+          λ e. ap o.path (one_state v.table.states (views v.table) 0 f r.first l r.state k r.status (subst (λ z. HasProcessState v.table z f l k) e has) r.has) ∙ root,
           λ e. one_number i 0 f r.first l r.state k r.status has r.has (e ∙ sym root),
         )
 
@@ -128,7 +128,7 @@ module _ {S : Type 0} (o : Ops S) where
   -- what is found of the next one, whose record is read where a list alone has changed
   module _ (v u : RunStateView S) (same : SameTree o v u) (i : ℕ) (l p : S) (home : IsHomeAt o v i l) (f : ℕ) (k : ProcessStatus) (has : HasProcessState u.table i f p k) where
     is_process : l ≡ p
-    is_process = one_state v.table.states (stands v.table) i home.at_quiet.first f l p lives k home.at_quiet.has (subst (λ z. HasProcessState z i f p k) same.table has)
+    is_process = one_state v.table.states (views v.table) i home.at_quiet.first f l p lives k home.at_quiet.has (subst (λ z. HasProcessState z i f p k) same.table has)
 
     pub its_home : IsHomeAt o v i p
     its_home = subst (IsHomeAt o v i) is_process home
@@ -151,7 +151,7 @@ module _ {S : Type 0} (o : Ops S) where
 
       all_out : (j : ℕ) (s : S) → IsCheckedOut o u j s → Any (λ g. (g.pid ≡ j) × (g.start ≡ s)) (grants ++ g ∷ [])
       all_out j s w = elim (same_or_not j i) [
-        | inl e ↦ Any-push (λ (z : OpenGrant S). (z.pid ≡ j) × (z.start ≡ s)) grants g (pid ∙ sym e, start ∙ one_state u.table.states (stands u.table) i holds.is.at_quiet.first w.at_quiet.first l s lives lives holds.is.at_quiet.has (subst (λ z. HasProcessState u.table z w.at_quiet.first s lives) e w.at_quiet.has))
+        | inl e ↦ Any-push (λ (z : OpenGrant S). (z.pid ≡ j) × (z.start ≡ s)) grants g (pid ∙ sym e, start ∙ one_state u.table.states (views u.table) i holds.is.at_quiet.first w.at_quiet.first l s lives lives holds.is.at_quiet.has (subst (λ z. HasProcessState u.table z w.at_quiet.first s lives) e w.at_quiet.has))
         | inr far ↦ any_push (λ (z : OpenGrant S). (z.pid ≡ j) × (z.start ≡ s)) grants g (h.only j s ((holds.others j s far).1 w))
       ]
 

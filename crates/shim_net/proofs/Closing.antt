@@ -18,7 +18,7 @@ use Rattle.shim_run_log.specs.declared.entry.Entry.{Entry}
 use Rattle.shim_run_log.specs.declared.entry.Entry.TheVariants as code
 use Rattle.shim_net.specs.Entries.{entry_of}
 use Rattle.shim_net.specs.Nets.{OpenGrant, NetView, IsNet, reserved_in}
-use Rattle.shim_net.specs.Taking.{Closes, Redoes, with_piece}
+use Rattle.shim_net.specs.Absorbing.{Closes, Redoes, with_piece}
 use Rattle.shim_net.proofs.Keeping.{tree_sound, is_out, less_reserved, taken, taken_back}
 
 pub with_more : (p : Path) (n : ℕ) (js : List journals.Entry) → 1 ≤ n → with_piece p n js ≡ js ++ journals.Quiet p n ∷ []

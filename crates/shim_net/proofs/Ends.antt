@@ -6,10 +6,10 @@ use Rattle.shim_local.specs.Process.{Ops}
 use Rattle.shim_local.specs.Laws.{LocalLaws}
 use Rattle.shim_semantics.specs.Trees.{steps, IsQuiescent}
 use Rattle.shim_laws_replay.specs.Ends.{HasEnded, AgreesWithMeaning}
-use Rattle.shim_laws_replay.specs.Told.{IsToldAs}
+use Rattle.shim_laws_replay.specs.ReadOff.{IsReadOffAs}
 use Rattle.shim_laws_replay.proofs.Keeping.{nets_keep}
 use Rattle.shim_laws_replay.proofs.Ends.{journals_mean}
-use Rattle.shim_laws_replay.proofs.Moments.{ends_are_told}
+use Rattle.shim_laws_replay.proofs.Moments.{ends_are_read_off}
 use Rattle.shim_run_state.specs.RunStates.{RunStateView}
 use Rattle.shim_run_state.specs.CheckingOut.{NoneCheckedOut}
 use Rattle.shim_net.specs.Nets.{NetView, OpenGrant, IsNet, granted}
@@ -20,19 +20,19 @@ use Rattle.shim_net.specs.declared.standing.Standing.TheVariants.{Running, Quies
 use Rattle.shim_net.specs.Progress.{CanGive, HasSettled}
 use Rattle.shim_net.proofs.Progress.{can_give}
 
-module _ {S : Type 0} (o : Ops S) (n : NetView S) (w : IsNet o n) (stands : IsQuiescentNet o n ⊎ IsSpentNet o n) where
+module _ {S : Type 0} (o : Ops S) (n : NetView S) (w : IsNet o n) (quiescent_or_spent : IsQuiescentNet o n ⊎ IsSpentNet o n) where
   came : (IsQuiescentNet o n ⊎ IsSpentNet o n) → IsQuiescent o n.tree ⊎ ((steps n.tree ≡ n.budget) × (IsQuiescent o n.tree → ⊥))
   came (inl q) = inl q.1
   came (inr s) = inr (s.1, s.2)
 
   pub has_ended : LocalLaws o → HasEnded o n.budget n.tree
-  has_ended law = (nets_keep o law).ended n.root n.budget n.journal n.tree (map granted n.grants) w.keeps (came stands)
+  has_ended law = (nets_keep o law).ended n.root n.budget n.journal n.tree (map granted n.grants) w.keeps (came quiescent_or_spent)
 
   pub agrees : LocalLaws o → AgreesWithMeaning o n.root n.budget n.tree
   agrees law = journals_mean o law n.root n.budget n.journal n.tree w.keeps.sound w.keeps.own w.keeps.replays (has_ended law)
 
-  pub told : LocalLaws o → IsToldAs o n.root n.budget n.tree
-  told law = ends_are_told o law n.root n.budget n.journal n.tree w.keeps.sound w.keeps.own w.keeps.replays (has_ended law)
+  pub read_off : LocalLaws o → IsReadOffAs o n.root n.budget n.tree
+  read_off law = ends_are_read_off o law n.root n.budget n.journal n.tree w.keeps.sound w.keeps.own w.keeps.replays (has_ended law)
 
 pub may_end : {S : Type 0} (o : Ops S) (n : NetView S) → IsNet o n → IsQuiescentNet o n ⊎ IsSpentNet o n → ((steps n.tree ≤ n.budget) × IsQuiescent o n.tree) ⊎ (steps n.tree ≡ n.budget)
 may_end o n w (inl q) = inl (omega (arith, w.keeps.fits), q.1)
@@ -47,7 +47,7 @@ pub none_open : {S : Type 0} (o : Ops S) (n : NetView S) → IsQuiescentNet o n 
 none_open o n (inl q) = q.0
 none_open o n (inr s) = s.0
 
--- a net whose standing isn't Running stands at one of the others
+-- a net whose standing isn't Running is at one of the others
 pub stopped : {S : Type 0} (o : Ops S) (n : NetView S) (s : Standing) → StandsAs o n s → (s ≡ Running → ⊥) → IsQuiescentNet o n ⊎ IsSpentNet o n
 stopped o n Running h other = absurd (other refl)
 stopped o n Quiescent h other = inl h

@@ -10,9 +10,9 @@ use Rattle.shim_net.specs.Granting.{IsAtHome, NoneAtHome, Grants, GivesNone}
 
 -- what is given is left
 pub has_room : (left b s r most n : ℕ) → left ≡ b - (s + r) → s + r ≤ b → n ≡ min most left → s + r + n ≤ b
-has_room left b s r most n e fits least = omega (arith, e, fits, least)
+has_room left b s r most n e fits is_min = omega (arith, e, fits, is_min)
 
--- the number of a process at home tells whether it is the root
+-- the number of a process at home says whether it is the root
 pub home_number : {S : Type 0} (o : Ops S) (v : NetView S) → IsNet o v → (number : ℕ) (l : S) → IsAtHome o v.tree v.grants l → (number ≡ 0) ↔ (o.path l ≡ []) → IsHomeNumber o v number
 home_number o v w number l home root = record { process = l; home = home; root_is = (λ none. root.0 none ∙ sym w.at_root, λ same. root.1 (same ∙ w.at_root)) }
 
@@ -20,12 +20,12 @@ module _ {S : Type 0} (o : Ops S) (v : NetView S) (w : IsNet o v) (l : S) (home 
   pub gives : (most slot round left n : ℕ) → left ≡ v.budget - (steps v.tree + reserved_in v.grants) → n ≡ min most left → 1 ≤ n → (number : ℕ) → (number ≡ 0) ↔ (o.path l ≡ []) → (pid : ℕ) (start : S) (grant : ℕ) → pid ≡ number → start ≡ l → grant ≡ n
       → (after : NetView S) → after ≡ record { root = v.root; budget = v.budget; tree = v.tree; journal = v.journal; grants = v.grants ++ record { pid = number; slot = slot; round = round; most = n; start = l } ∷ [] }
       → Grants o v after most slot round pid start grant
-  gives most slot round left n is least some number at_root pid start grant pid_is start_is grant_is after after_is =
+  gives most slot round left n is is_min some number at_root pid start grant pid_is start_is grant_is after after_is =
       subst (λ p. Grants o v after most slot round p start grant) (sym pid_is)
       (subst (λ s. Grants o v after most slot round number s grant) (sym start_is)
       (subst (λ m. Grants o v after most slot round number l m) (sym grant_is) (record {
         process = home;
-        lesser = least ∙ ap (min most) is;
+        lesser = is_min ∙ ap (min most) is;
         some = some;
         root_is = (λ none. at_root.0 none ∙ sym w.at_root, λ same. at_root.1 (same ∙ w.at_root));
         after_is = after_is;

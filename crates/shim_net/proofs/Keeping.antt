@@ -30,8 +30,8 @@ others_differ grants g fresh k d few slot round = let h = slice_index_or grants 
 
 module _ {S : Type 0} (o : Ops S) (law : LocalLaws o) where
   pub begun : (root : S) (b : ℕ) → o.sound root → o.path root ≡ [] → SharesItsOwn o root → 1 ≤ b → b ≤ 4000000 → IsNet o (started root b)
-  begun root b sound path own least most = record {
-    least = least;
+  begun root b sound path own has_budget most = record {
+    has_budget = has_budget;
     most = most;
     at_root = path;
     keeps = (nets_keep o law).begun root b sound own;
@@ -45,7 +45,7 @@ module _ {S : Type 0} (o : Ops S) (law : LocalLaws o) where
   pub happened : (n : NetView S) (u : Tree S) (e : Event) → IsNet o n → after o e n.tree ≡ Some u → IsNoQuietStep o n.tree e → steps n.tree + reserved_in n.grants < n.budget
       → (js : List Entry) → js ≡ n.journal ++ Did e ∷ [] → IsNet o (record { root = n.root; budget = n.budget; tree = u; journal = js; grants = n.grants })
   happened n u e w h other room js more = record {
-    least = w.least;
+    has_budget = w.has_budget;
     most = w.most;
     at_root = w.at_root;
     keeps = subst (λ z. NetKeeps o n.root n.budget z u (map granted n.grants)) (sym more) ((nets_keep o law).did n.root n.budget n.journal n.tree u (map granted n.grants) e w.keeps h other room);
@@ -56,7 +56,7 @@ module _ {S : Type 0} (o : Ops S) (law : LocalLaws o) where
   pub given : (n : NetView S) (g : OpenGrant S) → IsNet o n → IsGrantable o n.tree g.start → 1 ≤ g.most → All (λ h. o.path h.start ≢ o.path g.start) n.grants → (IsOpen g.slot g.round n.grants → ⊥) → All (λ h. h.pid ≢ g.pid) n.grants
       → steps n.tree + reserved_in n.grants + g.most ≤ n.budget → (gs : List (OpenGrant S)) → gs ≡ n.grants ++ g ∷ [] → IsNet o (record { root = n.root; budget = n.budget; tree = n.tree; journal = n.journal; grants = gs })
   given n g w grantable some free fresh other room gs more = record {
-    least = w.least;
+    has_budget = w.has_budget;
     most = w.most;
     at_root = w.at_root;
     keeps = subst (NetKeeps o n.root n.budget n.journal n.tree) (sym (ap (map granted) more ∙ map_push granted n.grants g))
@@ -93,7 +93,7 @@ module _ {S : Type 0} (o : Ops S) (law : LocalLaws o) where
 
     pub stepped : (js : List Entry) → js ≡ n.journal ++ Quiet (o.path l) used ∷ [] → IsNet o (record { root = n.root; budget = n.budget; tree = u; journal = js; grants = n.grants })
     stepped js more = record {
-      least = w.least;
+      has_budget = w.has_budget;
       most = w.most;
       at_root = w.at_root;
       keeps = subst (λ z. NetKeeps o n.root n.budget z u (map granted n.grants)) (sym more) in_again;
@@ -140,7 +140,7 @@ module _ {S : Type 0} (o : Ops S) (law : LocalLaws o) where
       pub taken : (used : ℕ) (last : S) (u : Tree S) → QuietSteps o used g.start last → 1 ≤ used → used ≤ g.most → Advances o (o.path last) used n.tree u
           → (js : List Entry) → js ≡ n.journal ++ Quiet (o.path g.start) used ∷ [] → IsNet o (record { root = n.root; budget = n.budget; tree = u; journal = js; grants = gs })
       taken used last u ran some most advances js more = record {
-        least = w.least;
+        has_budget = w.has_budget;
         most = w.most;
         at_root = w.at_root;
         keeps = subst (λ z. NetKeeps o n.root n.budget z u (map granted gs)) (sym more) (subst (NetKeeps o n.root n.budget (n.journal ++ Quiet (o.path g.start) used ∷ []) u) left
@@ -151,7 +151,7 @@ module _ {S : Type 0} (o : Ops S) (law : LocalLaws o) where
 
       pub taken_back : IsNet o (record { root = n.root; budget = n.budget; tree = n.tree; journal = n.journal; grants = gs })
       taken_back = record {
-        least = w.least;
+        has_budget = w.has_budget;
         most = w.most;
         at_root = w.at_root;
         keeps = subst (NetKeeps o n.root n.budget n.journal n.tree) left ((nets_keep o law).taken_back n.root n.budget n.journal n.tree (map granted n.grants) i (granted g) w.keeps here seen);

@@ -24,7 +24,7 @@ use Rattle.shim_laws_replay.proofs.Runs.{run_counts, quiet_steps_run}
 use Rattle.shim_net.specs.Nets.{OpenGrant, NetView, IsNet, reserved_in}
 use Rattle.shim_net.specs.Granting.{NoneAtHome, GivesNone}
 use Rattle.shim_net.specs.Stepping.{StepsInPlace, left_of}
-use Rattle.shim_net.specs.Taking.{Closes, Redoes, with_piece}
+use Rattle.shim_net.specs.Absorbing.{Closes, Redoes, with_piece}
 use Rattle.shim_net.specs.Settling.{IsQuietStep, RestsButForQuiet, AllHappen, Settles}
 use Rattle.shim_net.specs.Standings.{IsQuiescentNet, IsSpentNet}
 use Rattle.shim_net.specs.Progress.{GoesOn, AreAmong, CanGive, HasSettled}
@@ -104,13 +104,13 @@ module _ {S : Type 0} (o : Ops S) where
 
   -- work that was granted to a process before a quiet step, and that didn't want memory, has a step
   pub some_used : (first last : S) (used most : ℕ) (short : Bool) → o.stop first ≡ AtQuiet → 1 ≤ most → QuietSteps o used first last → FewerWithCause o used most short last → short ≡ false → 1 ≤ used
-  some_used first last zero most short quiet some ran fewer whole = absurd (fewer (omega (arith, some)) whole (ap o.stop (sym (some_same first last ran)) ∙ quiet))
-  some_used first last (suc n) most short quiet some ran fewer whole = omega arith
+  some_used first last zero most short burst some ran fewer whole = absurd (fewer (omega (arith, some)) whole (ap o.stop (sym (some_same first last ran)) ∙ burst))
+  some_used first last (suc n) most short burst some ran fewer whole = omega arith
 
   -- a process did quiet steps in place
-  module _ (before after_it : NetView S) (most : ℕ) (quiet : Quiet) (s : StepsInPlace o before after_it most quiet) where
-    has_more : steps after_it.tree ≡ steps before.tree + quiet.taken
-    has_more = piece_counts (o.path s.process) quiet.taken before.tree after_it.tree s.leads
+  module _ (before after_it : NetView S) (most : ℕ) (burst : Quiet) (s : StepsInPlace o before after_it most burst) where
+    has_more : steps after_it.tree ≡ steps before.tree + burst.taken
+    has_more = piece_counts (o.path s.process) burst.taken before.tree after_it.tree s.leads
 
     pub stepped_same : after_it.grants ≡ before.grants
     stepped_same = ap (λ (z : NetView S). z.grants) s.after_is
@@ -122,17 +122,17 @@ module _ {S : Type 0} (o : Ops S) where
         record {
           root = ap (λ (z : NetView S). z.root) s.after_is;
           budget = ap (λ (z : NetView S). z.budget) s.after_is;
-          done = with_piece (o.path s.process) quiet.taken [];
-          journal = ap (λ (z : NetView S). z.journal) s.after_is ∙ with_it (o.path s.process) quiet.taken before.journal;
-          leads = piece_leads (o.path s.process) quiet.taken before.tree after_it.tree s.leads;
+          done = with_piece (o.path s.process) burst.taken [];
+          journal = ap (λ (z : NetView S). z.journal) s.after_is ∙ with_it (o.path s.process) burst.taken before.journal;
+          leads = piece_leads (o.path s.process) burst.taken before.tree after_it.tree s.leads;
           at_least = omega (arith, all, same);
         }
 
-    pub stepped_more : 1 ≤ most → quiet.short ≡ false → steps before.tree < steps after_it.tree
+    pub stepped_more : 1 ≤ most → burst.short ≡ false → steps before.tree < steps after_it.tree
     stepped_more some whole =
         let all = has_more in
         let left = s.left in
-        let one = some_used s.process s.last quiet.taken (min most (left_of before)) quiet.short s.home.grantable.stop (omega (arith, some, left)) s.chain s.fewer whole in
+        let one = some_used s.process s.last burst.taken (min most (left_of before)) burst.short s.home.grantable.stop (omega (arith, some, left)) s.chain s.fewer whole in
         omega (arith, all, one)
 
     pub stepped_could : CanGive o before
@@ -184,7 +184,7 @@ module _ {S : Type 0} (o : Ops S) where
   quiet_grantable : (t : Tree S) (e : Event) → IsQuietStep o t e → (l : S) × IsGrantable o t l
   quiet_grantable t e q =
       let l = q.2.0 in
-      (l, record { stands = subst (λ p. StandsAt o t.root p (Live l)) (sym q.2.1.is_its) q.2.1; stop = q.2.2 })
+      (l, record { in_tree = subst (λ p. StandsAt o t.root p (Live l)) (sym q.2.1.is_its) q.2.1; stop = q.2.2 })
 
   not_out : (grants : List (OpenGrant S)) (t : Tree S) (e : Event) → grants ≡ [] → NoneAtHome o t grants → IsQuietStep o t e → ⊥
   not_out grants t e none home q =
@@ -195,21 +195,21 @@ module _ {S : Type 0} (o : Ops S) where
       absurd (omega (arith, few, inside))
 
   rests : (grants : List (OpenGrant S)) (t : Tree S) → grants ≡ [] → NoneAtHome o t grants → RestsButForQuiet o t → IsQuiescent o t
-  rests grants t none home quiet e =
+  rests grants t none home ended e =
       elim (after o e t) as (λ r. after o e t ≡ r → after o e t ≡ None) [
         | None ↦ λ p. p
-        | Some u ↦ λ p. absurd (not_out grants t e none home (quiet e (λ q. absurd (cc))))
+        | Some u ↦ λ p. absurd (not_out grants t e none home (ended e (λ q. absurd (cc))))
       ] refl
 
   -- a net that has settled with nothing out, and has not come to its end, can give something out
   pub can_give : (n : NetView S) → IsNet o n → n.grants ≡ [] → HasSettled o n → (IsQuiescentNet o n → ⊥) → (IsSpentNet o n → ⊥) → CanGive o n
   can_give n w none end not_quiet not_spent =
       let zero_reserved : reserved_in n.grants ≡ 0 = ap reserved_in none in
-      let not_full : (steps n.tree + reserved_in n.grants ≡ n.budget) → ⊥ = λ full. not_spent (none, omega (arith, full, zero_reserved), λ quiet. not_quiet (none, quiet)) in
+      let not_full : (steps n.tree + reserved_in n.grants ≡ n.budget) → ⊥ = λ full. not_spent (none, omega (arith, full, zero_reserved), λ ended. not_quiet (none, ended)) in
       let fits : steps n.tree + reserved_in n.grants ≤ n.budget = w.keeps.fits in
       record {
         left = elim (cases_lt (steps n.tree + reserved_in n.grants) n.budget) [ inl less ↦ less | inr most ↦ absurd (not_full (omega (arith, fits, most))) ];
-        some = λ home. elim end [ inl quiet ↦ not_quiet (none, rests n.grants n.tree none home quiet) | inr full ↦ not_full full ];
+        some = λ home. elim end [ inl ended ↦ not_quiet (none, rests n.grants n.tree none home ended) | inr full ↦ not_full full ];
       }
 
   -- a turn of it with a step leaves less of the budget

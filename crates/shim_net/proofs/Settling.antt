@@ -35,7 +35,7 @@ module _ {S : Type 0} (o : Ops S) (t : Tree S) where
 
   own_or_not : (p : Path) (b : Bool) → is_before_quiet o p (led_to o t.root p) ≡ b → IsQuietStep o t (Own p) ⊎ IsNoQuietStep o t (Own p)
   own_or_not p true e = inl (p, refl, before_is p (led_to o t.root p) refl e)
-  own_or_not p false e = inr (λ q same stands. clash (is_before_quiet o p (led_to o t.root p)) (is_before p (subst (StandsQuiet o t) (sym (own_path p q same)) stands)) e)
+  own_or_not p false e = inr (λ q same at_stop. clash (is_before_quiet o p (led_to o t.root p)) (is_before p (subst (StandsQuiet o t) (sym (own_path p q same)) at_stop)) e)
 
   -- each event is a quiet step, or it isn't
   pub quiet_or_not : (e : Event) → IsQuietStep o t e ⊎ IsNoQuietStep o t e

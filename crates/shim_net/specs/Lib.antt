@@ -4,7 +4,7 @@ pub mod Nets
 pub mod CheckingOut
 pub mod Codes
 pub mod Granting
-pub mod Taking
+pub mod Absorbing
 pub mod Settling
 pub mod Standings
 pub mod Stepping

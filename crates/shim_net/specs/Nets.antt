@@ -46,7 +46,7 @@ abbrev pub HaveOtherPids : {S : Type 0} → OpenGrant S → OpenGrant S → Type
 HaveOtherPids g h = g.pid ≢ h.pid
 
 pub record IsNet {S : Type 0} (o : Ops S) (n : NetView S) : Type 0 where
-  pub least : 1 ≤ n.budget
+  pub has_budget : 1 ≤ n.budget
   pub most : n.budget ≤ 4000000
   -- the root has the path of a root
   pub at_root : o.path n.root ≡ []

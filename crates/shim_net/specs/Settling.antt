@@ -20,7 +20,7 @@ AreQuietSteps o t es = (e : Event) → IsAmong e es → IsQuietStep o t e
 abbrev pub RestsButForQuiet : {S : Type 0} → Ops S → Tree S → Type 0
 RestsButForQuiet o t = (e : Event) → after o e t ≢ None → IsQuietStep o t e
 
--- the event happened, and stands in the journal
+-- the event happened, and is in the journal
 abbrev pub Happens : {S : Type 0} → Ops S → NetView S → NetView S → Event → Type 0
 Happens o before after_it e = (after o e before.tree ≡ Some after_it.tree) × (after_it ≡ record { root = before.root; budget = before.budget; tree = after_it.tree; journal = before.journal ++ Did e ∷ []; grants = before.grants })
 
@@ -29,7 +29,7 @@ abbrev pub AllHappen : {S : Type 0} → Ops S → List Event → Tree S → Tree
 AllHappen o [] t u = t ≡ u
 AllHappen {S} o (e ∷ es) t u = (v : Tree S) × IsNoQuietStep o t e × (after o e t ≡ Some v) × AllHappen o es v u
 
--- so many such events happened, and stand in the journal
+-- so many such events happened, and are in the journal
 pub record Settles {S : Type 0} (o : Ops S) (before after : NetView S) (count : ℕ) : Type 0 where
   pub events : List Event
   pub counted : length events ≡ count

@@ -8,7 +8,7 @@ use Rattle.shim_semantics.specs.Trees.{steps}
 use Rattle.shim_laws_replay.specs.Journals.{quiet_steps}
 use Rattle.shim_net.specs.Nets.{NetView, reserved_in}
 use Rattle.shim_net.specs.Granting.{GivesNone, IsAtHome}
-use Rattle.shim_net.specs.Taking.{with_piece}
+use Rattle.shim_net.specs.Absorbing.{with_piece}
 
 -- some process is at home, and this number may be its own: it is 0 exactly if that process is the root
 pub record IsHomeNumber {S : Type 0} (o : Ops S) (n : NetView S) (pid : ℕ) : Type 0 where
@@ -26,18 +26,18 @@ IsNextHome o before after None = GivesNone o before after
 IsNextHome o before after (Some pid) = (after ≡ before) × (1 ≤ left_of before) × IsHomeNumber o before pid
 
 -- a process at home did quiet steps, as one entry of the journal
-pub record StepsInPlace {S : Type 0} (o : Ops S) (before after : NetView S) (most : ℕ) (quiet : Quiet) : Type 0 where
+pub record StepsInPlace {S : Type 0} (o : Ops S) (before after : NetView S) (most : ℕ) (burst : Quiet) : Type 0 where
   pub process : S
   pub last : S
   pub home : IsAtHome o before.tree before.grants process
   pub left : 1 ≤ left_of before
-  pub chain : QuietSteps o quiet.taken process last
-  pub within : quiet.taken ≤ min most (left_of before)
-  pub fewer : FewerWithCause o quiet.taken (min most (left_of before)) quiet.short last
-  pub leads : quiet_steps o (o.path process) quiet.taken before.tree ≡ Some after.tree
-  pub after_is : after ≡ record { root = before.root; budget = before.budget; tree = after.tree; journal = with_piece (o.path process) quiet.taken before.journal; grants = before.grants }
+  pub chain : QuietSteps o burst.taken process last
+  pub within : burst.taken ≤ min most (left_of before)
+  pub fewer : FewerWithCause o burst.taken (min most (left_of before)) burst.short last
+  pub leads : quiet_steps o (o.path process) burst.taken before.tree ≡ Some after.tree
+  pub after_is : after ≡ record { root = before.root; budget = before.budget; tree = after.tree; journal = with_piece (o.path process) burst.taken before.journal; grants = before.grants }
 
 -- a process at home did quiet steps; or none did, because nothing is left of the budget or no process is at home
 abbrev pub StepsHome : {S : Type 0} → Ops S → NetView S → NetView S → ℕ → Option Quiet → Type 0
 StepsHome o before after most None = GivesNone o before after
-StepsHome o before after most (Some quiet) = StepsInPlace o before after most quiet
+StepsHome o before after most (Some burst) = StepsInPlace o before after most burst

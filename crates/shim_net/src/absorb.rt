@@ -3,7 +3,7 @@ ghost use Rattle.std.specs.Prelude.{◌≡◌, ◌<◌, ◌≤◌, ℕ, true, fa
 ghost use Rattle.std.specs.List.{All};
 ghost use Rattle.shim_local.specs.Quiets.{QuietSteps};
 ghost use Rattle.shim_net.specs.Nets.{OpenGrant as GrantOf};
-ghost use Rattle.shim_net.specs.Taking.{Matches, Closes, Absorbs, OnAbsorbed};
+ghost use Rattle.shim_net.specs.Absorbing.{Matches, Closes, Absorbs, OnAbsorbed};
 
 use crate::net::Net;
 use crate::open_grant::place_of;
@@ -13,9 +13,9 @@ use shim_run_log::Entry;
 /// What came of a finished piece that was brought back.
 #[derive(Drop)]
 pub enum Absorbed<F> {
-    /// It was taken: its grant is closed, and its steps stand in the tree and the journal.
+    /// It was taken: its grant is closed, and its steps are in the tree and the journal.
     Taken,
-    /// It was taken, and had wanted memory for a further step.
+    /// It was taken, and memory had been refused for a further step.
     Short,
     /// It is of no grant that is open, and comes back.
     Stranger(F),

@@ -9,13 +9,13 @@ use shim_base::NoMemory;
 use shim_local::{Local, Parcel};
 
 impl<L: Local> Net<L> {
-    /// Gives out work of a process that stands before a quiet step and isn't out: `most` steps, which
+    /// Gives out work of a process that is before a quiet step and isn't out: `most` steps, which
     /// are at least 1, or what is left of the budget where that is less. `slot` and `round` are the
-    /// caller's numbers for the piece: they come back with it and tell the open grants apart, so no open
-    /// grant may have both. `pid` is the number of the process in this net, 0 exactly for the root; no
+    /// caller's numbers for the piece: they come back with it and distinguish the open grants, so no open grant
+    /// may have both. `pid` is the number of the process in this net, 0 exactly for the root; no
     /// clause says that all its pieces have the same. `None` exactly where no process can be given out, or nothing is
     /// left.
-    /// Want of memory changes nothing.
+    /// Running out of memory changes nothing.
     pub fn grant(&mut self, most: u64, slot: u64, round: u64) -> Result<Option<Parcel<L>>, NoMemory>
         requires most { 1 ≤ most }
         requires numbers { IsOpen slot round self.old.grants → ⊥ }

@@ -17,7 +17,7 @@ use std::snapshot::Snapshot;
 /// A tree of processes that began with one process and a budget of steps, the journal of what was done
 /// in it since, and the grants that are open. Contracts see these, and its type keeps that the tree is
 /// the replay of the journal, that the budget isn't passed, that each process of which a grant is open
-/// stands as it was given out, and that no two of these have one number.
+/// is as it was given out, and that no two of these have one number.
 #[derive(Drop)]
 pub struct Net<L: Local> {
     pub(crate) root: Snapshot<L>,
@@ -60,7 +60,7 @@ impl<L: Local> Net<L> {
         ensures { IfOk result (λ net. net ≡ started root budget) }
     {
         let begun = Snapshot::of(&root);
-        let _path = root.path(); // its clause tells that the root is sound
+        let _path = root.path(); // its clause says that the root is sound
         let tree = RunState::start(alloc, root)?;
         Ok(Net {
             root: begun,
@@ -81,7 +81,7 @@ impl<L: Local> Net<L> {
     }
 }
 
-/// How many steps of the budget are neither taken in the tree nor reserved. Its clauses tell, too, what the
+/// How many steps of the budget are neither taken in the tree nor reserved. Its clauses say, too, what the
 /// tree's type keeps.
 pub(crate) fn left_in<L: Local>(tree: &RunState<L>, budget: u64, reserved: u64) -> u64
     requires { steps (tree_in L.ops tree.now) + reserved ≤ budget }

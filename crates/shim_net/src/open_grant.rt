@@ -2,14 +2,14 @@
 ghost use Rattle.std.specs.Prelude.{◌≡◌, ◌<◌, ◌↔◌, ℕ, IsTrue, IfOk, MatchOption, length, slice_index_or};
 ghost use Rattle.std.specs.List.{All};
 ghost use Rattle.shim_net.specs.Nets.{OpenGrant as GrantOf, HasNumbers, IsOpen};
-ghost use Rattle.shim_net.specs.Taking.{Matches};
+ghost use Rattle.shim_net.specs.Absorbing.{Matches};
 
 use shim_base::{NoMemory, Path};
 use shim_local::{Finished, Local, Parcel};
 use std::marker::Model;
 
-/// A grant that is open: its numbers, the most steps, and the process as it stands in the tree. The path
-/// is kept for the entry that will tell of the steps, so that closing a grant takes no memory.
+/// A grant that is open: its numbers, the most steps, and the process as it is in the tree. The path is
+/// kept for the entry that will have the steps, so that closing a grant takes no memory.
 #[derive(Drop)]
 pub(crate) struct OpenGrant<L: Local> {
     number: u32,

@@ -1,8 +1,9 @@
-// What a net tells of itself at any time. None of this takes memory.
+// What can be read of a net at any time. None of this takes memory.
 ghost use Rattle.std.specs.Prelude.{◌≡◌, ◌≢◌, ◌↔◌, None, [], map, IsTrue, IfSome};
 ghost use Rattle.std.specs.Option.{option_copied};
 ghost use Rattle.shim_semantics.specs.Trees as trees;
 ghost use Rattle.shim_semantics.specs.Endings as endings;
+ghost use Rattle.shim_laws_replay.specs.Nets.{NamesNoQuietStep};
 ghost use Rattle.shim_net.specs.Entries.{entry_of};
 ghost use Rattle.shim_net.specs.Nets.{IsOpen};
 
@@ -27,15 +28,15 @@ impl<L: Local> Net<L> {
         self.tree.steps()
     }
 
-    /// What was done in it. An event that `settle` did stands there by itself, and is no quiet step; of what `finish`
-    /// did no clause says so.
+    /// What was done in it, entry by entry. An event that an entry names by itself is no quiet step.
     pub fn journal(&self) -> &[Entry]
-        ensures { map entry_of result.now ≡ self.now.journal }
+        ensures entries { map entry_of result.now ≡ self.now.journal }
+        ensures events { NamesNoQuietStep L.ops self.now.root self.now.journal }
     {
         self.journal.as_slice()
     }
 
-    /// The values that the meetings on the channel gave; `None` exactly where it had none.
+    /// The values that the rendezvous on the channel gave; `None` exactly where it had none.
     pub fn history(&self, c: &Chan) -> Option<&[i64]>
         ensures values { option_copied result ≡ endings.history_at c.now.channel self.now.tree }
         ensures none { (option_copied result ≡ None) ↔ (endings.values_on c.now.channel self.now.tree ≡ []) }

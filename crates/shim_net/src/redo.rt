@@ -1,6 +1,6 @@
 // Doing work that was given out again.
 ghost use Rattle.std.specs.Prelude.{◌≡◌, [], IfOk, OnOk, OnErr};
-ghost use Rattle.shim_net.specs.Taking.{RedoesOne, RedoesSome};
+ghost use Rattle.shim_net.specs.Absorbing.{RedoesOne, RedoesSome};
 ghost use Rattle.shim_net.specs.Progress.{GoesOn, AreAmong};
 
 use crate::net::Net;
@@ -9,7 +9,7 @@ use shim_local::{Finished, Local, work};
 
 impl<L: Local> Net<L> {
     /// Does the work of an open grant from its start, and takes it in; false exactly where no grant is
-    /// open. Want of memory changes nothing.
+    /// open. Running out of memory changes nothing.
     pub fn redo(&mut self) -> Result<bool, NoMemory>
         ensures ok { IfOk result (λ more. RedoesOne L.ops self.old self.new more) }
         ensures err { OnErr result (self.new ≡ self.old) }

@@ -2,7 +2,7 @@
 ghost use Rattle.std.specs.Prelude.{◌≡◌, ◌⊎◌, IfOk};
 ghost use Rattle.shim_semantics.specs.Endings as endings;
 ghost use Rattle.shim_laws_replay.specs.Ends.{AgreesWithMeaning};
-ghost use Rattle.shim_laws_replay.specs.Told.{IsToldAs};
+ghost use Rattle.shim_laws_replay.specs.ReadOff.{IsReadOffAs};
 ghost use Rattle.shim_net.specs.Nets.{IsNet};
 ghost use Rattle.shim_net.specs.Standings.{StandsAs, IsQuiescentNet, IsSpentNet};
 
@@ -22,9 +22,9 @@ pub enum Standing {
 }
 
 impl<L: Local> Net<L> {
-    /// How it stands. Its clauses tell, too, what its type keeps. It takes no memory.
+    /// How it stands. Its clauses say, too, what its type keeps. It takes no memory.
     pub fn standing(&self) -> Standing
-        ensures stands { StandsAs L.ops self.now result }
+        ensures standing_is { StandsAs L.ops self.now result }
         ensures keeps { IsNet L.ops self.now }
     {
         if !self.grants.is_empty() {
@@ -45,7 +45,7 @@ impl<L: Local> Net<L> {
         requires { IsQuiescentNet L.ops self.now ⊎ IsSpentNet L.ops self.now }
         ensures ended { IfOk result (λ ended. ended ≡ endings.ended L.ops self.now.tree) }
         ensures agrees { AgreesWithMeaning L.ops self.now.root self.now.budget self.now.tree }
-        ensures told { IsToldAs L.ops self.now.root self.now.budget self.now.tree }
+        ensures read_off { IsReadOffAs L.ops self.now.root self.now.budget self.now.tree }
     {
         self.tree.ended(self.budget)
     }

@@ -2,7 +2,7 @@
 ghost use Rattle.std.specs.Prelude.{◌≡◌, ◌≤◌, ◌<◌, ◌+◌, map, vec_len, vec_capacity, IfOk, OnOk, OnErr};
 ghost use Rattle.shim_semantics.specs.Trees as trees;
 ghost use Rattle.shim_net.specs.Entries.{entry_of};
-ghost use Rattle.shim_net.specs.Taking.{with_piece};
+ghost use Rattle.shim_net.specs.Absorbing.{with_piece};
 ghost use Rattle.shim_net.specs.Stepping.{IsNextHome, StepsHome};
 ghost use Rattle.shim_net.specs.Progress.{GoesOn, CanGive};
 
@@ -25,7 +25,7 @@ fn add_steps(journal: &mut Vec<Entry>, path: Path, steps: u64)
 }
 
 impl<L: Local> Net<L> {
-    /// The number of a process that stands before a quiet step and isn't out: the one that `step`,
+    /// The number of a process that is before a quiet step and isn't out: the one that `step`,
     /// `enter_and_step` or `grant` would take next. `None` exactly where there is none, or nothing is left of the
     /// budget. It takes no memory.
     pub fn next_home(&mut self) -> Option<u64>
@@ -41,10 +41,10 @@ impl<L: Local> Net<L> {
     /// Such a process does quiet steps in place: up to `most`, which are at least 1, or what is left of the
     /// budget where that is less. They are one entry of the journal, and no grant changes. It does fewer only
     /// where it comes to another stop, or memory was wanted for a further step (`short`); `None` exactly where
-    /// no process is at home, or nothing is left. Want of memory before the first step changes nothing.
+    /// no process is at home, or nothing is left. Running out of memory before the first step changes nothing.
     pub fn step(&mut self, most: u64) -> Result<Option<Quiet>, NoMemory>
         requires most { 1 ≤ most }
-        ensures ok { IfOk result (λ quiet. StepsHome L.ops self.old self.new most quiet) }
+        ensures ok { IfOk result (λ burst. StepsHome L.ops self.old self.new most burst) }
         ensures err { OnErr result (self.new ≡ self.old) }
     {
         self.enter_and_step(most, &NoOpGate::new())
@@ -57,7 +57,7 @@ impl<L: Local> Net<L> {
         gate: &G,
     ) -> Result<Option<Quiet>, NoMemory>
         requires most { 1 ≤ most }
-        ensures ok { IfOk result (λ quiet. StepsHome L.ops self.old self.new most quiet) }
+        ensures ok { IfOk result (λ burst. StepsHome L.ops self.old self.new most burst) }
         ensures err { OnErr result (self.new ≡ self.old) }
     {
         let left = left_in(&self.tree, self.budget, self.reserved);
@@ -71,13 +71,13 @@ impl<L: Local> Net<L> {
         self.journal.reserve(self.grants.len() + 1)?;
         let path = self.tree.path(number).copy()?;
         gate.enter(number as u64, L::COMPILED);
-        let quiet = self.tree.step(number, most.min(left));
-        add_steps(&mut self.journal, path, quiet.taken);
-        Ok(Some(quiet))
+        let burst = self.tree.step(number, most.min(left));
+        add_steps(&mut self.journal, path, burst.taken);
+        Ok(Some(burst))
     }
 
     // The process that is next at home, of which there is one, does quiet steps in place, up to what is left of
-    // the budget. Want of memory for a step leaves those before it, and they stand in the journal.
+    // the budget. Want of memory for a step leaves those before it, and they are in the journal.
     pub(crate) fn step_next(&mut self) -> Result<(), NoMemory>
         requires can { CanGive L.ops self.old }
         ensures goes_on { GoesOn L.ops self.old self.new }
@@ -86,8 +86,8 @@ impl<L: Local> Net<L> {
     {
         match self.step(u64::MAX)? {
             None => Ok(()), // excluded, since something can be given out
-            Some(quiet) => {
-                if quiet.short {
+            Some(burst) => {
+                if burst.short {
                     return Err(NoMemory);
                 }
                 Ok(())

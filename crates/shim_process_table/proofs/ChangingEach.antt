@@ -7,18 +7,18 @@ use Rattle.shim_local.specs.Process.{Ops}
 use Rattle.shim_local.specs.Laws.{LocalLaws, by_receive, by_call}
 use Rattle.shim_semantics.specs.Nodes.{Node, death}
 use Rattle.shim_semantics.proofs.Replaced.{sound_at, state_sound}
-use Rattle.shim_laws_table.specs.Seen.{ProcessStatus, lives, dies, place}
+use Rattle.shim_laws_table.specs.NodeStatus.{ProcessStatus, lives, dies, place}
 use Rattle.shim_laws_table.specs.Agrees.{used}
 use Rattle.shim_laws_table.proofs.SameTrees.{same_or_not}
 use Rattle.shim_records.specs.Members.{IsAmong}
-use Rattle.shim_records.proofs.ReadOff.{same_stands}
+use Rattle.shim_records.proofs.ReadOff.{same_views}
 use Rattle.shim_records.proofs.Stepping.{set_there, set_elsewhere}
-use Rattle.shim_laws_table_events.specs.keeping.Tables.{TableView, HasProcessState, TableInvariant, stands}
-use Rattle.shim_laws_table_events.specs.meetings.Meetings.{ReceivesOne, stands_elsewhere, received, ReceiveAll, none_left, one_more}
+use Rattle.shim_laws_table_events.specs.keeping.Tables.{TableView, HasProcessState, TableInvariant, views}
+use Rattle.shim_laws_table_events.specs.meetings.Meetings.{ReceivesOne, not_at_channel, received, ReceiveAll, none_left, one_more}
 use Rattle.shim_laws_table_events.specs.meetings.Poisons.{DiesOne, survived, was_killed, AllDie, none_left as none_die, one_more as one_dies}
 use Rattle.shim_laws_table_events.proofs.meetings.Among.{among_later}
 use Rattle.shim_laws_table_events.proofs.meetings.AtHome.{node_at}
-use Rattle.shim_laws_table_events.proofs.meetings.Dies.{stands_now}
+use Rattle.shim_laws_table_events.proofs.meetings.Dies.{views_now}
 use Rattle.shim_laws_table_events.proofs.meetings.Meets.{one_keeps}
 use Rattle.shim_laws_table_events.proofs.meetings.Receives.{moves_on_rest}
 use Rattle.shim_process_table.specs.Stepping.{HasBecome}
@@ -72,7 +72,7 @@ module _ {S : Type 0} (o : Ops S) where
 
   module _ (law : LocalLaws o) (c : Channel) (v : ℤ) where
     receives_changed : (i : ℕ) (before behind : TableView S) → ReceivesOne o c v i before behind → (rp : Path) (root : Node S) → TableInvariant o rp before root → IsChanged o (i ∷ []) before behind
-    receives_changed i before behind (stands_elsewhere none same) rp root kept = none_changed (i ∷ []) before behind same
+    receives_changed i before behind (not_at_channel none same) rp root kept = none_changed (i ∷ []) before behind same
     receives_changed i before behind (received f l d has stop is states moves) rp root kept = one_changed i f l s lives lives before behind has become (law.moved_path l s sound (by_call (by_receive d v stop refl)))
       where
         s : S
@@ -80,18 +80,18 @@ module _ {S : Type 0} (o : Ops S) where
 
         sound : o.sound l
         sound =
-            let n = node_at o rp before.states (stands before) root kept.represents i f l lives has in
+            let n = node_at o rp before.states (views before) root kept.represents i f l lives has in
             subst (λ z. o.sound z) n.2 (state_sound o n.0 (sound_at o (place o rp l) root n.0 kept.represents.sound.below n.1))
 
-        stay : stands behind ≡ stands before
-        stay = same_stands before.records behind.records (moves_on_rest moves)
+        stay : views behind ≡ views before
+        stay = same_views before.records behind.records (moves_on_rest moves)
 
         become : HasBecome i s lives before behind
         become = record {
           first = f;
-          mine = record { state_is = ap (λ z. slice_get z i) states ∙ set_there before.states i l s has.state_is; stands_so = ap (λ z. slice_get z i) stay ∙ has.stands_so };
-          others = λ j g t x far h. record { state_is = ap (λ z. slice_get z j) states ∙ (set_elsewhere before.states i j s far ∙ h.state_is); stands_so = ap (λ z. slice_get z j) stay ∙ h.stands_so };
-          only = λ j g t x far h. record { state_is = sym (ap (λ z. slice_get z j) states ∙ set_elsewhere before.states i j s far) ∙ h.state_is; stands_so = sym (ap (λ z. slice_get z j) stay) ∙ h.stands_so };
+          mine = record { state_is = ap (λ z. slice_get z i) states ∙ set_there before.states i l s has.state_is; view_is = ap (λ z. slice_get z i) stay ∙ has.view_is };
+          others = λ j g t x far h. record { state_is = ap (λ z. slice_get z j) states ∙ (set_elsewhere before.states i j s far ∙ h.state_is); view_is = ap (λ z. slice_get z j) stay ∙ h.view_is };
+          only = λ j g t x far h. record { state_is = sym (ap (λ z. slice_get z j) states ∙ set_elsewhere before.states i j s far) ∙ h.state_is; view_is = sym (ap (λ z. slice_get z j) stay) ∙ h.view_is };
         }
 
     pub all_receive_changed : (numbers : List ℕ) (before behind : TableView S) → ReceiveAll o c v numbers before behind → ChangesEach o numbers before behind
@@ -110,15 +110,15 @@ module _ {S : Type 0} (o : Ops S) where
         dead : ProcessStatus
         dead = dies (death label)
 
-        now : stands behind ≡ slice_set (stands before) i (used f dead)
-        now = stands_now o before.states before.records behind.records i f label l has down
+        now : views behind ≡ slice_set (views before) i (used f dead)
+        now = views_now o before.states before.records behind.records i f label l has down
 
         become : HasBecome i l dead before behind
         become = record {
           first = f;
-          mine = record { state_is = ap (λ z. slice_get z i) states ∙ has.state_is; stands_so = ap (λ z. slice_get z i) now ∙ set_there (stands before) i (used f lives) (used f dead) has.stands_so };
-          others = λ j g t x far h. record { state_is = ap (λ z. slice_get z j) states ∙ h.state_is; stands_so = ap (λ z. slice_get z j) now ∙ (set_elsewhere (stands before) i j (used f dead) far ∙ h.stands_so) };
-          only = λ j g t x far h. record { state_is = sym (ap (λ z. slice_get z j) states) ∙ h.state_is; stands_so = sym (ap (λ z. slice_get z j) now ∙ set_elsewhere (stands before) i j (used f dead) far) ∙ h.stands_so };
+          mine = record { state_is = ap (λ z. slice_get z i) states ∙ has.state_is; view_is = ap (λ z. slice_get z i) now ∙ set_there (views before) i (used f lives) (used f dead) has.view_is };
+          others = λ j g t x far h. record { state_is = ap (λ z. slice_get z j) states ∙ h.state_is; view_is = ap (λ z. slice_get z j) now ∙ (set_elsewhere (views before) i j (used f dead) far ∙ h.view_is) };
+          only = λ j g t x far h. record { state_is = sym (ap (λ z. slice_get z j) states) ∙ h.state_is; view_is = sym (ap (λ z. slice_get z j) now ∙ set_elsewhere (views before) i j (used f dead) far) ∙ h.view_is };
         }
 
     pub all_die_changed : (numbers : List ℕ) (before behind : TableView S) → AllDie o label numbers before behind → IsChanged o numbers before behind

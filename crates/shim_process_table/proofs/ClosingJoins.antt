@@ -31,7 +31,7 @@ joined_behind o xs front back lent parent first count goes_on l x y is_front is_
     (λ i. slice_set (is_front i) parent x ++ is_back i)
     ∙ (set_front xs parent first x order ∙ ap (slice_set xs parent) (is_x ∙ ((λ i. o.join (its i) (is_lent i) goes_on) ∙ ap (λ z. o.join l (take count z) goes_on) is_back)))
 
--- ---- where they stand before it
+-- ---- where they are before it
 
 set_back : {A : Type 0} (xs : List A) (k : ℕ) (x : A) → take k xs ++ slice_set (drop k xs) 0 x ≡ slice_set xs k x
 set_back [] zero x = refl

@@ -9,13 +9,13 @@ use Rattle.shim_semantics.specs.Nodes.{Death}
 use Rattle.shim_laws_table.specs.Changes.{segment, prevailing_with, prevailing_among}
 use Rattle.shim_records.specs.Members.{IsAmong}
 use Rattle.shim_records.specs.Acted.{Earlier}
-use Rattle.shim_records.specs.Pairs.{stands_of, stands_by, rest_of}
-use Rattle.shim_records.specs.Recounting.{IsRecounted}
+use Rattle.shim_records.specs.Pairs.{record_view, status_view, rest_of}
+use Rattle.shim_records.specs.Recomputing.{IsRecomputed}
 use Rattle.shim_records.specs.declared.record.Record.{Record}
 use Rattle.shim_records.proofs.Walked.{none_earlier}
 use Rattle.shim_records.proofs.Representing.{map_get}
-use Rattle.shim_laws_table_events.specs.closes.Closing.{AllRecounted, none_left, one_more, GivenRecounted}
-use Rattle.shim_laws_table_events.proofs.closes.Labels.{rest_recounted}
+use Rattle.shim_laws_table_events.specs.closes.Closing.{AllRecomputed, none_left, one_more, GivenRecomputed}
+use Rattle.shim_laws_table_events.proofs.closes.Labels.{rest_recomputed}
 
 -- where a list has an item, it begins with that
 drop_at : {A : Type 0} (xs : List A) (g : ℕ) (x : A) → slice_get xs g ≡ Some x → drop g xs ≡ x ∷ drop (suc g) xs
@@ -27,27 +27,27 @@ no_block : {A : Type 0} (xs : List A) → take 0 xs ≡ []
 no_block [] = refl
 no_block (x ∷ xs) = refl
 
-pub none_read : (rs : List Record) (g n : ℕ) → None ≡ prevailing_among (segment (g + n) (n - n) (map stands_of rs))
+pub none_read : (rs : List Record) (g n : ℕ) → None ≡ prevailing_among (segment (g + n) (n - n) (map record_view rs))
 none_read rs g n =
     let none : n - n ≡ 0 = omega arith in
-    sym (ap (λ z. prevailing_among (segment (g + n) z (map stands_of rs))) none ∙ ap prevailing_among (no_block (drop (g + n) (map stands_of rs))))
+    sym (ap (λ z. prevailing_among (segment (g + n) z (map record_view rs))) none ∙ ap prevailing_among (no_block (drop (g + n) (map record_view rs))))
 
 -- one more child
-pub one_read : (rs : List Record) (g n i : ℕ) (r : Record) (min_dead_label now : Option Death) → i < n → slice_get rs (g + i) ≡ Some r → ((f : ℕ) → now ≡ prevailing_with (stands_by f r.status) min_dead_label)
-    → min_dead_label ≡ prevailing_among (segment (g + (i + 1)) (n - (i + 1)) (map stands_of rs)) → now ≡ prevailing_among (segment (g + i) (n - i) (map stands_of rs))
+pub one_read : (rs : List Record) (g n i : ℕ) (r : Record) (min_dead_label now : Option Death) → i < n → slice_get rs (g + i) ≡ Some r → ((f : ℕ) → now ≡ prevailing_with (status_view f r.status) min_dead_label)
+    → min_dead_label ≡ prevailing_among (segment (g + (i + 1)) (n - (i + 1)) (map record_view rs)) → now ≡ prevailing_among (segment (g + i) (n - i) (map record_view rs))
 one_read rs g n i r min_dead_label now less there is so =
     let left : n - i ≡ suc (n - (i + 1)) = omega (arith, less) in
     let next : suc (g + i) ≡ g + (i + 1) = omega arith in
-    let here : slice_get (map stands_of rs) (g + i) ≡ Some (stands_of r) = map_get stands_of rs (g + i) ∙ ap (option_map stands_of) there in
+    let here : slice_get (map record_view rs) (g + i) ≡ Some (record_view r) = map_get record_view rs (g + i) ∙ ap (option_map record_view) there in
     is r.first
-    ∙ (ap (prevailing_with (stands_of r)) (so ∙ ap (λ z. prevailing_among (segment z (n - (i + 1)) (map stands_of rs))) (sym next))
-    ∙ sym (ap (λ z. prevailing_among (segment (g + i) z (map stands_of rs))) left ∙ ap (λ z. prevailing_among (take (suc (n - (i + 1))) z)) (drop_at (map stands_of rs) (g + i) (stands_of r) here)))
+    ∙ (ap (prevailing_with (record_view r)) (so ∙ ap (λ z. prevailing_among (segment z (n - (i + 1)) (map record_view rs))) (sym next))
+    ∙ sym (ap (λ z. prevailing_among (segment (g + i) z (map record_view rs))) left ∙ ap (λ z. prevailing_among (take (suc (n - (i + 1))) z)) (drop_at (map record_view rs) (g + i) (record_view r) here)))
 
-pub all_read : (rs : List Record) (g n i : ℕ) (min_dead_label : Option Death) → i ≡ 0 → min_dead_label ≡ prevailing_among (segment (g + i) (n - i) (map stands_of rs)) → min_dead_label ≡ prevailing_among (segment g n (map stands_of rs))
+pub all_read : (rs : List Record) (g n i : ℕ) (min_dead_label : Option Death) → i ≡ 0 → min_dead_label ≡ prevailing_among (segment (g + i) (n - i) (map record_view rs)) → min_dead_label ≡ prevailing_among (segment g n (map record_view rs))
 all_read rs g n i min_dead_label e so =
     let first : g + i ≡ g = omega (arith, e) in
     let many : n - i ≡ n = omega (arith, e) in
-    so ∙ (λ t. prevailing_among (segment (first t) (many t) (map stands_of rs)))
+    so ∙ (λ t. prevailing_among (segment (first t) (many t) (map record_view rs)))
 
 -- ---- the labels above
 
@@ -89,28 +89,28 @@ among_either c d (x ∷ cs) (zero, e) = inl (0, e)
 among_either c d (x ∷ cs) (suc i, e) = elim (among_either c d cs (i, e)) [ inl w ↦ inl (suc w.0, w.1) | inr w ↦ inr w ]
 
 module _ {S : Type 0} (o : Ops S) (states : List S) (n x : ℕ) where
-  one_behind : {cs : List Channel} {a b : List Record} (d : List Record) (c : Channel) → AllRecounted o states n x cs a b → IsRecounted o c states n x b d → AllRecounted o states n x (cs ++ c ∷ []) a d
+  one_behind : {cs : List Channel} {a b : List Record} (d : List Record) (c : Channel) → AllRecomputed o states n x cs a b → IsRecomputed o c states n x b d → AllRecomputed o states n x (cs ++ c ∷ []) a d
   one_behind d c (none_left rs) way = one_more c [] rs d d way (none_left d)
   one_behind d c (one_more h cs before between behind first more) way = one_more h (cs ++ c ∷ []) before between d first (one_behind d c more way)
 
   module _ (s : S) (start : List Record) where
     pub record SoFar (place : ℕ) (now : List Record) : Type 0 where
       pub chans : List Channel
-      pub recounted : AllRecounted o states n x chans start now
+      pub recomputed : AllRecomputed o states n x chans start now
       pub all : (c : Channel) → Earlier o s c place → o.shares s c ≡ true → IsAmong c chans
       pub only : (c : Channel) → IsAmong c chans → o.shares s c ≡ true
 
     pub at_first : SoFar 0 start
-    at_first = record { chans = []; recounted = none_left start; all = λ c h shares. absurd (none_earlier o s c h); only = λ c g. none_some c g.1 }
+    at_first = record { chans = []; recomputed = none_left start; all = λ c h shares. absurd (none_earlier o s c h); only = λ c g. none_some c g.1 }
 
     -- beside labels records say what they did
     pub ways : (place : ℕ) (now : List Record) → SoFar place now → map rest_of now ≡ map rest_of start
-    ways place now so = rest_recounted o states n x so.recounted
+    ways place now so = rest_recomputed o states n x so.recomputed
 
-    pub next : (place : ℕ) (now behind : List Record) (d : NamedChannel) → slice_get (o.given s) place ≡ Some d → o.shares s d.channel ≡ true → IsRecounted o d.channel states n x now behind → SoFar place now → SoFar (place + 1) behind
+    pub next : (place : ℕ) (now behind : List Record) (d : NamedChannel) → slice_get (o.given s) place ≡ Some d → o.shares s d.channel ≡ true → IsRecomputed o d.channel states n x now behind → SoFar place now → SoFar (place + 1) behind
     next place now behind d e shares way so = record {
       chans = so.chans ++ d.channel ∷ [];
-      recounted = one_behind behind d.channel so.recounted way;
+      recomputed = one_behind behind d.channel so.recomputed way;
       all = λ c h too. elim (last_or_before h.0 place h.2) [
         | inl w ↦ among_left c d.channel so.chans (so.all c (h.0, h.1, w, h.3, h.4) too)
         | inr w ↦
@@ -126,7 +126,7 @@ module _ {S : Type 0} (o : Ops S) (states : List S) (n x : ℕ) where
     pub passed : (place : ℕ) (now : List Record) (d : NamedChannel) → slice_get (o.given s) place ≡ Some d → o.shares s d.channel ≡ false → SoFar place now → SoFar (place + 1) now
     passed place now d e lacks so = record {
       chans = so.chans;
-      recounted = so.recounted;
+      recomputed = so.recomputed;
       all = λ c h shares. elim (last_or_before h.0 place h.2) [
         | inl w ↦ so.all c (h.0, h.1, w, h.3, h.4) shares
         | inr w ↦
@@ -138,10 +138,10 @@ module _ {S : Type 0} (o : Ops S) (states : List S) (n x : ℕ) where
     }
 
     -- behind the last one
-    pub no_more : (place : ℕ) (now : List Record) → slice_get (o.given s) place ≡ None → SoFar place now → GivenRecounted o states s n x start now
+    pub no_more : (place : ℕ) (now : List Record) → slice_get (o.given s) place ≡ None → SoFar place now → GivenRecomputed o states s n x start now
     no_more place now e so = record {
       chans = so.chans;
-      recounted = so.recounted;
+      recomputed = so.recomputed;
       all = λ c given shares. elim (less_or_not given.0 place) [
         | inl w ↦ so.all c (given.0, given.1, w, given.2, given.3) shares
         | inr w ↦ none_some given.1 (sym (past_none (o.given s) place given.0 e w) ∙ given.2)
@@ -149,10 +149,10 @@ module _ {S : Type 0} (o : Ops S) (states : List S) (n x : ℕ) where
       shared = so.only;
     }
 
-    pub at_end : (place : ℕ) (now : List Record) → length (o.given s) ≤ place → SoFar place now → GivenRecounted o states s n x start now
+    pub at_end : (place : ℕ) (now : List Record) → length (o.given s) ≤ place → SoFar place now → GivenRecomputed o states s n x start now
     at_end place now past so = record {
       chans = so.chans;
-      recounted = so.recounted;
+      recomputed = so.recomputed;
       all = λ c given shares. let w = inside (o.given s) given.0 given.1 given.2 in so.all c (given.0, given.1, omega (arith, w, past), given.2, given.3) shares;
       shared = so.only;
     }

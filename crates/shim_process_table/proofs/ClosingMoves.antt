@@ -10,12 +10,12 @@ use Rattle.shim_local.specs.Laws.{LocalLaws}
 use Rattle.shim_semantics.specs.Nodes.{Death, state}
 use Rattle.shim_semantics.specs.Acts.{Acted, closed}
 use Rattle.shim_semantics.specs.Trees.{Close}
-use Rattle.shim_laws_table.specs.Seen.{forks, process_status}
+use Rattle.shim_laws_table.specs.NodeStatus.{forks, process_status}
 use Rattle.shim_laws_table.specs.Agrees.{free as unused_so, used, Has}
 use Rattle.shim_laws_table.proofs.Hanging.{tree_of}
 use Rattle.shim_laws_table.specs.Changes.{HasClosed, segment, prevailing_among}
 use Rattle.shim_records.specs.Acted.{process_status_of, AllUpdated}
-use Rattle.shim_records.specs.Pairs.{fork_size, stands_of, stands_by, chans_of, IsOrdered, AreOrdered}
+use Rattle.shim_records.specs.Pairs.{fork_size, record_view, status_view}
 use Rattle.shim_records.specs.declared.record.Record.{Record}
 use Rattle.shim_records.specs.declared.record.Status.{Status}
 use Rattle.shim_records.specs.declared.record.Status.TheVariants as code
@@ -24,12 +24,12 @@ use Rattle.shim_records.proofs.Stepping.{set_there}
 use Rattle.shim_laws_table_events.specs.keeping.Tables.{TableView, TableInvariant, HasTableInvariant}
 use Rattle.shim_laws_table_events.specs.keeping.Moves.{Performs}
 use Rattle.shim_laws_table_events.proofs.queues.PairsFound.{record_of}
-use Rattle.shim_laws_table_events.specs.closes.Closing.{RecordWithoutStatus, without_status, AreFreed, HasCome, CountsOffIfOver, RecountedIf}
+use Rattle.shim_laws_table_events.specs.closes.Closing.{RecordWithoutStatus, without_status, AreFreed, HasCome, CountsOffIfOver, RecomputedIf}
 use Rattle.shim_laws_table_events.proofs.closes.Closed.{behind as behind_close, given_few}
-use Rattle.shim_laws_table_events.proofs.closes.Closes.{close_preserves, stands_stay}
+use Rattle.shim_laws_table_events.proofs.closes.Closes.{close_preserves, views_stay}
 use Rattle.shim_laws_table_events.proofs.closes.Cuts.{cut, closed_cut}
-use Rattle.shim_laws_table_events.proofs.closes.Saying.{map_length, said_alike, was_item}
-use Rattle.shim_laws_table_events.proofs.closes.Taking.{born, below, within, apart}
+use Rattle.shim_laws_table_events.proofs.closes.Saying.{map_length, said_alike}
+use Rattle.shim_laws_table_events.proofs.closes.ClosedFork.{born, below, within, apart}
 use Rattle.shim_process_table.specs.Closing.{CanClose, close_effects, ClosedAs, acted_by, status_by_close, ClosesAt, ClosesRecord}
 use Rattle.shim_process_table.specs.declared.acting.Thrown.TheVariants as thrown
 use Rattle.shim_process_table.specs.declared.closing.CloseOutcome.{CloseOutcome}
@@ -41,7 +41,7 @@ use Rattle.shim_process_table.proofs.TouchingCloses.{closes_touch}
 use Rattle.shim_process_table.proofs.TouchingCuts.{cut_touched}
 
 -- what a record of a fork says
-forked_says : (f g n : ℕ) (s : Status) → stands_by f s ≡ used g (forks n) → (f ≡ g) × (fork_size s ≡ n)
+forked_says : (f g n : ℕ) (s : Status) → status_view f s ≡ used g (forks n) → (f ≡ g) × (fork_size s ≡ n)
 forked_says f g n code.Free e = absurd cc
 forked_says f g n code.Live e = absurd cc
 forked_says f g n (code.Forked m) e = (cc, cc)
@@ -49,41 +49,37 @@ forked_says f g n code.Ended e = absurd cc
 forked_says f g n (code.Dead x) e = absurd cc
 
 -- and what is read of it
-pub children_read : {S : Type 0} (v : TableView S) (i f n : ℕ) (l : S) (r : Record) (k : ℕ) → Has v.states (map stands_of v.records) i f l (forks n) → r ≡ get_or v.records i r → k ≡ fork_size r.status → (r.first ≡ f) × (k ≡ n)
+pub children_read : {S : Type 0} (v : TableView S) (i f n : ℕ) (l : S) (r : Record) (k : ℕ) → Has v.states (map record_view v.records) i f l (forks n) → r ≡ get_or v.records i r → k ≡ fork_size r.status → (r.first ≡ f) × (k ≡ n)
 children_read v i f n l r k has read is =
-    let w = record_of v.records i f (forks n) has.stands_so in
+    let w = record_of v.records i f (forks n) has.view_is in
     let same : r ≡ w.0 = read_there v.records i r w.0 (slice_get_within v.records i w.0 w.1) read w.1 in
-    let so : stands_of w.0 ≡ used f (forks n) = some_same (stands_of w.0) (used f (forks n)) (sym (map_get stands_of v.records i ∙ ap (option_map stands_of) w.1) ∙ has.stands_so) in
-    let told = forked_says w.0.first f n w.0.status so in
-    (ap (λ (z : Record). z.first) same ∙ told.0, is ∙ (ap (λ (z : Record). fork_size z.status) same ∙ told.1))
+    let so : record_view w.0 ≡ used f (forks n) = some_same (record_view w.0) (used f (forks n)) (sym (map_get record_view v.records i ∙ ap (option_map record_view) w.1) ∙ has.view_is) in
+    let fork_is = forked_says w.0.first f n w.0.status so in
+    (ap (λ (z : Record). z.first) same ∙ fork_is.0, is ∙ (ap (λ (z : Record). fork_size z.status) same ∙ fork_is.1))
 
-state_told : {S : Type 0} (outcome : CloseOutcome) (s : S) → state (acted_by outcome s).node ≡ s
-state_told GoesOn s = refl
-state_told (Threw (thrown.Caught name line)) s = refl
-state_told (Threw (thrown.Died d)) s = refl
-state_told (Threw thrown.Trapped) s = refl
+acted_state : {S : Type 0} (outcome : CloseOutcome) (s : S) → state (acted_by outcome s).node ≡ s
+acted_state GoesOn s = refl
+acted_state (Threw (thrown.Caught name line)) s = refl
+acted_state (Threw (thrown.Died d)) s = refl
+acted_state (Threw thrown.Trapped) s = refl
 
-sort_told : {S : Type 0} (outcome : CloseOutcome) (s : S) → process_status (acted_by outcome s).node ≡ status_by_close outcome
-sort_told GoesOn s = refl
-sort_told (Threw (thrown.Caught name line)) s = refl
-sort_told (Threw (thrown.Died d)) s = refl
-sort_told (Threw thrown.Trapped) s = refl
+acted_status : {S : Type 0} (outcome : CloseOutcome) (s : S) → process_status (acted_by outcome s).node ≡ status_by_close outcome
+acted_status GoesOn s = refl
+acted_status (Threw (thrown.Caught name line)) s = refl
+acted_status (Threw (thrown.Died d)) s = refl
+acted_status (Threw thrown.Trapped) s = refl
 
-effects_told : {S : Type 0} (outcome : CloseOutcome) (s : S) → (acted_by outcome s).effects ≡ close_effects outcome
-effects_told GoesOn s = refl
-effects_told (Threw (thrown.Caught name line)) s = refl
-effects_told (Threw (thrown.Died d)) s = refl
-effects_told (Threw thrown.Trapped) s = refl
+acted_effects : {S : Type 0} (outcome : CloseOutcome) (s : S) → (acted_by outcome s).effects ≡ close_effects outcome
+acted_effects GoesOn s = refl
+acted_effects (Threw (thrown.Caught name line)) s = refl
+acted_effects (Threw (thrown.Died d)) s = refl
+acted_effects (Threw thrown.Trapped) s = refl
 
 came_to : {S : Type 0} (outcome : CloseOutcome) (s : S) → ClosedAs outcome (process_status (acted_by outcome s).node)
 came_to GoesOn s = refl
 came_to (Threw (thrown.Caught name line)) s = refl
 came_to (Threw (thrown.Died d)) s = refl
 came_to (Threw thrown.Trapped) s = refl
-
--- records that say the same beside what came of their processes have their pairs in the same order
-pub freed_order : (g n : ℕ) (before behind : List Record) → AreFreed g n before behind → AreOrdered before → AreOrdered behind
-freed_order g n before behind h ordered i r e = let w = was_item without_status before behind h.beside i r e in subst (λ z. IsOrdered (chans_of z)) (ap (λ (z : RecordWithoutStatus). z.pairs) w.2) (ordered i w.0 w.1)
 
 pub freed_long : (g n : ℕ) (before behind : List Record) → AreFreed g n before behind → length behind ≡ length before
 freed_long g n before behind h = sym (map_length without_status behind) ∙ (ap length h.beside ∙ map_length without_status before)
@@ -96,17 +92,17 @@ module _ {S : Type 0} (states : List S) (rs : List Record) (number : ℕ) (done 
   pub state_there : number < length states
   state_there = slice_get_within states number done.process done.forked.state_is
 
-  -- the record that was read tells of its children
-  pub forked_so : (r p : Record) (n : ℕ) → r ≡ get_or rs number r → p ≡ get_or rs number p → n ≡ fork_size p.status → Has states (map stands_of rs) number r.first done.process (forks n)
+  -- the record that was read says which are its children
+  pub forked_so : (r p : Record) (n : ℕ) → r ≡ get_or rs number r → p ≡ get_or rs number p → n ≡ fork_size p.status → Has states (map record_view rs) number r.first done.process (forks n)
   forked_so r p n is_r is_p is_n =
-      let so : stands_of done.said ≡ used done.first (forks done.many) = some_same (stands_of done.said) (used done.first (forks done.many)) (sym (map_get stands_of rs number ∙ ap (option_map stands_of) done.there) ∙ done.forked.stands_so) in
-      let told = forked_says done.said.first done.first done.many done.said.status so in
-      let first : r.first ≡ done.first = ap (λ (z : Record). z.first) (read_there rs number r done.said record_there is_r done.there) ∙ told.0 in
-      let many : n ≡ done.many = is_n ∙ (ap (λ (z : Record). fork_size z.status) (read_there rs number p done.said record_there is_p done.there) ∙ told.1) in
-      subst (λ z. Has states (map stands_of rs) number z done.process (forks n)) (sym first) (subst (λ z. Has states (map stands_of rs) number done.first done.process (forks z)) (sym many) done.forked)
+      let so : record_view done.said ≡ used done.first (forks done.many) = some_same (record_view done.said) (used done.first (forks done.many)) (sym (map_get record_view rs number ∙ ap (option_map record_view) done.there) ∙ done.forked.view_is) in
+      let fork_is = forked_says done.said.first done.first done.many done.said.status so in
+      let first : r.first ≡ done.first = ap (λ (z : Record). z.first) (read_there rs number r done.said record_there is_r done.there) ∙ fork_is.0 in
+      let many : n ≡ done.many = is_n ∙ (ap (λ (z : Record). fork_size z.status) (read_there rs number p done.said record_there is_p done.there) ∙ fork_is.1) in
+      subst (λ z. Has states (map record_view rs) number z done.process (forks n)) (sym first) (subst (λ z. Has states (map record_view rs) number done.first done.process (forks z)) (sym many) done.forked)
 
 module _ {S : Type 0} (o : Ops S) (law : LocalLaws o) (states : List S) (rs : List Record) (number : ℕ) (kept : HasTableInvariant o (record { states = states; records = rs })) (done : CanClose (record { states = states; records = rs }) number) (first count : ℕ)
-    (has : Has states (map stands_of rs) number first done.process (forks count)) where
+    (has : Has states (map record_view rs) number first done.process (forks count)) where
   -- ---- what is asked for
 
   pub is_apart : (number < first) ⊎ (first + count ≤ number)
@@ -121,17 +117,14 @@ module _ {S : Type 0} (o : Ops S) (law : LocalLaws o) (states : List S) (rs : Li
   pub are_born : (l : S) → slice_get states number ≡ Some l → o.born l (segment first count states)
   are_born l e = subst (λ z. o.born z (segment first count states)) (some_same done.process l (sym done.forked.state_is ∙ e)) (born o law kept.0 states rs kept.1 number first count done.process kept.2 has)
 
-  pub is_below : (label : Option Death) → label ≡ prevailing_among (segment first count (map stands_of rs)) → (l : S) (x : Death) → slice_get states number ≡ Some l → label ≡ Some x → x.label < o.handlers (o.join l (segment first count states) false)
+  pub is_below : (label : Option Death) → label ≡ prevailing_among (segment first count (map record_view rs)) → (l : S) (x : Death) → slice_get states number ≡ Some l → label ≡ Some x → x.label < o.handlers (o.join l (segment first count states) false)
   is_below label read l x e f =
       subst (λ z. x.label < o.handlers (o.join z (segment first count states) false)) (some_same done.process l (sym done.forked.state_is ∙ e))
       (below o law kept.0 states rs kept.1 number first count done.process kept.2 has x (sym read ∙ f))
 
-  pub are_ordered : AreOrdered rs
-  are_ordered = kept.2.ordered
-
   -- ---- what came of it
 
-  module _ (label : Option Death) (outcome : CloseOutcome) (now : List S) (read : label ≡ prevailing_among (segment first count (map stands_of rs)))
+  module _ (label : Option Death) (outcome : CloseOutcome) (now : List S) (read : label ≡ prevailing_among (segment first count (map record_view rs)))
       (taken : (l : S) → slice_get states number ≡ Some l → (s : S) × (now ≡ slice_set states number s) × (acted_by outcome s ≡ closed o l (segment first count states) label)) where
     last : (s : S) × (now ≡ slice_set states number s) × (acted_by outcome s ≡ closed o done.process (segment first count states) label)
     last = taken done.process done.forked.state_is
@@ -139,11 +132,11 @@ module _ {S : Type 0} (o : Ops S) (law : LocalLaws o) (states : List S) (rs : Li
     abbrev a : Acted S
     a = acted_by outcome last.0
 
-    is : a ≡ closed o done.process (segment first count states) (prevailing_among (segment first count (map stands_of rs)))
+    is : a ≡ closed o done.process (segment first count states) (prevailing_among (segment first count (map record_view rs)))
     is = last.2 ∙ ap (closed o done.process (segment first count states)) read
 
     state_is : state a.node ≡ last.0
-    state_is = state_told outcome last.0
+    state_is = acted_state outcome last.0
 
     set : now ≡ slice_set states number (state a.node)
     set = last.1 ∙ ap (slice_set states number) (sym state_is)
@@ -158,9 +151,9 @@ module _ {S : Type 0} (o : Ops S) (law : LocalLaws o) (states : List S) (rs : Li
     still_there = let w = state_there states rs number done in let long = ap length set ∙ length-set states number (state a.node) in omega (arith, w, long)
 
     module _ (freed behind : List Record) (status : Status) (end : ℕ) (free : AreFreed first count rs freed) (status_is : process_status_of status ≡ status_by_close outcome)
-        (settled : ClosesRecord o now number status label freed behind) (unused : (i : ℕ) (r : Record) → end ≤ i → slice_get behind i ≡ Some r → stands_of r ≡ unused_so) where
-      same_sort : process_status_of status ≡ process_status a.node
-      same_sort = status_is ∙ sym (sort_told outcome last.0)
+        (settled : ClosesRecord o now number status label freed behind) (unused : (i : ℕ) (r : Record) → end ≤ i → slice_get behind i ≡ Some r → record_view r ≡ unused_so) where
+      same_status : process_status_of status ≡ process_status a.node
+      same_status = status_is ∙ sym (acted_status outcome last.0)
 
       same_state : settled.process ≡ state a.node
       same_state = its settled.process settled.state_is
@@ -171,21 +164,21 @@ module _ {S : Type 0} (o : Ops S) (law : LocalLaws o) (states : List S) (rs : Li
       come : HasCome done.said settled.is (process_status a.node)
       come = record {
         first = settled.come.first;
-        stands_so = subst (λ z. stands_of settled.is ≡ used settled.come.first z) same_sort settled.come.stands_so;
+        view_is = subst (λ z. record_view settled.is ≡ used settled.come.first z) same_status settled.come.view_is;
         parent = settled.come.parent ∙ ap (λ (z : RecordWithoutStatus). z.parent) same_beside;
         path = settled.come.path ∙ ap (λ (z : RecordWithoutStatus). z.path) same_beside;
         no_pairs = settled.come.no_pairs;
       }
 
       leaves : CountsOffIfOver (process_status a.node) number (slice_set freed number settled.is) settled.left
-      leaves = subst (λ z. CountsOffIfOver z number (slice_set freed number settled.is) settled.left) same_sort settled.leaves
+      leaves = subst (λ z. CountsOffIfOver z number (slice_set freed number settled.is) settled.left) same_status settled.leaves
 
       walked : AllUpdated o (state a.node) (process_status a.node) 4294967295 number settled.left settled.between
-      walked = subst (λ z. AllUpdated o z (process_status a.node) 4294967295 number settled.left settled.between) same_state (subst (λ z. AllUpdated o settled.process z 4294967295 number settled.left settled.between) same_sort settled.walked)
+      walked = subst (λ z. AllUpdated o z (process_status a.node) 4294967295 number settled.left settled.between) same_state (subst (λ z. AllUpdated o settled.process z 4294967295 number settled.left settled.between) same_status settled.walked)
 
-      again : RecountedIf (prevailing_among (segment first count (map stands_of rs))) o (slice_set states number (state a.node)) (state a.node) 4294967295 number settled.between behind
-      again = subst (λ z. RecountedIf (prevailing_among (segment first count (map stands_of rs))) o z (state a.node) 4294967295 number settled.between behind) set
-          (subst (λ z. RecountedIf z o now (state a.node) 4294967295 number settled.between behind) read (subst (λ z. RecountedIf label o now z 4294967295 number settled.between behind) same_state settled.again))
+      again : RecomputedIf (prevailing_among (segment first count (map record_view rs))) o (slice_set states number (state a.node)) (state a.node) 4294967295 number settled.between behind
+      again = subst (λ z. RecomputedIf (prevailing_among (segment first count (map record_view rs))) o z (state a.node) 4294967295 number settled.between behind) set
+          (subst (λ z. RecomputedIf z o now (state a.node) 4294967295 number settled.between behind) read (subst (λ z. RecomputedIf label o now z 4294967295 number settled.between behind) same_state settled.again))
 
       abbrev After : TableView S
       After = record { states = take end now; records = take end behind }
@@ -198,10 +191,10 @@ module _ {S : Type 0} (o : Ops S) (law : LocalLaws o) (states : List S) (rs : Li
       pub still_kept : HasTableInvariant o After
       still_kept = let w = moves kept.0 (tree_of o kept.1) kept.2 in (kept.0, w.0.root, w.2)
 
-      closes : HasClosed states (slice_set states number (state a.node)) (map stands_of rs) (map stands_of behind) number first count (state a.node) (process_status a.node)
+      closes : HasClosed states (slice_set states number (state a.node)) (map record_view rs) (map record_view behind) number first count (state a.node) (process_status a.node)
       closes =
-          subst (λ z. HasClosed states (slice_set states number (state a.node)) (map stands_of rs) z number first count (state a.node) (process_status a.node))
-          (sym (stands_stay o (slice_set states number (state a.node)) (state a.node) (process_status a.node) 4294967295 number (slice_set freed number settled.is) settled.left settled.between behind (prevailing_among (segment first count (map stands_of rs))) leaves walked again))
+          subst (λ z. HasClosed states (slice_set states number (state a.node)) (map record_view rs) z number first count (state a.node) (process_status a.node))
+          (sym (views_stay o (slice_set states number (state a.node)) (state a.node) (process_status a.node) 4294967295 number (slice_set freed number settled.is) settled.left settled.between behind (prevailing_among (segment first count (map record_view rs))) leaves walked again))
           (behind_close o law kept.0 (tree_of o kept.1) states rs number first count done.process done.said a kept.2 has done.there done.none_goes is freed settled.is free come).closes
 
       touches : (m : ℕ) → ChangesOnlyRecords m number freed behind → ChangesOnlyAbove m number (record { states = states; records = rs }) After
@@ -230,10 +223,10 @@ module _ {S : Type 0} (o : Ops S) (law : LocalLaws o) (states : List S) (rs : Li
         does = is;
         path = path;
         apart = is_no_child;
-        told = effects_told outcome last.0;
+        effects_are = acted_effects outcome last.0;
         came = came_to outcome last.0;
-        becomes = subst (λ z. HasClosed states (take end z) (map stands_of rs) (map stands_of (take end behind)) number first count (state a.node) (process_status a.node)) (sym set)
-            (closed_cut (slice_set states number (state a.node)) behind end unused states (map stands_of rs) number first count (state a.node) (process_status a.node) closes);
+        becomes = subst (λ z. HasClosed states (take end z) (map record_view rs) (map record_view (take end behind)) number first count (state a.node) (process_status a.node)) (sym set)
+            (closed_cut (slice_set states number (state a.node)) behind end unused states (map record_view rs) number first count (state a.node) (process_status a.node) closes);
         moves = moves;
         touches = touches m moved;
       }

@@ -18,7 +18,7 @@ set_twice [] i x y = refl
 set_twice (z ∷ xs) zero x y = refl
 set_twice (z ∷ xs) (suc i) x y = ap (λ w. z ∷ w) (set_twice xs i x y)
 
--- an item that was read is the one that stands there
+-- an item that was read is the one that is there
 pub read_there : {A : Type 0} (xs : List A) (i : ℕ) (x y : A) → i < length xs → x ≡ get_or xs i x → slice_get xs i ≡ Some y → x ≡ y
 read_there xs i x y less is there = some_same x y (sym (slice_get_read xs (length xs) i x refl less is) ∙ there)
 
@@ -38,18 +38,18 @@ some_goes_not None b x e f = none_some x f
 some_goes_not (Some y) true x e f = absurd cc
 some_goes_not (Some y) false x e f = refl
 
-module _ {S : Type 0} (o : Ops S) (xs ys blk : List S) (p : ℕ) (label : Option Death) (b : Bool) (told : is_some label ≡ not b) (joined : (l : S) → slice_get xs p ≡ Some l → ys ≡ slice_set xs p (o.join l blk b)) where
+module _ {S : Type 0} (o : Ops S) (xs ys blk : List S) (p : ℕ) (label : Option Death) (b : Bool) (label_is : is_some label ≡ not b) (joined : (l : S) → slice_get xs p ≡ Some l → ys ≡ slice_set xs p (o.join l blk b)) where
   pub goes : (l : S) → slice_get xs p ≡ Some l → label ≡ None → (x : S) × (ys ≡ slice_set xs p x) × (◌≡◌ {A = Acted S} (record { node = Live x; effects = nothing }) (closed o l blk label))
   goes l e none = (
     o.join l blk true,
-    joined l e ∙ ap (λ z. slice_set xs p (o.join l blk z)) (none_goes_on label b told none),
+    joined l e ∙ ap (λ z. slice_set xs p (o.join l blk z)) (none_goes_on label b label_is none),
     sym (ap (λ z. closed o l blk z) none),
   )
 
   module _ (x : Death) (died : label ≡ Some x) (y : S) (is : y ≡ get_or ys p y) where
     it_is : (l : S) → slice_get xs p ≡ Some l → y ≡ o.join l blk false
     it_is l e =
-        let set = joined l e ∙ ap (λ z. slice_set xs p (o.join l blk z)) (some_goes_not label b x told died) in
+        let set = joined l e ∙ ap (λ z. slice_set xs p (o.join l blk z)) (some_goes_not label b x label_is died) in
         is ∙ get_or_from_slice_get ys p (o.join l blk false) y (ap (λ z. slice_get z p) set ∙ set_there xs p l (o.join l blk false) e)
 
     pub below : p < length xs → ((l : S) (x : Death) → slice_get xs p ≡ Some l → label ≡ Some x → x.label < o.handlers (o.join l blk false)) → x.label < o.handlers y

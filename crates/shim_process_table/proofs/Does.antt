@@ -10,26 +10,23 @@ use Rattle.shim_semantics.specs.Acts.{Acted, Effects, nothing, putting, catch_lo
 use Rattle.shim_semantics.specs.Acts as act
 use Rattle.shim_semantics.specs.Places.{at}
 use Rattle.shim_semantics.proofs.Replaced.{sound_at}
-use Rattle.shim_laws_table.specs.Seen.{ProcessStatus, lives, place}
+use Rattle.shim_laws_table.specs.NodeStatus.{ProcessStatus, lives, place}
 use Rattle.shim_laws_table.specs.Agrees.{used}
 use Rattle.shim_laws_table.proofs.SameTrees.{seen_live}
 use Rattle.shim_laws_table.proofs.Hanging.{tree_of}
-use Rattle.shim_records.specs.Pairs.{stands_of, chans_of, IsOrdered, AreOrdered}
+use Rattle.shim_records.specs.Pairs.{record_view}
 use Rattle.shim_records.specs.Acted.{process_status_of}
 use Rattle.shim_records.specs.declared.record.Record.{Record}
 use Rattle.shim_records.specs.declared.record.Status.{Status}
-use Rattle.shim_records.proofs.Stepping.{map_set}
 use Rattle.shim_records.proofs.Representing.{map_get}
-use Rattle.shim_records.proofs.FullPropagation.{kept_order}
 use Rattle.shim_laws_table_events.specs.keeping.Tables.{TableView, HasProcessState, HasTableInvariant}
 use Rattle.shim_laws_table_events.specs.keeping.Moves.{Performs}
 use Rattle.shim_laws_table_events.specs.keeping.Propagating.{PropagatesStop}
-use Rattle.shim_laws_table_events.specs.keeping.Acting.{event_at_stop, left_by, marked, TakesIn, Terminates}
+use Rattle.shim_laws_table_events.specs.keeping.Acting.{event_at_stop, left_by, Terminates}
 use Rattle.shim_laws_table_events.proofs.keeping.Acts.{lives_on}
 use Rattle.shim_laws_table_events.proofs.keeping.Moved.{from_map}
-use Rattle.shim_laws_table_events.proofs.keeping.OneLess.{found}
 use Rattle.shim_laws_table_events.proofs.keeping.Gone.{exit_preserves}
-use Rattle.shim_laws_table_events.proofs.keeping.Marks.{left_sort, rest_taken, changed_then}
+use Rattle.shim_laws_table_events.proofs.keeping.Marks.{left_status, changed_then}
 use Rattle.shim_process_table.specs.Stepping.{LivesAt, HasBecome}
 use Rattle.shim_process_table.specs.Acting.{ActsAlone, status_by_throw, throw_effects, thrown_by}
 use Rattle.shim_process_table.specs.declared.acting.Thrown.{Thrown}
@@ -39,16 +36,6 @@ use Rattle.shim_process_table.proofs.HereSteps.{read_set, has_become}
 use Rattle.shim_process_table.proofs.Readied.{touches_requeue, arrival_readies}
 use Rattle.shim_process_table.proofs.TouchingOwn.{records_touched}
 
--- a record that says what came of its process has its pairs in order
-pub marked_order : (rs : List Record) (x : ℕ) (r : Record) (k : Status) → slice_get rs x ≡ Some r → AreOrdered rs → AreOrdered (slice_set rs x (marked k r))
-marked_order rs x r k there h i q e =
-    let w = found (λ (z : Record). chans_of z.pairs.items) rs (slice_set rs x (marked k r)) i q (map_set (λ (z : Record). chans_of z.pairs.items) rs x r (marked k r) there refl) e in
-    subst IsOrdered w.2 (h i w.0 w.1)
-
--- so it is behind the labels
-pub taken_order : {S : Type 0} (o : Ops S) (s : S) (rs behind : List Record) (n x : ℕ) (r : Record) (k : Status) → slice_get rs x ≡ Some r → AreOrdered rs → TakesIn o s k n x (slice_set rs x (marked k r)) behind → AreOrdered behind
-taken_order o s rs behind n x r k there h takes = kept_order (slice_set rs x (marked k r)) behind (rest_taken o s k n x (slice_set rs x (marked k r)) behind takes) (marked_order rs x r k there h)
-
 module _ {S : Type 0} (o : Ops S) where
   -- ---- what is known of a live process before anything is done
 
@@ -57,18 +44,18 @@ module _ {S : Type 0} (o : Ops S) where
     is = slice_get_read states (length states) x l refl (slice_get_within states x here.1 here.2.state_is) read
 
     pub its : HasProcessState (record { states = states; records = rs }) x here.0 l lives
-    its = record { state_is = is; stands_so = here.2.stands_so }
+    its = record { state_is = is; view_is = here.2.view_is }
 
-    pub stood : o.stop l ≡ stop
-    stood = ap o.stop (some_same l here.1 (sym is ∙ here.2.state_is)) ∙ here.3
+    pub stop_was : o.stop l ≡ stop
+    stop_was = ap o.stop (some_same l here.1 (sym is ∙ here.2.state_is)) ∙ here.3
 
-  -- one state stands there, however often it is read
+  -- one state is there, however often it is read
   pub one_read : (states : List S) (rs : List Record) (x : ℕ) (stop : StopView) (l m : S) → LivesAt o (record { states = states; records = rs }) x stop → l ≡ get_or states x l → m ≡ get_or states x m → l ≡ m
   one_read states rs x stop l m here read again = some_same l m (sym (is states rs x stop l here read) ∙ is states rs x stop m here again)
 
   -- its record
   pub record_there : (states : List S) (rs : List Record) (x : ℕ) (stop : StopView) → LivesAt o (record { states = states; records = rs }) x stop → (r : Record) × (slice_get rs x ≡ Some r)
-  record_there states rs x stop here = let w = from_map stands_of (slice_get rs x) (used here.0 lives) (sym (map_get stands_of rs x) ∙ here.2.stands_so) in (w.0, w.1)
+  record_there states rs x stop here = let w = from_map record_view (slice_get rs x) (used here.0 lives) (sym (map_get record_view rs x) ∙ here.2.view_is) in (w.0, w.1)
 
   pub inside_states : (states : List S) (rs : List Record) (x : ℕ) (stop : StopView) → LivesAt o (record { states = states; records = rs }) x stop → x < length states
   inside_states states rs x stop here = slice_get_within states x here.1 here.2.state_is
@@ -79,16 +66,13 @@ module _ {S : Type 0} (o : Ops S) where
 
   pub few_given : (states : List S) (rs : List Record) (x f : ℕ) (l : S) → HasTableInvariant o (record { states = states; records = rs }) → HasProcessState (record { states = states; records = rs }) x f l lives → length (o.given l) ≤ 18446744073709551615
   few_given states rs x f l kept has =
-      let w = from_map stands_of (slice_get rs x) (used f lives) (sym (map_get stands_of rs x) ∙ has.stands_so) in
+      let w = from_map record_view (slice_get rs x) (used f lives) (sym (map_get record_view rs x) ∙ has.view_is) in
       (kept.2.fit x f l lives w.0 has w.1).few
-
-  pub in_order : (v : TableView S) → HasTableInvariant o v → AreOrdered v.records
-  in_order v kept = kept.2.ordered
 
   -- ---- what it does
 
   pub puts : (l s : S) (byte : Option ℕ) → byte ≡ o.byte l → s ≡ o.put l → act_live o l AtPut ≡ Some (record { node = Live s; effects = putting byte })
-  puts l s byte told next = λ i. let a : Acted S = record { node = Live (sym next i); effects = putting (sym told i) } in Some a
+  puts l s byte effects_are next = λ i. let a : Acted S = record { node = Live (sym next i); effects = putting (sym effects_are i) } in Some a
 
   -- a throw of a process: who dies is as it was
   dies_itself : (l s : S) (d e : Death) → thrown_by (thrown.Died d) s ≡ act.thrown o l e → s ≡ l
@@ -134,7 +118,7 @@ module _ {S : Type 0} (o : Ops S) where
     has = its states rs x stop l here read
 
     stop_is : o.stop l ≡ stop
-    stop_is = stood states rs x stop l here read
+    stop_is = stop_was states rs x stop l here read
 
     -- it is there, as it is read then
     pub lives_then : (s now : S) → now ≡ get_or (slice_set states x s) x now → PropagatesStop o now 4294967295 x rs behind → (f : ℕ) × HasProcessState (record { states = slice_set states x s; records = behind }) x f now lives
@@ -153,7 +137,7 @@ module _ {S : Type 0} (o : Ops S) where
           first = here.0;
           process = l;
           has = has;
-          stood = stop_is;
+          stop_was = stop_is;
           left = Live s;
           does = does;
           came = refl;
@@ -170,11 +154,11 @@ module _ {S : Type 0} (o : Ops S) where
         first = here.0;
         process = l;
         has = has;
-        stood = stop_is;
+        stop_was = stop_is;
         left = left_by l k;
         does = does;
-        came = left_sort l k gone;
-        becomes = subst (λ z. HasBecome x (state (left_by l k)) z (record { states = states; records = rs }) (record { states = states; records = behind })) (left_sort l k gone) (changed_then o states rs behind l k x here.0 has leaves gone);
+        came = left_status l k gone;
+        becomes = subst (λ z. HasBecome x (state (left_by l k)) z (record { states = states; records = rs }) (record { states = states; records = behind })) (left_status l k gone) (changed_then o states rs behind l k x here.0 has leaves gone);
         moves = subst (λ z. Performs o (event_at_stop z (o.path l)) (record { states = states; records = rs }) (record { states = states; records = behind })) stop_is
             (exit_preserves o law states rs behind x here.0 l k effects has (ap (act_live o l) stop_is ∙ does) gone leaves);
         newly_ready = touches_requeue o n x (record { states = states; records = rs }) (record { states = states; records = behind }) (records_touched n x states rs behind touches);

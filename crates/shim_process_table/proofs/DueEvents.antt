@@ -1,4 +1,4 @@
--- What is told of a process can happen, as an event of each tree that is shown.
+-- What is due at a process can happen, as an event of each tree that is represented.
 use Rattle.std.proofs.Common.{◌-◌, ℕ, refl, ap, subst}
 use Rattle.shim_local.specs.Process.{Ops, AtPut, AtFork, AtThrow, AtTrap, AtFinish}
 use Rattle.shim_local.specs.Laws.{LocalLaws}
@@ -15,7 +15,7 @@ use Rattle.shim_process_table.specs.Poisoning.{CanPoison}
 use Rattle.shim_process_table.specs.Due.{MeetsAlone, IsReadyToMeet, IsDoomed}
 
 module _ {S : Type 0} (o : Ops S) (v : TableView S) (i : ℕ) where
-  -- ---- each answer as an event that is told by the record
+  -- ---- each answer as an event that the record allows
 
   pub due_put : (w : LivesAt o v i AtPut) → CanHappenAt o v i (Own (o.path w.1))
   due_put w = to_step w.0 w.1 (o.path w.1) w.2 (ap own_action_at w.3) refl
@@ -36,7 +36,7 @@ module _ {S : Type 0} (o : Ops S) (v : TableView S) (i : ℕ) where
   due_close w = to_close w.first w.many w.process w.said (o.path w.process) w.forked w.there w.none_goes refl
 
   pub due_alone : (w : MeetsAlone o v i) → CanHappenAt o v i (Meet w.chan.channel)
-  due_alone w = to_meet w.first w.process w.chan w.chan.channel w.has w.stands refl w.declared
+  due_alone w = to_meet w.first w.process w.chan w.chan.channel w.has w.stop_is refl w.declared
 
   pub due_meet : (q : ℕ) (w : IsReadyToMeet o v i q) → CanHappenAt o v i (Meet w.pair_is.chan.channel)
   due_meet q w = to_meet_below w.first w.many q w.process w.has.said w.pair_is w.pair_is.chan.channel w.has.forked w.has.there w.has.pair refl w.declared w.all

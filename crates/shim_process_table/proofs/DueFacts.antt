@@ -1,4 +1,4 @@
--- What can happen at a record, as the code tells it.
+-- What can happen at a record, as the code returns it.
 use Rattle.std.proofs.Common.{◌≡◌, ◌≢◌, ◌⊎◌, ◌<◌, ◌≤◌, ℕ, ◌+◌, true, false, Some, None, List, length, inl, inr, refl, sym, ap, subst, ◌∙◌, arith}
 use Rattle.std.specs.Prelude.{slice_get}
 use Rattle.std.specs.Option.{option_map}
@@ -6,17 +6,17 @@ use Rattle.std.proofs.lemmas.Option.{slice_get_within}
 use Rattle.shim_base.proofs.Facts.{some_same, none_some}
 use Rattle.shim_local.specs.Process.{Ops}
 use Rattle.shim_semantics.specs.Nodes.{Death}
-use Rattle.shim_laws_table.specs.Seen.{ProcessStatus, lives, forks, ends, dies}
+use Rattle.shim_laws_table.specs.NodeStatus.{ProcessStatus, lives, forks, ends, dies}
 use Rattle.shim_laws_table.specs.Agrees.{free, used}
 use Rattle.shim_laws_table.specs.Counts.{tally_ready}
-use Rattle.shim_records.specs.Pairs.{tally, stands_of, stands_by}
+use Rattle.shim_records.specs.Pairs.{tally, record_view, status_view}
 use Rattle.shim_records.specs.declared.pair.Pair.{Pair}
 use Rattle.shim_records.specs.declared.record.Record.{Record}
 use Rattle.shim_records.specs.declared.record.Status.{Status}
 use Rattle.shim_records.specs.declared.record.Status.TheVariants as code
 use Rattle.shim_records.proofs.Walked.{last_or_before}
 use Rattle.shim_records.proofs.Representing.{map_get}
-use Rattle.shim_laws_table_events.specs.keeping.Tables.{TableView, HasProcessState, stands}
+use Rattle.shim_laws_table_events.specs.keeping.Tables.{TableView, HasProcessState, views}
 use Rattle.shim_laws_table_events.specs.queues.RecordDecisions.{HasNoPairDue, HasNothingDue, unused, has_ended, has_died, is_open}
 use Rattle.shim_process_table.specs.Lookups.{HasPair}
 use Rattle.shim_process_table.specs.Closing.{CanClose}
@@ -34,17 +34,17 @@ module _ {S : Type 0} (o : Ops S) (v : TableView S) (i : ℕ) where
   no_state e = unused (λ f s k has. none_some s (sym e ∙ has.state_is))
 
   pub no_record : slice_get v.records i ≡ None → HasNothingDue o v i
-  no_record e = unused (λ f s k has. none_some (used f k) (sym (map_get stands_of v.records i ∙ ap (option_map stands_of) e) ∙ has.stands_so))
+  no_record e = unused (λ f s k has. none_some (used f k) (sym (map_get record_view v.records i ∙ ap (option_map record_view) e) ∙ has.view_is))
 
   module _ (l : S) (r : Record) (state_is : slice_get v.states i ≡ Some l) (there : slice_get v.records i ≡ Some r) where
-    stands_there : (k : Status) → r.status ≡ k → slice_get (stands v) i ≡ Some (stands_by r.first k)
-    stands_there k e = map_get stands_of v.records i ∙ (ap (option_map stands_of) there ∙ ap (λ z. Some (stands_by r.first z)) e)
+    view_there : (k : Status) → r.status ≡ k → slice_get (views v) i ≡ Some (status_view r.first k)
+    view_there k e = map_get record_view v.records i ∙ (ap (option_map record_view) there ∙ ap (λ z. Some (status_view r.first z)) e)
 
-    pub its_process : (k : ProcessStatus) (w : Status) → r.status ≡ w → stands_by r.first w ≡ used r.first k → HasProcessState v i r.first l k
-    its_process k w e is = record { state_is = state_is; stands_so = stands_there w e ∙ ap Some is }
+    pub its_process : (k : ProcessStatus) (w : Status) → r.status ≡ w → status_view r.first w ≡ used r.first k → HasProcessState v i r.first l k
+    its_process k w e is = record { state_is = state_is; view_is = view_there w e ∙ ap Some is }
 
     pub is_free : r.status ≡ code.Free → HasNothingDue o v i
-    is_free e = unused (λ f s k has. no_use f k (some_same free (used f k) (sym (stands_there code.Free e) ∙ has.stands_so)))
+    is_free e = unused (λ f s k has. no_use f k (some_same free (used f k) (sym (view_there code.Free e) ∙ has.view_is)))
 
     pub is_ended : r.status ≡ code.Ended → HasNothingDue o v i
     is_ended e = has_ended r.first l (its_process ends code.Ended e refl)

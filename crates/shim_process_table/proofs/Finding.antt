@@ -7,10 +7,10 @@ use Rattle.std.proofs.lemmas.Option.{slice_get_within}
 use Rattle.shim_base.specs.Paths.{Channel}
 use Rattle.shim_base.proofs.Facts.{some_same, none_some}
 use Rattle.shim_local.specs.Process.{Ops}
-use Rattle.shim_laws_table.specs.Seen.{ProcessStatus, lives, forks, ends, dies}
+use Rattle.shim_laws_table.specs.NodeStatus.{ProcessStatus, lives, forks, ends, dies}
 use Rattle.shim_laws_table.specs.Agrees.{used}
 use Rattle.shim_records.specs.Members.{IsAmong}
-use Rattle.shim_records.specs.Pairs.{stands_of, stands_by}
+use Rattle.shim_records.specs.Pairs.{record_view, status_view}
 use Rattle.shim_records.specs.declared.record.Record.{Record}
 use Rattle.shim_records.specs.declared.record.Status.{Status}
 use Rattle.shim_records.specs.declared.record.Status.TheVariants as code
@@ -104,14 +104,14 @@ module _ {S : Type 0} (o : Ops S) (v : TableView S) (c : Channel) where
 
 -- ---- the children of a process
 
-children_are : (f : ℕ) (k : Status) (n : ℕ) → children_by k ≡ Some n → (x : ProcessStatus) × (stands_by f k ≡ used f x) × (n ≡ children x)
+children_are : (f : ℕ) (k : Status) (n : ℕ) → children_by k ≡ Some n → (x : ProcessStatus) × (status_view f k ≡ used f x) × (n ≡ children x)
 children_are f code.Free n e = none_some n e
 children_are f code.Live n e = (lives, refl, sym (some_same 0 n e))
 children_are f (code.Forked m) n e = (forks m, refl, sym (some_same m n e))
 children_are f code.Ended n e = (ends, refl, sym (some_same 0 n e))
 children_are f (code.Dead x) n e = (dies x, refl, sym (some_same 0 n e))
 
-not_used : {B : Type 0} (f g : ℕ) (k : Status) (x : ProcessStatus) → children_by k ≡ None → stands_by f k ≡ used g x → B
+not_used : {B : Type 0} (f g : ℕ) (k : Status) (x : ProcessStatus) → children_by k ≡ None → status_view f k ≡ used g x → B
 not_used f g code.Free x e h = absurd (let z : ⊥ = cc in z)
 not_used f g code.Live x e h = absurd (let z : ⊥ = cc in z)
 not_used f g (code.Forked m) x e h = absurd (let z : ⊥ = cc in z)
@@ -123,10 +123,10 @@ module _ {S : Type 0} (o : Ops S) (v : TableView S) (c : Channel) (i : ℕ) wher
   past_states past f s k has = none_past o v c i f s k past has
 
   pub past_records : slice_get v.records i ≡ None → IsSharer o v c i None
-  past_records none f s k has = none_some (used f k) (sym (map_get stands_of v.records i ∙ ap (option_map stands_of) none) ∙ has.stands_so)
+  past_records none f s k has = none_some (used f k) (sym (map_get record_view v.records i ∙ ap (option_map record_view) none) ∙ has.view_is)
 
   pub is_free : (r : Record) → slice_get v.records i ≡ Some r → children_by r.status ≡ None → IsSharer o v c i None
-  is_free r e none f s k has = not_used r.first f r.status k none (some_same (stands_of r) (used f k) (sym (map_get stands_of v.records i ∙ ap (option_map stands_of) e) ∙ has.stands_so))
+  is_free r e none f s k has = not_used r.first f r.status k none (some_same (record_view r) (used f k) (sym (map_get record_view v.records i ∙ ap (option_map record_view) e) ∙ has.view_is))
 
   pub lacks : (s : S) → slice_get v.states i ≡ Some s → o.shares s c ≡ false → IsSharer o v c i None
   lacks s e no_share f t k has = ap (λ z. o.shares z c) (some_same t s (sym has.state_is ∙ e)) ∙ no_share
@@ -134,4 +134,4 @@ module _ {S : Type 0} (o : Ops S) (v : TableView S) (c : Channel) (i : ℕ) wher
   pub shares_it : (r : Record) (s : S) (n : ℕ) → slice_get v.records i ≡ Some r → slice_get v.states i ≡ Some s → children_by r.status ≡ Some n → o.shares s c ≡ true → IsSharer o v c i (Some (record { first = r.first; count = n }))
   shares_it r s n e is kids shares =
       let w = children_are r.first r.status n kids in
-      (s, w.0, record { state_is = is; stands_so = map_get stands_of v.records i ∙ (ap (option_map stands_of) e ∙ ap Some w.1) }, shares, w.2)
+      (s, w.0, record { state_is = is; view_is = map_get record_view v.records i ∙ (ap (option_map record_view) e ∙ ap Some w.1) }, shares, w.2)

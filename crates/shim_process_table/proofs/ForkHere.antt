@@ -6,7 +6,7 @@ use Rattle.std.proofs.lemmas.Option.{slice_get_read, slice_get_within}
 use Rattle.shim_base.proofs.Facts.{some_same}
 use Rattle.shim_local.specs.Process.{Ops, AtFork, Parted, Trapped}
 use Rattle.shim_local.specs.Laws.{LocalLaws}
-use Rattle.shim_laws_table.specs.Seen.{lives}
+use Rattle.shim_laws_table.specs.NodeStatus.{lives}
 use Rattle.shim_laws_table.proofs.Hanging.{tree_of}
 use Rattle.shim_records.specs.declared.record.Record.{Record}
 use Rattle.shim_records.proofs.Stepping.{set_elsewhere}
@@ -44,7 +44,7 @@ module _ {S : Type 0} (o : Ops S) (law : LocalLaws o) (before behind : TableView
           is = p;
           born = ks;
           lived = has;
-          stood = stop;
+          stop_was = stop;
           forked = parts;
           many = many;
           fits = omega (arith, many, few);
@@ -75,7 +75,7 @@ module _ {S : Type 0} (o : Ops S) (law : LocalLaws o) (before : TableView S) (x 
     was = l;
     is = p;
     lived = has;
-    stood = stop;
+    stop_was = stop;
     trapped = traps;
     behind_is = refl;
     moves = fork_trap_preserves o law x f l p before has stop traps;

@@ -5,9 +5,9 @@ use Rattle.std.specs.Option.{option_map}
 use Rattle.shim_base.specs.Paths.{NamedChannel}
 use Rattle.shim_base.proofs.Facts.{some_same, none_some}
 use Rattle.shim_local.specs.Process.{Ops}
-use Rattle.shim_laws_table.specs.Seen.{ProcessStatus, forks}
+use Rattle.shim_laws_table.specs.NodeStatus.{ProcessStatus, forks}
 use Rattle.shim_laws_table.specs.Agrees.{free, used, Has}
-use Rattle.shim_records.specs.Pairs.{stands_of}
+use Rattle.shim_records.specs.Pairs.{record_view}
 use Rattle.shim_records.specs.Fresh.{channels, FreshPairs}
 use Rattle.shim_records.specs.Blocks.{with_block}
 use Rattle.shim_records.specs.declared.pair.Pair.{Pair}
@@ -24,12 +24,12 @@ from_map f None y e = none_some y e
 from_map f (Some z) y e = (z, refl, some_same (f z) y e)
 
 -- no process has a number of a free block
-pub none_used : {S B : Type 0} (g n : ℕ) (states : List S) (rs : List Record) → IsFreeBlock g n rs → (b d : ℕ) (t : S) (k : ProcessStatus) → b < n → Has states (map stands_of rs) (g + b) d t k → B
+pub none_used : {S B : Type 0} (g n : ℕ) (states : List S) (rs : List Record) → IsFreeBlock g n rs → (b d : ℕ) (t : S) (k : ProcessStatus) → b < n → Has states (map record_view rs) (g + b) d t k → B
 none_used g n states rs block b d t k less h =
-    let r = from_map stands_of (slice_get rs (g + b)) (used d k) (sym (map_get stands_of rs (g + b)) ∙ h.stands_so) in
+    let r = from_map record_view (slice_get rs (g + b)) (used d k) (sym (map_get record_view rs (g + b)) ∙ h.view_is) in
     free_used d k (sym (block.free_ones b r.0 less r.1) ∙ r.2)
 
-pub its_record : {S : Type 0} (o : Ops S) (g n : ℕ) (p : S) (ks : List S) (was is : Record) (pairs : List Pair) → length ks ≡ n → stands_of is ≡ used g (forks n) → is.parent ≡ was.parent → is.path ≡ was.path → is.running_children ≡ n → is.pairs.items ≡ pairs
+pub its_record : {S : Type 0} (o : Ops S) (g n : ℕ) (p : S) (ks : List S) (was is : Record) (pairs : List Pair) → length ks ≡ n → record_view is ≡ used g (forks n) → is.parent ≡ was.parent → is.path ≡ was.path → is.running_children ≡ n → is.pairs.items ≡ pairs
     → FreshPairs o p ks pairs → IsOfFork o g p ks was is
 its_record o g n p ks was is pairs many forked parent path running_children same fresh = record {
   forked = forked ∙ ap (λ z. used g (forks z)) (sym many);

@@ -58,14 +58,14 @@ as_read c n x r rs = (way (up_in rs x) refl, record { rest = refl; elsewhere = �
     way (Some j) e = counted j e (counts_in c rs j) refl
 
 module _ {S : Type 0} (o : Ops S) (s : S) (c : Channel) (n x : ℕ) where
-  -- a process that has received stands at the channel again
+  -- a process that has received is at the channel again
   pub stays_there : (d : NamedChannel) (rs : List Record) → o.stop s ≡ AtNext d → true ≡ same_channel c d.channel → MovesOn o s c n x rs rs
   stays_there d rs stop same = record {
     between = rs;
     was = ready;
     is = ready;
-    stood = refl;
-    stands = ap live_child_status (same ∙ (same_both c d.channel ∙ sym (ap (λ z. is_next z c) stop)));
+    status_was = refl;
+    status_is = ap live_child_status (same ∙ (same_both c d.channel ∙ sym (ap (λ z. is_next z c) stop)));
     left = as_read c n x ready rs;
     came = no_other (λ e far. ap (λ z. is_next z e) stop ∙ (ap (λ z. same_channel z e) (sym (same_channel_is c d.channel (sym same))) ∙ far)) refl;
   }
@@ -74,26 +74,26 @@ module _ {S : Type 0} (o : Ops S) (s : S) (c : Channel) (n x : ℕ) where
       ready = record { alive = true; ready_on = true; dead_on = false }
 
   -- at another one
-  pub stands_elsewhere : (d : NamedChannel) (was is : ChildStatus) (before between behind : List Record) → o.stop s ≡ AtNext d → false ≡ same_channel c d.channel → LeavesChannel c n x before between
+  pub at_other_channel : (d : NamedChannel) (was is : ChildStatus) (before between behind : List Record) → o.stop s ≡ AtNext d → false ≡ same_channel c d.channel → LeavesChannel c n x before between
       → child_status_of was ≡ live_child_status false → child_status_of is ≡ live_child_status true → IsUpdatedAbove d.channel n x was is between behind → MovesOn o s c n x before behind
-  stands_elsewhere d was is before between behind stop far off u v way = record {
+  at_other_channel d was is before between behind stop far off u v way = record {
     between = between;
     was = off.0;
     is = off.1;
-    stood = off.2;
-    stands = off.3 ∙ ap live_child_status (far ∙ (same_both c d.channel ∙ sym (ap (λ z. is_next z c) stop)));
+    status_was = off.2;
+    status_is = off.3 ∙ ap live_child_status (far ∙ (same_both c d.channel ∙ sym (ap (λ z. is_next z c) stop)));
     left = off.4;
     came = other d was is stop (sym far) u v way;
   }
 
   -- or at none
-  pub stands_nowhere : (before behind : List Record) → ((e : Channel) → is_next (o.stop s) e ≡ false) → LeavesChannel c n x before behind → MovesOn o s c n x before behind
-  stands_nowhere before behind none off = record {
+  pub at_no_channel : (before behind : List Record) → ((e : Channel) → is_next (o.stop s) e ≡ false) → LeavesChannel c n x before behind → MovesOn o s c n x before behind
+  at_no_channel before behind none off = record {
     between = behind;
     was = off.0;
     is = off.1;
-    stood = off.2;
-    stands = off.3 ∙ ap live_child_status (sym (none c));
+    status_was = off.2;
+    status_is = off.3 ∙ ap live_child_status (sym (none c));
     left = off.4;
     came = no_other (λ e far. none e) refl;
   }

@@ -6,17 +6,15 @@ use Rattle.shim_base.specs.Paths.{Channel}
 use Rattle.shim_base.proofs.Facts.{some_same}
 use Rattle.shim_local.specs.Process.{Ops}
 use Rattle.shim_local.specs.Laws.{LocalLaws}
-use Rattle.shim_laws_table.specs.Seen.{lives}
+use Rattle.shim_laws_table.specs.NodeStatus.{lives}
 use Rattle.shim_laws_table.specs.Agrees.{used}
 use Rattle.shim_laws_table.proofs.OneChange.{one_state}
-use Rattle.shim_records.specs.Pairs.{stands_of, AreOrdered}
-use Rattle.shim_records.specs.Killed.{living, as_dead, IsKilled}
+use Rattle.shim_records.specs.Pairs.{record_view}
+use Rattle.shim_records.specs.Killed.{IsKilled}
 use Rattle.shim_records.specs.Died.{IsTaken}
 use Rattle.shim_records.specs.CountingOff.{HasCountedOff}
 use Rattle.shim_records.specs.declared.record.Record.{Record}
-use Rattle.shim_records.proofs.ManyPropagations.{rest_same}
 use Rattle.shim_records.proofs.Representing.{map_get}
-use Rattle.shim_records.proofs.FullPropagation.{kept_order}
 use Rattle.shim_semantics.specs.Trees.{Poison}
 use Rattle.shim_laws_table_events.specs.keeping.Moves.{Performs}
 use Rattle.shim_laws_table_events.specs.keeping.Tables.{TableView, HasProcessState, HasTableInvariant}
@@ -24,7 +22,6 @@ use Rattle.shim_laws_table_events.specs.meetings.Dying.{dead_record, DiesAt}
 use Rattle.shim_laws_table_events.specs.meetings.Sharers.{ListsSharers}
 use Rattle.shim_laws_table_events.specs.meetings.Poisons.{DiesOne, was_killed, AllDie, none_left, one_more, AllDied}
 use Rattle.shim_laws_table_events.proofs.keeping.Moved.{from_map}
-use Rattle.shim_laws_table_events.proofs.meetings.Dies.{set_order}
 use Rattle.shim_laws_table_events.proofs.meetings.Poisoned.{one_keeps, poison_preserves}
 use Rattle.shim_process_table.specs.Stepping.{IsLive}
 use Rattle.shim_process_table.specs.Poisoning.{IsKilledBy, CanPoison, PoisonsAt}
@@ -47,24 +44,18 @@ module _ {S : Type 0} (o : Ops S) (label : ℕ) where
 
     there : slice_get rs x ≡ Some r
     there =
-        let w = from_map stands_of (slice_get rs x) (used before.0 lives) (sym (map_get stands_of rs x) ∙ before.2.stands_so) in
+        let w = from_map record_view (slice_get rs x) (used before.0 lives) (sym (map_get record_view rs x) ∙ before.2.view_is) in
         slice_get_read rs (length rs) x r refl (slice_get_within rs x w.0 w.1) read
 
     same : l ≡ before.1
     same = some_same l before.1 (sym (slice_get_read states (length states) x l refl (slice_get_within states x before.1 before.2.state_is) read_state) ∙ before.2.state_is)
 
-    pub dead_ordered : HasTableInvariant o (record { states = states; records = rs }) → AreOrdered (slice_set rs x (dead_record r label))
-    dead_ordered h = set_order rs x r (dead_record r label) there refl h.2.ordered
-
     pub few_given : HasTableInvariant o (record { states = states; records = rs }) → length (o.given l) ≤ 18446744073709551615
     few_given h = subst (λ z. length (o.given z) ≤ 18446744073709551615) (sym same) (h.2.fit x before.0 before.1 lives r its there).few
 
-    pub killed_ordered : (counted : List Record) → HasTableInvariant o (record { states = states; records = rs }) → IsKilled o l 4294967295 x (slice_set rs x (dead_record r label)) counted → AreOrdered counted
-    killed_ordered counted h killed = kept_order (slice_set rs x (dead_record r label)) counted (rest_same (living o l) (as_dead o l) 4294967295 x killed.updated) (dead_ordered h)
-
     module _ (counted labelled behind : List Record) (killed : IsKilled o l 4294967295 x (slice_set rs x (dead_record r label)) counted) (taken : IsTaken o l label 4294967295 x counted labelled) (left : HasCountedOff x labelled behind) where
       pub dies_one : DiesOne o label x (record { states = states; records = rs }) (record { states = states; records = behind })
-      dies_one = was_killed before.0 before.1 its before.3 refl (subst (λ z. DiesAt o z label 4294967295 x rs behind) same (record { stood = r; there = there; counted = counted; labelled = labelled; killed = killed; taken = taken; left = left }))
+      dies_one = was_killed before.0 before.1 its before.3 refl (subst (λ z. DiesAt o z label 4294967295 x rs behind) same (record { old_record = r; there = there; counted = counted; labelled = labelled; killed = killed; taken = taken; left = left }))
 
       pub still_kept : LocalLaws o → HasTableInvariant o (record { states = states; records = rs }) → HasTableInvariant o (record { states = states; records = behind })
       still_kept law h = let w = one_keeps o label x (record { states = states; records = rs }) (record { states = states; records = behind }) law h.0 h.1 h.2 dies_one in (h.0, w.0, w.1)
@@ -85,7 +76,7 @@ module _ {S : Type 0} (o : Ops S) (label : ℕ) where
 
   pub poisons_here : LocalLaws o → (c : Channel) (i : ℕ) (numbers : List ℕ) (before behind : TableView S) → CanPoison o c label i before → ListsSharers o before c i numbers → AllDie o label numbers before behind → PoisonsAt o c i before behind
   poisons_here law c i numbers before behind can lists all f k x has rp t kept =
-      let same : can.child ≡ k = one_state before.states (map stands_of before.records) i can.is_child.own_first f can.child k can.is_child.status x can.is_child.has has in
+      let same : can.child ≡ k = one_state before.states (map record_view before.records) i can.is_child.own_first f can.child k can.is_child.status x can.is_child.has has in
       subst (λ z. Performs o (Poison (o.path z) c) before behind) same ((poison_preserves o law before behind c i label can.child can.parent numbers can.is_child can.is_label can.enabled lists all).0) rp t kept
 
   pub died_here : LocalLaws o → (c : Channel) (i : ℕ) (numbers : List ℕ) (before behind : TableView S) → CanPoison o c label i before → ListsSharers o before c i numbers → AllDie o label numbers before behind → AllDied o c label i before behind

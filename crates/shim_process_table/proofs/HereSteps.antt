@@ -8,17 +8,17 @@ use Rattle.shim_base.proofs.Facts.{some_same}
 use Rattle.shim_local.specs.Process.{Ops, StopView, AtQuiet}
 use Rattle.shim_local.specs.Laws.{LocalLaws}
 use Rattle.shim_local.specs.Quiets.{QuietSteps}
-use Rattle.shim_laws_table.specs.Seen.{lives}
+use Rattle.shim_laws_table.specs.NodeStatus.{lives}
 use Rattle.shim_laws_table.specs.Agrees.{used}
 use Rattle.shim_laws_table.specs.Changes.{HasChanged}
 use Rattle.shim_laws_table.proofs.Hanging.{tree_of}
-use Rattle.shim_records.specs.Pairs.{stands_of, stands_by, rest_of}
+use Rattle.shim_records.specs.Pairs.{record_view, status_view, rest_of}
 use Rattle.shim_records.specs.declared.record.Record.{Record}
 use Rattle.shim_records.specs.declared.record.Status.{Status}
 use Rattle.shim_records.specs.declared.record.Status.TheVariants as code
 use Rattle.shim_records.proofs.Stepping.{set_there, set_elsewhere}
 use Rattle.shim_records.proofs.Representing.{map_get}
-use Rattle.shim_records.proofs.ReadOff.{same_stands}
+use Rattle.shim_records.proofs.ReadOff.{same_views}
 use Rattle.shim_laws_table_events.specs.keeping.Tables.{TableView, HasProcessState, HasTableInvariant}
 use Rattle.shim_laws_table_events.specs.keeping.Moves.{PerformsQuiet}
 use Rattle.shim_laws_table_events.specs.keeping.Propagating.{PropagatesStop, nowhere, there}
@@ -38,14 +38,14 @@ read_set xs i x y z e h = some_same z y (sym (slice_get_read (slice_set xs i y) 
     within : i < length (slice_set xs i y)
     within = subst (λ n. i < n) (sym (length-set xs i y)) (slice_get_within xs i x e)
 
-live_stands : (f : ℕ) (k : Status) → is_live k ≡ true → stands_by f k ≡ used f lives
-live_stands f code.Free e = absurd cc
-live_stands f code.Live e = refl
-live_stands f (code.Forked n) e = absurd cc
-live_stands f code.Ended e = absurd cc
-live_stands f (code.Dead x) e = absurd cc
+live_view : (f : ℕ) (k : Status) → is_live k ≡ true → status_view f k ≡ used f lives
+live_view f code.Free e = absurd cc
+live_view f code.Live e = refl
+live_view f (code.Forked n) e = absurd cc
+live_view f code.Ended e = absurd cc
+live_view f (code.Dead x) e = absurd cc
 
-no_longer_lives : (f g : ℕ) (k : Status) → is_live k ≡ false → stands_by f k ≡ used g lives → ⊥
+no_longer_lives : (f g : ℕ) (k : Status) → is_live k ≡ false → status_view f k ≡ used g lives → ⊥
 no_longer_lives f g code.Free e h = absurd cc
 no_longer_lives f g code.Live e h = absurd cc
 no_longer_lives f g (code.Forked n) e h = absurd cc
@@ -56,26 +56,26 @@ no_longer_lives f g (code.Dead x) e h = absurd cc
 pub is_alive : {S : Type 0} (v : TableView S) (i : ℕ) (l : S) (r : Record) → slice_get v.states i ≡ Some l → slice_get v.records i ≡ Some r → IsLive i v (is_live r.status)
 is_alive {S} v i l r state record_is = on (is_live r.status) refl
   where
-    says : slice_get (map stands_of v.records) i ≡ Some (stands_of r)
-    says = map_get stands_of v.records i ∙ ap (option_map stands_of) record_is
+    says : slice_get (map record_view v.records) i ≡ Some (record_view r)
+    says = map_get record_view v.records i ∙ ap (option_map record_view) record_is
 
     on : (b : Bool) → is_live r.status ≡ b → IsLive i v b
-    on true e = (r.first, l, record { state_is = state; stands_so = says ∙ ap Some (live_stands r.first r.status e) })
-    on false e = λ f s has. no_longer_lives r.first f r.status e (some_same (stands_of r) (used f lives) (sym says ∙ has.stands_so))
+    on true e = (r.first, l, record { state_is = state; view_is = says ∙ ap Some (live_view r.first r.status e) })
+    on false e = λ f s has. no_longer_lives r.first f r.status e (some_same (record_view r) (used f lives) (sym says ∙ has.view_is))
 
 -- what is read of the state of a live process
 pub state_read : {S : Type 0} (v : TableView S) (i : ℕ) (l : S) → IsLive i v true → l ≡ get_or v.states i l → slice_get v.states i ≡ Some l
 state_read v i l here read = slice_get_read v.states (length v.states) i l refl (slice_get_within v.states i here.1 here.2.state_is) read
 
 module _ {S : Type 0} (o : Ops S) where
-  pub stands_at : (v : TableView S) (i : ℕ) (l : S) (stop : StopView) → IsLive i v true → l ≡ get_or v.states i l → stop ≡ o.stop l → LivesAt o v i stop
-  stands_at v i l stop here read e = (here.0, l, record { state_is = state_read v i l here read; stands_so = here.2.stands_so }, sym e)
+  pub lives_at_stop : (v : TableView S) (i : ℕ) (l : S) (stop : StopView) → IsLive i v true → l ≡ get_or v.states i l → stop ≡ o.stop l → LivesAt o v i stop
+  lives_at_stop v i l stop here read e = (here.0, l, record { state_is = state_read v i l here read; view_is = here.2.view_is }, sym e)
 
   pub before_quiet : (v : TableView S) (i : ℕ) (l : S) (b : Bool) → IsLive i v true → l ≡ get_or v.states i l → (b ≡ true → o.stop l ≡ AtQuiet) → (b ≡ false → o.stop l ≢ AtQuiet) → IsBeforeQuiet o i v b
-  before_quiet v i l true here read quiet other = stands_at v i l AtQuiet here read (sym (quiet refl))
+  before_quiet v i l true here read quiet other = lives_at_stop v i l AtQuiet here read (sym (quiet refl))
   before_quiet v i l false here read quiet other = λ f s has e. other refl (ap o.stop (some_same l s (sym (state_read v i l here read) ∙ has.state_is)) ∙ e)
 
-  -- one process alone stands there
+  -- one process alone is there
   pub no_longer_quiet : (v : TableView S) (i f : ℕ) (l : S) → HasProcessState v i f l lives → o.stop l ≢ AtQuiet → IsBeforeQuiet o i v false
   no_longer_quiet v i f l has other g s h e = other (ap o.stop (some_same l s (sym has.state_is ∙ h.state_is)) ∙ e)
 
@@ -85,13 +85,13 @@ module _ {S : Type 0} (o : Ops S) where
   rest_arrived s n x before behind (there d was is e u v updated) = updated.1.rest
 
   module _ (states : List S) (rs behind : List Record) (x f : ℕ) (l s : S) (has : HasProcessState (record { states = states; records = rs }) x f l lives) (propagates : PropagatesStop o s 4294967295 x rs behind) where
-    -- another state stands in the record of a live process
+    -- another state is in the record of a live process
     pub has_become : HasBecome x s lives (record { states = states; records = rs }) (record { states = slice_set states x s; records = behind })
-    has_become = subst (λ z. HasChanged states (slice_set states x s) (map stands_of rs) z x s lives) (sym (same_stands rs behind (rest_arrived s 4294967295 x rs behind propagates))) (record {
+    has_become = subst (λ z. HasChanged states (slice_set states x s) (map record_view rs) z x s lives) (sym (same_views rs behind (rest_arrived s 4294967295 x rs behind propagates))) (record {
       first = f;
-      mine = record { state_is = set_there states x l s has.state_is; stands_so = has.stands_so };
-      others = λ j d t k n h. record { state_is = set_elsewhere states x j s n ∙ h.state_is; stands_so = h.stands_so };
-      only = λ j d t k n h. record { state_is = sym (set_elsewhere states x j s n) ∙ h.state_is; stands_so = h.stands_so };
+      mine = record { state_is = set_there states x l s has.state_is; view_is = has.view_is };
+      others = λ j d t k n h. record { state_is = set_elsewhere states x j s n ∙ h.state_is; view_is = h.view_is };
+      only = λ j d t k n h. record { state_is = sym (set_elsewhere states x j s n) ∙ h.state_is; view_is = h.view_is };
     })
 
   module _ (law : LocalLaws o) (states : List S) (rs behind : List Record) (x n : ℕ) (l last now : S) (before : IsBeforeQuiet o x (record { states = states; records = rs }) true) (read : l ≡ get_or states x l) (taken : QuietSteps o n l last)
@@ -100,7 +100,7 @@ module _ {S : Type 0} (o : Ops S) where
     is = slice_get_read states (length states) x l refl (slice_get_within states x before.1 before.2.state_is) read
 
     its : HasProcessState (record { states = states; records = rs }) x before.0 l lives
-    its = record { state_is = is; stands_so = before.2.stands_so }
+    its = record { state_is = is; view_is = before.2.view_is }
 
     stop : o.stop l ≡ AtQuiet
     stop = ap o.stop (some_same l before.1 (sym is ∙ before.2.state_is)) ∙ before.3
@@ -112,12 +112,12 @@ module _ {S : Type 0} (o : Ops S) where
     advances rp t kept = advanced o law rp t states rs behind n x before.0 l last kept its stop taken propagates
 
     -- it is there, as it is read then
-    pub stands_then : (f : ℕ) × HasProcessState (record { states = slice_set states x last; records = behind }) x f now lives
-    stands_then =
+    pub lives_then : (f : ℕ) × HasProcessState (record { states = slice_set states x last; records = behind }) x f now lives
+    lives_then =
         let b = has_become states rs behind x before.0 l last its propagates in
         (b.first, subst (λ z. HasProcessState (record { states = slice_set states x last; records = behind }) x b.first z lives) (sym (read_set states x l last now is read_then)) b.mine)
 
-    -- and no other record tells of more, but so many forks above
+    -- and by no other record more can happen, but by so many forks above
     pub readies_here : (m : ℕ) → StopReadies o now m x rs behind → ReadiesAbove o m x (record { states = states; records = rs }) (record { states = slice_set states x last; records = behind })
     readies_here m readies =
         let b = has_become states rs behind x before.0 l last its propagates in
@@ -129,7 +129,7 @@ module _ {S : Type 0} (o : Ops S) where
       process = l;
       last = last;
       has = its;
-      stood = stop;
+      stop_was = stop;
       chain = taken;
       becomes = has_become states rs behind x before.0 l last its propagates;
       advances = advances;
@@ -148,10 +148,10 @@ module _ {S : Type 0} (o : Ops S) where
     arrives_elsewhere = subst (λ z. PropagatesStop o z 4294967295 x rs behind) (read_set states x comes.process last now comes.has.state_is read_then) came
 
     moves_on : PerformsQuiet o (o.path comes.process) n (record { states = states; records = rs }) (record { states = slice_set states x last; records = behind })
-    moves_on rp t kept = advanced o law rp t states rs behind n x comes.first comes.process last kept comes.has comes.stands comes.chain arrives_elsewhere
+    moves_on rp t kept = advanced o law rp t states rs behind n x comes.first comes.process last kept comes.has comes.stop_is comes.chain arrives_elsewhere
 
-    pub stands_elsewhere : (f : ℕ) × HasProcessState (record { states = slice_set states x last; records = behind }) x f now lives
-    stands_elsewhere =
+    pub lives_elsewhere : (f : ℕ) × HasProcessState (record { states = slice_set states x last; records = behind }) x f now lives
+    lives_elsewhere =
         let b = has_become states rs behind x comes.first comes.process last comes.has arrives_elsewhere in
         (b.first, subst (λ z. HasProcessState (record { states = slice_set states x last; records = behind }) x b.first z lives) (sym (read_set states x comes.process last now comes.has.state_is read_then)) b.mine)
 
@@ -166,7 +166,7 @@ module _ {S : Type 0} (o : Ops S) where
       process = comes.process;
       last = last;
       has = comes.has;
-      stood = comes.stands;
+      stop_was = comes.stop_is;
       chain = comes.chain;
       becomes = has_become states rs behind x comes.first comes.process last comes.has arrives_elsewhere;
       advances = moves_on;

@@ -7,14 +7,14 @@ use Rattle.shim_base.specs.Paths.{Path}
 use Rattle.shim_base.proofs.Facts.{some_same}
 use Rattle.shim_local.specs.Process.{Ops}
 use Rattle.shim_semantics.specs.Nodes.{Node}
-use Rattle.shim_laws_table.specs.Seen.{ProcessStatus, forks, place}
+use Rattle.shim_laws_table.specs.NodeStatus.{ProcessStatus, forks, place}
 use Rattle.shim_laws_table.proofs.Hanging.{tied}
 use Rattle.shim_laws_table.proofs.SameTrees.{same_or_not}
 use Rattle.shim_records.specs.Pairs.{up_in}
 use Rattle.shim_records.specs.declared.record.Record.{Record}
 use Rattle.shim_records.proofs.Reaching.{among_more, one_above}
 use Rattle.shim_records.proofs.Stepping.{set_there, set_elsewhere}
-use Rattle.shim_laws_table_events.specs.keeping.Tables.{TableView, HasProcessState, TableInvariant, HasTableInvariant, stands}
+use Rattle.shim_laws_table_events.specs.keeping.Tables.{TableView, HasProcessState, TableInvariant, HasTableInvariant, views}
 use Rattle.shim_laws_table_events.specs.queues.EventQueue.{is_set, is_listed}
 use Rattle.shim_laws_table_events.proofs.queues.PairsFound.{record_of}
 use Rattle.shim_process_table.specs.Lookups.{IsInUse, IsForAll, ParentIs}
@@ -65,14 +65,14 @@ one_later n = omega arith
 
 module _ {S : Type 0} (o : Ops S) (v : TableView S) where
   pub use_within : (i : ℕ) → IsInUse v i → i < length v.records
-  use_within i (f, s, k, has) = let r = record_of v.records i f k has.stands_so in slice_get_within v.records i r.0 r.1
+  use_within i (f, s, k, has) = let r = record_of v.records i f k has.view_is in slice_get_within v.records i r.0 r.1
 
   module _ (rp : Path) (root : Node S) (kept : TableInvariant o rp v root) where
     -- its fork is in use, and one branch nearer to the root
     fork_of : (i j f : ℕ) (s : S) (k : ProcessStatus) → HasProcessState v i f s k → up_in v.records i ≡ Some j
         → (g : ℕ) × (n : ℕ) × (t : S) × HasProcessState v j g t (forks n) × (length (place o rp s) ≡ length (place o rp t) + 1)
     fork_of i j f s k has e =
-        let b = tied o rp v.states (stands v) root kept.represents (up_in v.records) kept.linked i f j s k has e in
+        let b = tied o rp v.states (views v) root kept.represents (up_in v.records) kept.linked i f j s k has e in
         (b.0.first, b.0.many, b.0.parent, subst (λ z. HasProcessState v z b.0.first b.0.parent (forks b.0.many)) b.1 b.0.has, ap length b.0.is ∙ length-append (place o rp b.0.parent) (b.0.branch ∷ []))
 
   pub fork_in_use : HasTableInvariant o v → (i j : ℕ) → IsInUse v i → up_in v.records i ≡ Some j → IsInUse v j
@@ -90,7 +90,7 @@ module _ {S : Type 0} (o : Ops S) (v : TableView S) where
 
     pub none_further : {n i k : ℕ} → IsInUse v i → IsAbove (up_in v.records) n i k → IsAbove (up_in v.records) 4294967295 i k
     none_further {i} (f, s, h, has) w =
-        let r = record_of v.records i f h has.stands_so in
+        let r = record_of v.records i f h has.view_is in
         among_more (up_in v.records) 4294967295 (kept.2.fit i f s h r.0 has r.1).near (at_level f s h has w)
 
   -- ---- on the way up
@@ -168,7 +168,7 @@ module _ {S : Type 0} (o : Ops S) (v : TableView S) where
 -- ---- what readers answer
 
 module _ {S : Type 0} (o : Ops S) (v : TableView S) (kept : HasTableInvariant o v) (i : ℕ) where
-  -- of a process in use the number of its parent is told
+  -- of a process in use the number of its parent is known
   pub parent_is_up : IsInUse v i → (r : Option ℕ) → ParentIs v.records i r → r ≡ up_in v.records i
   parent_is_up used None past = on (up_in v.records i) refl
     where

@@ -7,9 +7,9 @@ use Rattle.shim_base.proofs.Facts.{some_same}
 use Rattle.shim_base.specs.Paths.{NamedChannel}
 use Rattle.shim_local.specs.Process.{Ops, AtQuiet, AtNext}
 use Rattle.shim_semantics.specs.Nodes.{Death}
-use Rattle.shim_laws_table.specs.Seen.{lives, dies}
+use Rattle.shim_laws_table.specs.NodeStatus.{lives, dies}
 use Rattle.shim_laws_table.specs.Agrees.{used as used_by}
-use Rattle.shim_records.specs.Pairs.{stands_of, stands_by}
+use Rattle.shim_records.specs.Pairs.{record_view, status_view}
 use Rattle.shim_records.specs.declared.record.Record.{Record}
 use Rattle.shim_records.specs.declared.record.Status.{Status}
 use Rattle.shim_records.specs.declared.record.Status.TheVariants as code
@@ -22,7 +22,7 @@ use Rattle.shim_process_table.specs.Stepping.{IsBeforeQuiet}
 use Rattle.shim_process_table.proofs.DueFacts.{at_rest, live_process}
 
 -- what came of it isn't that it lives
-not_alive : {B : Type 0} (f g : ℕ) (k : Status) → (k ≢ code.Live) → stands_by f k ≡ used_by g lives → B
+not_alive : {B : Type 0} (f g : ℕ) (k : Status) → (k ≢ code.Live) → status_view f k ≡ used_by g lives → B
 not_alive f g code.Free other e = absurd cc
 not_alive f g code.Live other e = absurd (other refl)
 not_alive f g (code.Forked n) other e = absurd cc
@@ -34,23 +34,23 @@ pub next_alone : (d : NamedChannel) → AtNext d ≢ AtQuiet
 next_alone d e = absurd cc
 
 module _ {S : Type 0} (o : Ops S) (v : TableView S) (i : ℕ) where
-  -- a live process stands at one thing alone
-  pub stands_else : (f : ℕ) (l : S) → HasProcessState v i f l lives → o.stop l ≢ AtQuiet → IsBeforeQuiet o i v false
-  stands_else f l has other g s h e = other (ap o.stop (some_same l s (sym has.state_is ∙ h.state_is)) ∙ e)
+  -- a live process is at one thing alone
+  pub not_at_quiet : (f : ℕ) (l : S) → HasProcessState v i f l lives → o.stop l ≢ AtQuiet → IsBeforeQuiet o i v false
+  not_at_quiet f l has other g s h e = other (ap o.stop (some_same l s (sym has.state_is ∙ h.state_is)) ∙ e)
 
   -- one that has died belongs in no list
   pub died_nowhere : (f : ℕ) (l : S) (d : Death) → HasProcessState v i f l (dies d) → HasNothingDue o v i × IsBeforeQuiet o i v false
-  died_nowhere f l d has = (has_died f l d has, λ g m lived stop. absurd (let e = sym has.stands_so ∙ lived.stands_so in cc))
+  died_nowhere f l d has = (has_died f l d has, λ g m lived stop. absurd (let e = sym has.view_is ∙ lived.view_is in cc))
 
   -- ---- by its record
 
   module _ (used : IsInUse v i) (r : Record) (read : r ≡ get_or v.records i r) where
     there : slice_get v.records i ≡ Some r
-    there = let w = record_of v.records i used.0 used.2 used.3.stands_so in slice_get_read v.records (length v.records) i r refl (slice_get_within v.records i w.0 w.1) read
+    there = let w = record_of v.records i used.0 used.2 used.3.view_is in slice_get_read v.records (length v.records) i r refl (slice_get_within v.records i w.0 w.1) read
 
-    -- who doesn't live stands before nothing
+    -- who doesn't live is before nothing
     lives_not : r.status ≢ code.Live → IsBeforeQuiet o i v false
-    lives_not other f l has e = not_alive r.first f r.status other (some_same (stands_of r) (used_by f lives) (sym (map_get stands_of v.records i ∙ ap (option_map stands_of) there) ∙ has.stands_so))
+    lives_not other f l has e = not_alive r.first f r.status other (some_same (record_view r) (used_by f lives) (sym (map_get record_view v.records i ∙ ap (option_map record_view) there) ∙ has.view_is))
 
     pub is_fork : (n : ℕ) → r.status ≡ code.Forked n → IsBeforeQuiet o i v false
     is_fork n e = lives_not (λ h. forked_alone n (sym e ∙ h))

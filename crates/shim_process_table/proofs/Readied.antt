@@ -7,8 +7,8 @@ use Rattle.shim_base.proofs.SamePaths.{same_channel_is, same_channel_refl}
 use Rattle.shim_local.specs.Process.{Ops, AtNext}
 use Rattle.shim_semantics.specs.Nodes.{is_next}
 use Rattle.shim_semantics.proofs.HowMany.{clash}
-use Rattle.shim_laws_table.specs.Seen.{ProcessStatus, lives, forks, ends, dies}
-use Rattle.shim_laws_table.proofs.OneChange.{one_state, one_sort}
+use Rattle.shim_laws_table.specs.NodeStatus.{ProcessStatus, lives, forks, ends, dies}
+use Rattle.shim_laws_table.proofs.OneChange.{one_state, one_status}
 use Rattle.shim_laws_table.proofs.SameTrees.{same_or_not}
 use Rattle.shim_records.specs.Pairs.{up_in, counts_in, counts_ready, min_labels_in}
 use Rattle.shim_records.specs.Ways.{IsAbove, its_fork, OnlyCounts, NoneReadied, ReadiesWithin}
@@ -16,7 +16,7 @@ use Rattle.shim_records.specs.Ways as ways
 use Rattle.shim_records.specs.declared.record.Record.{Record}
 use Rattle.shim_records.proofs.Reaching.{among_more, one_above}
 use Rattle.shim_records.proofs.Stepping.{set_elsewhere}
-use Rattle.shim_laws_table_events.specs.keeping.Tables.{TableView, HasProcessState, stands}
+use Rattle.shim_laws_table_events.specs.keeping.Tables.{TableView, HasProcessState, views}
 use Rattle.shim_laws_table_events.specs.queues.RecordDecisions.{IsReady}
 use Rattle.shim_laws_table_events.specs.queues.NoMore.{WasReady}
 use Rattle.shim_laws_table_events.proofs.queues.NoMore.{as_ready}
@@ -159,11 +159,11 @@ module _ {S : Type 0} (o : Ops S) where
 
   -- ---- one process has changed
 
-  -- a process that lives is ready where it stands
+  -- a process that lives is ready where it is
   its_stop : (v : TableView S) (x f g : ℕ) (s t : S) (k : ProcessStatus) (c : Channel) → HasProcessState v x f s lives → HasProcessState v x g t k → IsReady o v c x t k → (s ≡ t) × (is_next (o.stop s) c ≡ true)
   its_stop v x f g s t k c has there ready =
-      let same = one_state v.states (stands v) x f g s t lives k has there in
-      let lively = one_sort v.states (stands v) x f g s t lives k has there in
+      let same = one_state v.states (views v) x f g s t lives k has there in
+      let lively = one_status v.states (views v) x f g s t lives k has there in
       (same, ap (λ z. is_next (o.stop z) c) same ∙ subst (λ z. IsReady o v c x t z) (sym lively) ready)
 
   module _ (n x f : ℕ) (states : List S) (rs behind : List Record) (s : S) (has : HasProcessState (record { states = slice_set states x s; records = behind }) x f s lives) where
@@ -173,7 +173,7 @@ module _ {S : Type 0} (o : Ops S) where
     abbrev There : TableView S
     There = record { states = slice_set states x s; records = behind }
 
-    -- it came where it stands
+    -- it came where it is
     pub arrival_readies : StopReadies o s n x rs behind → ReadiesAbove o n x (record { states = states; records = rs }) (record { states = slice_set states x s; records = behind })
     arrival_readies readies = readies_above (λ c. is_next (o.stop s) c ≡ true) n x Here There readies (λ i far. set_elsewhere states x i s far) (λ c g t k there ready. inl (its_stop There x f g s t k c has there ready).1)
 
@@ -192,22 +192,22 @@ module _ {S : Type 0} (o : Ops S) where
 
   -- ---- where a process stands
 
-  pub stands_alone : (s : S) (e : NamedChannel) (d : Channel) → o.stop s ≡ AtNext e → is_next (o.stop s) d ≡ true → d ≡ e.channel
-  stands_alone s e d stop is = sym (same_channel_is e.channel d (ap (λ z. is_next z d) (sym stop) ∙ is))
+  pub at_one_channel : (s : S) (e : NamedChannel) (d : Channel) → o.stop s ≡ AtNext e → is_next (o.stop s) d ≡ true → d ≡ e.channel
+  at_one_channel s e d stop is = sym (same_channel_is e.channel d (ap (λ z. is_next z d) (sym stop) ∙ is))
 
   -- it came to a channel
   pub came_there : (s : S) (e : NamedChannel) (n x : ℕ) (before behind : List Record) → o.stop s ≡ AtNext e → OnlyCounts e.channel before behind → ReadiesWithin e.channel n x before behind → StopReadies o s n x before behind
-  came_there s e n x before behind stop only readies = readies_one (λ d. is_next (o.stop s) d ≡ true) e.channel n x before behind (λ d is. stands_alone s e d stop is) only readies
+  came_there s e n x before behind stop only readies = readies_one (λ d. is_next (o.stop s) d ≡ true) e.channel n x before behind (λ d is. at_one_channel s e d stop is) only readies
 
-  -- it stands where it stood
+  -- it is where it was
   pub stayed_there : (s : S) (c : Channel) (e : NamedChannel) (x : ℕ) (rs : List Record) → o.stop s ≡ AtNext e → true ≡ same_channel c e.channel → MoveReadies o s c 0 x rs rs
-  stayed_there s c e x rs stop same = readies_none (λ d. (is_next (o.stop s) d ≡ true) × (d ≢ c)) 0 x rs rs (λ d w. w.1 (stands_alone s e d stop w.0 ∙ sym (same_channel_is c e.channel (sym same)))) refl
+  stayed_there s c e x rs stop same = readies_none (λ d. (is_next (o.stop s) d ≡ true) × (d ≢ c)) 0 x rs rs (λ d w. w.1 (at_one_channel s e d stop w.0 ∙ sym (same_channel_is c e.channel (sym same)))) refl
 
   -- it came to another channel
   pub moved_there : (s : S) (c : Channel) (e : NamedChannel) (n x : ℕ) (before between behind : List Record) → o.stop s ≡ AtNext e → OnlyCounts c before between → NoneReadied c before between → OnlyCounts e.channel between behind
       → ReadiesWithin e.channel n x between behind → MoveReadies o s c n x before behind
   moved_there s c e n x before between behind stop left fell only readies =
-      readies_after (λ d. (is_next (o.stop s) d ≡ true) × (d ≢ c)) c n x before between behind left fell (readies_one (λ d. (is_next (o.stop s) d ≡ true) × (d ≢ c)) e.channel n x between behind (λ d w. stands_alone s e d stop w.0) only readies)
+      readies_after (λ d. (is_next (o.stop s) d ≡ true) × (d ≢ c)) c n x before between behind left fell (readies_one (λ d. (is_next (o.stop s) d ≡ true) × (d ≢ c)) e.channel n x between behind (λ d w. at_one_channel s e d stop w.0) only readies)
 
   -- or to none
   pub moved_nowhere : (s : S) (c : Channel) (x : ℕ) (before behind : List Record) → ((d : Channel) → is_next (o.stop s) d ≡ false) → OnlyCounts c before behind → NoneReadied c before behind → MoveReadies o s c 0 x before behind

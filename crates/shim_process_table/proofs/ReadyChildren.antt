@@ -1,11 +1,11 @@
--- Children that are ready on a channel, as the code tells them.
+-- Children that are ready on a channel, as the code finds them.
 use Rattle.std.proofs.Common.{◌≡◌, ◌<◌, ◌≤◌, ℕ, ◌+◌, true, false, Option, Some, None, List, get_or, inl, inr, refl, sym, ap, ◌∙◌, arith}
 use Rattle.std.specs.Prelude.{slice_get}
 use Rattle.std.specs.Option.{option_map}
 use Rattle.shim_base.specs.Paths.{Channel}
 use Rattle.shim_local.specs.Process.{Ops}
 use Rattle.shim_semantics.proofs.HowMany.{clash}
-use Rattle.shim_laws_table.specs.Seen.{ProcessStatus}
+use Rattle.shim_laws_table.specs.NodeStatus.{ProcessStatus}
 use Rattle.shim_laws_table.specs.Agrees.{RecordView, free, used}
 use Rattle.shim_laws_table.specs.Counts.{Tally, tally_ready}
 use Rattle.shim_records.specs.Pairs.{counts_ready, tally, counts_in, pair_index, tally_for}
@@ -13,7 +13,7 @@ use Rattle.shim_records.specs.declared.pair.Pair.{Pair}
 use Rattle.shim_records.specs.declared.record.Record.{Record}
 use Rattle.shim_records.proofs.Walked.{last_or_before}
 use Rattle.shim_records.proofs.Pairing.{put_there, no_place}
-use Rattle.shim_laws_table_events.specs.keeping.Tables.{TableView, HasProcessState, stands}
+use Rattle.shim_laws_table_events.specs.keeping.Tables.{TableView, HasProcessState, views}
 use Rattle.shim_laws_table_events.specs.queues.RecordDecisions.{ready_by, IsReady, HasNoPairDue}
 use Rattle.shim_process_table.specs.Due.{ready_record, ready_at, DoomedAmong}
 
@@ -27,11 +27,11 @@ module _ {S : Type 0} (o : Ops S) (c : Channel) where
   module _ (v : TableView S) (j : ℕ) where
     -- of a process in use it is whether that is ready
     pub is_ready : (f : ℕ) (k : S) (x : ProcessStatus) → HasProcessState v j f k x → ready_at o c v.states v.records j ≡ ready_by o c k x (counts_in c v.records j)
-    is_ready f k x has = ap (λ z. ready_record o c z (slice_get (stands v) j) (counts_in c v.records j)) has.state_is ∙ ap (λ z. ready_record o c (Some k) z (counts_in c v.records j)) has.stands_so
+    is_ready f k x has = ap (λ z. ready_record o c z (slice_get (views v) j) (counts_in c v.records j)) has.state_is ∙ ap (λ z. ready_record o c (Some k) z (counts_in c v.records j)) has.view_is
 
     -- and where it holds there is one
     pub who_is_ready : ready_at o c v.states v.records j ≡ true → (f : ℕ) × (k : S) × (x : ProcessStatus) × HasProcessState v j f k x × IsReady o v c j k x
-    who_is_ready e = let w = who_by (slice_get v.states j) (slice_get (stands v) j) (counts_in c v.records j) e in (w.0, w.1, w.2, record { state_is = w.3; stands_so = w.4 }, w.5)
+    who_is_ready e = let w = who_by (slice_get v.states j) (slice_get (views v) j) (counts_in c v.records j) e in (w.0, w.1, w.2, record { state_is = w.3; view_is = w.4 }, w.5)
 
   -- ---- the first of them
 

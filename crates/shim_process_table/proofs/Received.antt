@@ -4,11 +4,11 @@ use Rattle.std.specs.Prelude.{slice_get}
 use Rattle.shim_base.specs.Paths.{Channel}
 use Rattle.shim_local.specs.Process.{Ops}
 use Rattle.shim_local.specs.Laws.{LocalLaws, by_call, by_receive}
-use Rattle.shim_laws_table.specs.Seen.{lives}
+use Rattle.shim_laws_table.specs.NodeStatus.{lives}
 use Rattle.shim_records.specs.declared.record.Record.{Record}
-use Rattle.shim_records.proofs.ReadOff.{same_stands}
+use Rattle.shim_records.proofs.ReadOff.{same_views}
 use Rattle.shim_records.proofs.Stepping.{set_there, set_elsewhere}
-use Rattle.shim_laws_table_events.specs.keeping.Tables.{TableView, HasProcessState, HasTableInvariant, stands}
+use Rattle.shim_laws_table_events.specs.keeping.Tables.{TableView, HasProcessState, HasTableInvariant, views}
 use Rattle.shim_laws_table_events.specs.meetings.Receiving.{MovesOn}
 use Rattle.shim_laws_table_events.proofs.meetings.Receives.{moves_on_rest}
 use Rattle.shim_process_table.specs.Queue.{QueueIs}
@@ -28,21 +28,21 @@ module _ {S : Type 0} (o : Ops S) (c : Channel) (law : LocalLaws o) (v : ℤ) (s
   abbrev there : TableView S
   there = record { states = slice_set states x last; records = behind }
 
-  stay : stands there ≡ stands here
-  stay = same_stands rs behind (moves_on_rest moves)
+  stay : views there ≡ views here
+  stay = same_views rs behind (moves_on_rest moves)
 
   last_is : last ≡ o.receive before.1 v
   last_is = is_last ∙ ap (λ z. o.receive z v) (same o c law v states rs behind x l last now before read is_last read_then moves)
 
   mine : HasProcessState there x before.0 (o.receive before.1 v) lives
-  mine = record { state_is = set_there states x before.1 last before.3.state_is ∙ ap Some last_is; stands_so = ap (λ z. slice_get z x) stay ∙ before.3.stands_so }
+  mine = record { state_is = set_there states x before.1 last before.3.state_is ∙ ap Some last_is; view_is = ap (λ z. slice_get z x) stay ∙ before.3.view_is }
 
   becomes : HasBecome x (o.receive before.1 v) lives here there
   becomes = record {
     first = before.0;
     mine = mine;
-    others = λ j g t k far h. record { state_is = set_elsewhere states x j last far ∙ h.state_is; stands_so = ap (λ z. slice_get z j) stay ∙ h.stands_so };
-    only = λ j g t k far h. record { state_is = sym (set_elsewhere states x j last far) ∙ h.state_is; stands_so = sym (ap (λ z. slice_get z j) stay) ∙ h.stands_so };
+    others = λ j g t k far h. record { state_is = set_elsewhere states x j last far ∙ h.state_is; view_is = ap (λ z. slice_get z j) stay ∙ h.view_is };
+    only = λ j g t k far h. record { state_is = sym (set_elsewhere states x j last far) ∙ h.state_is; view_is = sym (ap (λ z. slice_get z j) stay) ∙ h.view_is };
   }
 
   module _ (kept : HasTableInvariant o (record { states = states; records = rs })) where
@@ -61,7 +61,7 @@ module _ {S : Type 0} (o : Ops S) (c : Channel) (law : LocalLaws o) (v : ℤ) (s
       process = before.1;
       chan = before.2;
       has = before.3;
-      stood = before.4;
+      stop_was = before.4;
       is_channel = before.5;
       becomes = becomes;
       newly_ready = newly_ready to_requeue.forks readies;

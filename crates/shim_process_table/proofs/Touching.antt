@@ -9,13 +9,13 @@ use Rattle.shim_laws_table.specs.Counts.{Tally, ChildStatus as Read}
 use Rattle.shim_laws_table.specs.Updating.{UpdatedAbove, too_far, at_top, no_counts, stays, goes_on}
 use Rattle.shim_laws_table.specs.LoweredLabels.{LoweredAbove, all_the_way, at_the_root, uncounted, as_low, lowers}
 use Rattle.shim_laws_table.specs.Agrees.{RecordView}
-use Rattle.shim_laws_table.specs.Recounting.{Recounted, all_the_way as all_read, at_the_root as at_root, uncounted as none_counted, as_before, recounts}
+use Rattle.shim_laws_table.specs.Recomputing.{Recomputed, all_the_way as all_read, at_the_root as at_root, uncounted as none_counted, as_before, recomputes}
 use Rattle.shim_laws_table.proofs.SameTrees.{same_or_not}
 use Rattle.shim_local.specs.Process.{Ops}
 use Rattle.shim_records.specs.Pairs.{up_in, up_at, rest_of, counts_in, counts_at, min_labels_in, min_label_at}
 use Rattle.shim_records.specs.Ways.{IsAbove, its_fork, further, AllCountsMovedWithin, IsUpdatedAbove}
 use Rattle.shim_records.specs.Labels.{IsLoweredAbove}
-use Rattle.shim_records.specs.Recounting.{IsRecounted}
+use Rattle.shim_records.specs.Recomputing.{IsRecomputed}
 use Rattle.shim_records.specs.CountingOff.{HasCountedOff, alone, lost, below}
 use Rattle.shim_records.specs.declared.pair.ChildStatus.{ChildStatus}
 use Rattle.shim_records.specs.declared.record.Record.{Record}
@@ -95,13 +95,13 @@ module _ (up : ℕ → Option ℕ) where
   lowered_above (as_low n before x j e some low) i out = refl
   lowered_above (lowers n before between behind x j e some lowered more) i out = lowered_above more i (λ w. out (further n x j i e w)) ∙ lowered.others i (λ w. out (subst (IsAbove up (suc n) x) (sym w) (its_fork n x j e)))
 
-  recounted_above : {S : Type 0} {o : Ops S} {c : Channel} {states : List S} {stands : List RecordView} {counts : ℕ → Option Tally} {n x : ℕ} {before behind : ℕ → Option ℕ}
-      → Recounted o c states stands up counts n before x behind → (i : ℕ) → (IsAbove up n x i → ⊥) → behind i ≡ before i
-  recounted_above (all_read before x) i out = refl
-  recounted_above (at_root n before x top) i out = refl
-  recounted_above (none_counted n before x j e none) i out = refl
-  recounted_above (as_before n before x j e some read) i out = refl
-  recounted_above (recounts n before between behind x j e some read others more) i out = recounted_above more i (λ w. out (further n x j i e w)) ∙ others i (λ w. out (subst (IsAbove up (suc n) x) (sym w) (its_fork n x j e)))
+  recomputed_above : {S : Type 0} {o : Ops S} {c : Channel} {states : List S} {views : List RecordView} {counts : ℕ → Option Tally} {n x : ℕ} {before behind : ℕ → Option ℕ}
+      → Recomputed o c states views up counts n before x behind → (i : ℕ) → (IsAbove up n x i → ⊥) → behind i ≡ before i
+  recomputed_above (all_read before x) i out = refl
+  recomputed_above (at_root n before x top) i out = refl
+  recomputed_above (none_counted n before x j e none) i out = refl
+  recomputed_above (as_before n before x j e some read) i out = refl
+  recomputed_above (recomputes n before between behind x j e some read others more) i out = recomputed_above more i (λ w. out (further n x j i e w)) ∙ others i (λ w. out (subst (IsAbove up (suc n) x) (sym w) (its_fork n x j e)))
 
 -- of one channel something is the same, and of each other one
 same_all : {A : Type 0} (c : Channel) (x y : Channel → A) → x c ≡ y c → ((d : Channel) → same_channel c d ≡ false → x d ≡ y d) → (d : Channel) → x d ≡ y d
@@ -131,7 +131,7 @@ counts_above c n x was is before behind way = record {
   };
 }
 
--- where it is told how far the ways led
+-- where it is known how far the updates led
 pub counts_reach : (m x : ℕ) (before behind : List Record) → map rest_of behind ≡ map rest_of before → ((c : Channel) (i : ℕ) → min_labels_in c behind i ≡ min_labels_in c before i) → AllCountsMovedWithin m x before behind → ChangesOnlyRecords m x before behind
 counts_reach m x before behind same labels moves = record {
   parents = rest_parents before behind same;
@@ -150,14 +150,14 @@ labels_above c y n x before behind way = record {
   };
 }
 
-pub reads_off : {S : Type 0} (o : Ops S) (c : Channel) (states : List S) (n x : ℕ) (before behind : List Record) → IsRecounted o c states n x before behind → ChangesOnlyRecords n x before behind
+pub reads_off : {S : Type 0} (o : Ops S) (c : Channel) (states : List S) (n x : ℕ) (before behind : List Record) → IsRecomputed o c states n x before behind → ChangesOnlyRecords n x before behind
 reads_off o c states n x before behind way = record {
   parents = rest_parents before behind way.1.rest;
   as_many = rest_long before behind way.1.rest;
   others = λ i far out. record {
     rest = rest_at before behind i way.1.rest;
     counts = λ d. way.1.counts d i;
-    labels = same_all c (λ d. min_labels_in d behind i) (λ d. min_labels_in d before i) (recounted_above (up_in before) way.0 i out) (λ d other. way.1.elsewhere d other i);
+    labels = same_all c (λ d. min_labels_in d behind i) (λ d. min_labels_in d before i) (recomputed_above (up_in before) way.0 i out) (λ d other. way.1.elsewhere d other i);
   };
 }
 

@@ -5,9 +5,9 @@ use Rattle.std.specs.Option.{option_map}
 use Rattle.shim_base.specs.Paths.{Channel}
 use Rattle.shim_base.proofs.Facts.{some_same}
 use Rattle.shim_local.specs.Process.{Ops}
-use Rattle.shim_laws_table.specs.Seen.{ProcessStatus, lives, forks, ends, dies}
+use Rattle.shim_laws_table.specs.NodeStatus.{ProcessStatus, lives, forks, ends, dies}
 use Rattle.shim_laws_table.specs.Agrees.{free, used}
-use Rattle.shim_records.specs.Pairs.{up_in, stands_of}
+use Rattle.shim_records.specs.Pairs.{up_in, record_view}
 use Rattle.shim_records.specs.declared.record.Record.{Record}
 use Rattle.shim_records.proofs.Representing.{map_get}
 use Rattle.shim_records.proofs.Stepping.{set_elsewhere}
@@ -15,7 +15,7 @@ use Rattle.shim_laws_table_events.specs.keeping.Tables.{TableView, HasProcessSta
 use Rattle.shim_laws_table_events.specs.queues.Requeueing.{IsAsBefore}
 use Rattle.shim_laws_table_events.proofs.queues.PairsFound.{record_of}
 use Rattle.shim_laws_table_events.proofs.queues.Same.{had}
-use Rattle.shim_laws_table_events.specs.closes.Closing.{without_status, AreFreed, HasCome, CountsOffIfOver, AllRecounted, none_left, one_more, GivenRecounted}
+use Rattle.shim_laws_table_events.specs.closes.Closing.{without_status, AreFreed, HasCome, CountsOffIfOver, AllRecomputed, none_left, one_more, GivenRecomputed}
 use Rattle.shim_laws_table_events.proofs.closes.Saying.{map_length}
 use Rattle.shim_records.specs.Ways.{IsAbove}
 use Rattle.shim_process_table.specs.Touching.{ChangesOnlyAbove, SaysAsBefore, ChangesOnlyRecords}
@@ -23,12 +23,12 @@ use Rattle.shim_process_table.proofs.Above.{above_as}
 use Rattle.shim_process_table.proofs.Touching.{touches_none, touches_on, touches_more, touches_set, same_record, says_on, reads_off, counting_off}
 
 module _ {S : Type 0} (o : Ops S) (states : List S) where
-  pub all_read_off : (n x : ℕ) (cs : List Channel) (before behind : List Record) → AllRecounted o states n x cs before behind → ChangesOnlyRecords n x before behind
+  pub all_read_off : (n x : ℕ) (cs : List Channel) (before behind : List Record) → AllRecomputed o states n x cs before behind → ChangesOnlyRecords n x before behind
   all_read_off n x cs before behind (none_left rs) = touches_none n x rs rs refl
   all_read_off n x cs before behind (one_more c ds first between last way more) = touches_on n x first between last (reads_off o c states n x first between way) (all_read_off n x ds between last more)
 
-  pub given_read_off : (s : S) (n x : ℕ) (before behind : List Record) → GivenRecounted o states s n x before behind → ChangesOnlyRecords n x before behind
-  given_read_off s n x before behind h = all_read_off n x h.chans before behind h.recounted
+  pub given_read_off : (s : S) (n x : ℕ) (before behind : List Record) → GivenRecomputed o states s n x before behind → ChangesOnlyRecords n x before behind
+  given_read_off s n x before behind h = all_read_off n x h.chans before behind h.recomputed
 
 pub leaves_if : (k : ProcessStatus) (x : ℕ) (before behind : List Record) → CountsOffIfOver k x before behind → ChangesOnlyRecords 1 x before behind
 leaves_if lives x before behind h = touches_none 1 x before behind h
@@ -53,9 +53,9 @@ module _ {S : Type 0} (states : List S) (rs freed behind : List Record) (m i g n
   no_child j f t h has said b less e =
       let same : IsAsBefore (record { states = now; records = freed }) (record { states = now; records = behind }) j = record { state = refl; rest = said.rest; counts = said.counts; labels = said.labels } in
       let was = had (record { states = now; records = freed }) (record { states = now; records = behind }) j same f t h has in
-      let w = record_of freed j f h was.stands_so in
+      let w = record_of freed j f h was.view_is in
       let is_free = free_ones.freed.inside b w.0 less (ap (slice_get freed) (sym e) ∙ w.1) in
-      not_free f h (sym is_free ∙ some_same (stands_of w.0) (used f h) (sym (map_get stands_of freed j ∙ ap (option_map stands_of) w.1) ∙ was.stands_so))
+      not_free f h (sym is_free ∙ some_same (record_view w.0) (used f h) (sym (map_get record_view freed j ∙ ap (option_map record_view) w.1) ∙ was.view_is))
     where
       not_free : {B : Type 0} (f : ℕ) (h : ProcessStatus) → free ≡ used f h → B
       not_free f h e = absurd cc

@@ -5,9 +5,9 @@ use Rattle.std.specs.Option.{option_map}
 use Rattle.std.proofs.lemmas.List.{length-take-le}
 use Rattle.shim_base.proofs.Facts.{some_same, none_some}
 use Rattle.shim_local.specs.Process.{Ops}
-use Rattle.shim_laws_table.specs.Seen.{ProcessStatus}
+use Rattle.shim_laws_table.specs.NodeStatus.{ProcessStatus}
 use Rattle.shim_laws_table.specs.Agrees.{free, used}
-use Rattle.shim_records.specs.Pairs.{up_in, up_at, stands_of}
+use Rattle.shim_records.specs.Pairs.{up_in, up_at, record_view}
 use Rattle.shim_records.specs.declared.record.Record.{Record}
 use Rattle.shim_records.proofs.Walked.{less_or_not}
 use Rattle.shim_records.proofs.Representing.{map_get}
@@ -38,7 +38,7 @@ inside (y ∷ xs) (suc m) zero x e = omega arith
 inside (y ∷ xs) (suc m) (suc i) x e = let w = inside xs m i x e in omega (arith, w)
 
 -- the last record is in use, where what is cut off begins behind one in use
-pub cut_at_used : (rs : List Record) (m : ℕ) → m ≤ length rs → ((i : ℕ) (r : Record) → m ≡ i + 1 → slice_get rs i ≡ Some r → stands_of r ≢ free) → (i : ℕ) (r : Record) → length (take m rs) ≡ i + 1 → slice_get (take m rs) i ≡ Some r → stands_of r ≢ free
+pub cut_at_used : (rs : List Record) (m : ℕ) → m ≤ length rs → ((i : ℕ) (r : Record) → m ≡ i + 1 → slice_get rs i ≡ Some r → record_view r ≢ free) → (i : ℕ) (r : Record) → length (take m rs) ≡ i + 1 → slice_get (take m rs) i ≡ Some r → record_view r ≢ free
 cut_at_used rs m within last i r long e =
     let whole = length-take-le m rs within in
     last i r (sym whole ∙ long) (sym (taken rs m i (inside rs m i r e)) ∙ e)
@@ -46,7 +46,7 @@ cut_at_used rs m within last i r long e =
 not_free : {B : Type 0} (f : ℕ) (k : ProcessStatus) → free ≡ used f k → B
 not_free f k e = absurd cc
 
-module _ {S : Type 0} (o : Ops S) (v : TableView S) (m : ℕ) (past : (i : ℕ) (r : Record) → m ≤ i → slice_get v.records i ≡ Some r → stands_of r ≡ free) where
+module _ {S : Type 0} (o : Ops S) (v : TableView S) (m : ℕ) (past : (i : ℕ) (r : Record) → m ≤ i → slice_get v.records i ≡ Some r → record_view r ≡ free) where
   abbrev cut : TableView S
   cut = record { states = take m v.states; records = take m v.records }
 
@@ -54,8 +54,8 @@ module _ {S : Type 0} (o : Ops S) (v : TableView S) (m : ℕ) (past : (i : ℕ) 
   in_front i (f, s, k, has) = elim (less_or_not i m) [
     | inl h ↦ h
     | inr h ↦
-        let r = record_of v.records i f k has.stands_so in
-        not_free f k (sym (past i r.0 h r.1) ∙ some_same (stands_of r.0) (used f k) (sym (map_get stands_of v.records i ∙ ap (option_map stands_of) r.1) ∙ has.stands_so))
+        let r = record_of v.records i f k has.view_is in
+        not_free f k (sym (past i r.0 h r.1) ∙ some_same (record_view r.0) (used f k) (sym (map_get record_view v.records i ∙ ap (option_map record_view) r.1) ∙ has.view_is))
   ]
 
   had : (i f : ℕ) (s : S) (k : ProcessStatus) → HasProcessState cut i f s k → HasProcessState v i f s k
@@ -63,7 +63,7 @@ module _ {S : Type 0} (o : Ops S) (v : TableView S) (m : ℕ) (past : (i : ℕ) 
       let less = inside v.states m i s has.state_is in
       record {
         state_is = sym (taken v.states m i less) ∙ has.state_is;
-        stands_so = map_get stands_of v.records i ∙ (ap (option_map stands_of) (sym (taken v.records m i less)) ∙ (sym (map_get stands_of (take m v.records) i) ∙ has.stands_so));
+        view_is = map_get record_view v.records i ∙ (ap (option_map record_view) (sym (taken v.records m i less)) ∙ (sym (map_get record_view (take m v.records) i) ∙ has.view_is));
       }
 
   -- the same forks are above a process in use

@@ -3,7 +3,7 @@ use Rattle.std.proofs.Common.{◌≡◌, ◌≤◌, ℕ, suc, ◌+◌, Some, Lis
 use Rattle.std.specs.Prelude.{slice_get}
 use Rattle.shim_base.specs.Paths.{Channel}
 use Rattle.shim_local.specs.Process.{Ops}
-use Rattle.shim_laws_table.specs.Seen.{lives}
+use Rattle.shim_laws_table.specs.NodeStatus.{lives}
 use Rattle.shim_records.specs.Pairs.{up_in}
 use Rattle.shim_records.specs.declared.record.Record.{Record}
 use Rattle.shim_laws_table_events.specs.keeping.Tables.{TableView, HasTableInvariant}
@@ -31,8 +31,8 @@ module _ {S : Type 0} (o : Ops S) where
   -- one that was killed
   pub is_killed : (s : S) (label n x : ℕ) (before behind : List Record) → DiesAt o s label n x before behind → ChangesOnlyRecords (suc n) x before behind
   is_killed s label n x before behind h =
-      let now = slice_set before x (dead_record h.stood label) in
-      touches_on (suc n) x before now behind (touches_set (suc n) x before h.stood (dead_record h.stood label) h.there refl)
+      let now = slice_set before x (dead_record h.old_record label) in
+      touches_on (suc n) x before now behind (touches_set (suc n) x before h.old_record (dead_record h.old_record label) h.there refl)
       (touches_on (suc n) x now h.counted behind (all_update _ _ n x h.killed.chans now h.counted h.killed.updated)
       (touches_on (suc n) x h.counted h.labelled behind (touches_more n (suc n) x h.counted h.labelled (omega arith) (taken o s label n x h.counted h.labelled h.taken))
       (touches_more 1 (suc n) x h.labelled behind (omega arith) (counting_off x h.labelled behind h.left))))

@@ -3,7 +3,7 @@ use Rattle.std.proofs.Common.{◌≡◌, ◌≤◌, ℕ, suc, Some, List, map, s
 use Rattle.std.specs.Prelude.{slice_get}
 use Rattle.shim_base.specs.Paths.{Channel}
 use Rattle.shim_local.specs.Process.{Ops}
-use Rattle.shim_laws_table.specs.Seen.{ProcessStatus}
+use Rattle.shim_laws_table.specs.NodeStatus.{ProcessStatus}
 use Rattle.shim_laws_table.specs.Counts.{ChildStatus as Read}
 use Rattle.shim_records.specs.Pairs.{rest_of, min_labels_in}
 use Rattle.shim_records.specs.Ways.{AllCountsMovedWithin}
@@ -13,7 +13,7 @@ use Rattle.shim_records.specs.Died.{AllLoweredAbove, none_left as none_lowered, 
 use Rattle.shim_records.specs.CountingOff.{HasCountedOff}
 use Rattle.shim_records.specs.declared.record.Record.{Record}
 use Rattle.shim_records.specs.declared.record.Status.{Status}
-use Rattle.shim_laws_table_events.specs.keeping.Acting.{marked}
+use Rattle.shim_laws_table_events.specs.keeping.Acting.{with_status}
 use Rattle.shim_process_table.specs.Touching.{ChangesOnlyAbove, ChangesOnlyRecords}
 use Rattle.shim_process_table.proofs.Touching.{touches_none, touches_on, touches_more, touches_set, touches_above, counts_above, counts_reach, labels_above, counting_off}
 
@@ -38,7 +38,7 @@ all_lowered y n x cs before behind (none_lowered rs) = touches_none n x rs rs re
 all_lowered y n x cs before behind (one_lowered c ds first between last once way more) = touches_on n x first between last (labels_above c y n x first between way) (all_lowered y n x ds between last more)
 
 module _ {S : Type 0} (o : Ops S) (s : S) where
-  -- the counts were moved as far up as is told
+  -- the counts were moved as far up as the answer says
   pub all_reach : (k : ProcessStatus) (m n x : ℕ) (before behind : List Record) → AllUpdated o s k n x before behind → AllCountsMovedWithin m x before behind → ChangesOnlyRecords m x before behind
   all_reach k m n x before behind all moves = counts_reach m x before behind (rest_stays _ _ n x all.chans before behind all.updated) (labels_stay _ _ n x all.chans before behind all.updated) moves
 
@@ -48,10 +48,10 @@ module _ {S : Type 0} (o : Ops S) (s : S) where
 -- ---- one that ends or dies
 
 -- its label went so far up, and then the counts
-pub leaves : (n x : ℕ) (k : Status) (was : Record) (before labelled counted behind : List Record) → slice_get before x ≡ Some was → ChangesOnlyRecords n x (slice_set before x (marked k was)) labelled → ChangesOnlyRecords n x labelled counted → HasCountedOff x counted behind → 1 ≤ n → ChangesOnlyRecords n x before behind
+pub leaves : (n x : ℕ) (k : Status) (was : Record) (before labelled counted behind : List Record) → slice_get before x ≡ Some was → ChangesOnlyRecords n x (slice_set before x (with_status k was)) labelled → ChangesOnlyRecords n x labelled counted → HasCountedOff x counted behind → 1 ≤ n → ChangesOnlyRecords n x before behind
 leaves n x k was before labelled counted behind there takes moves left some =
-    let now = slice_set before x (marked k was) in
-    touches_on n x before now behind (touches_set n x before was (marked k was) there refl)
+    let now = slice_set before x (with_status k was) in
+    touches_on n x before now behind (touches_set n x before was (with_status k was) there refl)
     (touches_on n x now labelled behind takes (touches_on n x labelled counted behind moves (touches_more 1 n x counted behind some (counting_off x counted behind left))))
 
 -- ---- with the states

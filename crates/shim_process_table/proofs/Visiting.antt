@@ -6,10 +6,9 @@ use Rattle.std.proofs.lemmas.List.{append_assoc, append-nil}
 use Rattle.std.proofs.lemmas.Option.{slice_get_within}
 use Rattle.shim_base.specs.Paths.{Channel}
 use Rattle.shim_base.proofs.Facts.{some_same, none_some}
-use Rattle.shim_local.specs.Process.{Ops}
-use Rattle.shim_laws_table.specs.Seen.{ProcessStatus, lives, forks}
+use Rattle.shim_laws_table.specs.NodeStatus.{ProcessStatus, lives, forks}
 use Rattle.shim_laws_table.specs.Agrees.{used}
-use Rattle.shim_records.specs.Pairs.{tally, stands_of, stands_by, pair_index, known_of, known_for, known_at, chans_of, IsOrdered}
+use Rattle.shim_records.specs.Pairs.{tally, record_view, status_view, pair_index, known_of, known_for, known_at}
 use Rattle.shim_records.specs.declared.pair.Pair.{Pair}
 use Rattle.shim_records.specs.declared.pair.Sharing.{Sharing}
 use Rattle.shim_records.specs.declared.record.Record.{Record}
@@ -18,7 +17,7 @@ use Rattle.shim_records.specs.declared.record.Status.TheVariants as code
 use Rattle.shim_records.proofs.Pairing.{put_there, no_place}
 use Rattle.shim_records.proofs.Representing.{map_get}
 use Rattle.shim_records.proofs.SharingFound.{known_pair, pair_known}
-use Rattle.shim_laws_table_events.specs.keeping.Tables.{TableView, HasProcessState, HasTableInvariant}
+use Rattle.shim_laws_table_events.specs.keeping.Tables.{TableView, HasProcessState}
 use Rattle.shim_laws_table_events.specs.meetings.Descents.{numbers_of_length}
 use Rattle.shim_laws_table_events.specs.meetings.Plans.{children_between, Plans, at_end, passes, finds, goes_below, SourceChild}
 use Rattle.shim_process_table.specs.Stepping.{IsLive}
@@ -91,19 +90,19 @@ module _ {S : Type 0} (v : TableView S) (c : Channel) where
 
   -- ---- what a fork knows
 
-  fork_only : (f g n : ℕ) (k : Status) → stands_by f k ≡ used g (forks n) → forked_into k ≡ Some n
+  fork_only : (f g n : ℕ) (k : Status) → status_view f k ≡ used g (forks n) → forked_into k ≡ Some n
   fork_only f g n code.Free e = absurd (let z : ⊥ = cc in z)
   fork_only f g n code.Live e = absurd (let z : ⊥ = cc in z)
   fork_only f g n (code.Forked m) e = ap Some (cc)
   fork_only f g n code.Ended e = absurd (let z : ⊥ = cc in z)
   fork_only f g n (code.Dead x) e = absurd (let z : ⊥ = cc in z)
 
-  stands_forked : (f n : ℕ) (k : Status) → forked_into k ≡ Some n → stands_by f k ≡ used f (forks n)
-  stands_forked f n code.Free e = none_some n e
-  stands_forked f n code.Live e = none_some n e
-  stands_forked f n (code.Forked m) e = ap (λ z. used f (forks z)) (some_same m n e)
-  stands_forked f n code.Ended e = none_some n e
-  stands_forked f n (code.Dead x) e = none_some n e
+  forked_view_is : (f n : ℕ) (k : Status) → forked_into k ≡ Some n → status_view f k ≡ used f (forks n)
+  forked_view_is f n code.Free e = none_some n e
+  forked_view_is f n code.Live e = none_some n e
+  forked_view_is f n (code.Forked m) e = ap (λ z. used f (forks z)) (some_same m n e)
+  forked_view_is f n code.Ended e = none_some n e
+  forked_view_is f n (code.Dead x) e = none_some n e
 
   module _ (i : ℕ) where
     pub past_states : length v.states ≤ i → KnowledgeAt v c i None
@@ -114,7 +113,7 @@ module _ {S : Type 0} (v : TableView S) (c : Channel) where
 
     module _ (r : Record) (there : slice_get v.records i ≡ Some r) where
       pub no_fork : forked_into r.status ≡ None → KnowledgeAt v c i None
-      no_fork none f n s has = none_some n (sym none ∙ fork_only r.first f n r.status (some_same (stands_of r) (used f (forks n)) (sym (map_get stands_of v.records i ∙ ap (option_map stands_of) there) ∙ has.stands_so)))
+      no_fork none f n s has = none_some n (sym none ∙ fork_only r.first f n r.status (some_same (record_view r) (used f (forks n)) (sym (map_get record_view v.records i ∙ ap (option_map record_view) there) ∙ has.view_is)))
 
       pub nothing_known : known_for c (known_of r.pairs.items) ≡ None → KnowledgeAt v c i None
       nothing_known none f n s has = ap (known_at c) there ∙ none
@@ -122,7 +121,7 @@ module _ {S : Type 0} (v : TableView S) (c : Channel) where
       pub is_known : (s : S) (n : ℕ) (k : Sharing) → slice_get v.states i ≡ Some s → forked_into r.status ≡ Some n → known_for c (known_of r.pairs.items) ≡ Some k → KnowledgeAt v c i (Some (record { first = r.first; count = n; sharing = k }))
       is_known s n k state forked known = (
         s,
-        record { state_is = state; stands_so = map_get stands_of v.records i ∙ (ap (option_map stands_of) there ∙ ap Some (stands_forked r.first n r.status forked)) },
+        record { state_is = state; view_is = map_get record_view v.records i ∙ (ap (option_map record_view) there ∙ ap Some (forked_view_is r.first n r.status forked)) },
         ap (known_at c) there ∙ known,
       )
 
@@ -137,14 +136,14 @@ module _ {S : Type 0} (v : TableView S) (c : Channel) where
     behind_all : (w : Knowledge) → KnowledgeAt v c i (Some w) → w.count ≤ w.sharing.source → SourceChild v c i None
     behind_all w knows far f n s k has known =
         let same : w.sharing ≡ k = some_same w.sharing k (sym knows.2 ∙ known) in
-        let many = one_count w.first f w.count n (sym knows.1.stands_so ∙ has.stands_so) in
+        let many = one_count w.first f w.count n (sym knows.1.view_is ∙ has.view_is) in
         subst (λ z. z ≤ k.source) many (subst (λ z. w.count ≤ z.source) same far)
 
     pub source_is : (w : Knowledge) (j : Option ℕ) → KnowledgeAt v c i (Some w) → IsSourceOf w j → SourceChild v c i j
     source_is w None knows far = behind_all w knows far
     source_is w (Some j) knows is = (w.first, w.count, knows.0, w.sharing, knows.1, knows.2, is.0, is.1)
 
--- the pair in a place tells what is known
+-- the pair in a place says what is known
 pub known_by_place : (c : Channel) (ps : List Pair) (i : ℕ) (p : Pair) → pair_index c ps ≡ Some i → p ≡ get_or ps i p → Some p.sharing ≡ known_for c (known_of ps)
 known_by_place c ps i p e g = sym (pair_known c ps p (put_there c ps i p p e g refl refl).found)
 
@@ -154,10 +153,6 @@ nothing_by_place c ps e = on (known_for c (known_of ps)) refl
     on : (x : Option Sharing) → known_for c (known_of ps) ≡ x → None ≡ known_for c (known_of ps)
     on None w = sym w
     on (Some k) w = let p = known_pair c ps k w in none_some (tally p.0) (sym (no_place c ps e) ∙ ap (option_map tally) p.1)
-
--- the pairs of a record stand in order
-pub its_order : {S : Type 0} (o : Ops S) (v : TableView S) (i : ℕ) (r : Record) → HasTableInvariant o v → slice_get v.records i ≡ Some r → IsOrdered (chans_of r.pairs.items)
-its_order o v i r kept there = kept.2.ordered i r there
 
 -- what holds in any case
 pub whatever_comes : {T E : Type 0} (r : Result T E) (P : Type 0) → P → OnOk r P

@@ -4,7 +4,7 @@ use Rattle.shim_base.specs.declared.operators.Trap.{Trap}
 use Rattle.shim_local.specs.Process.{Ops, StopView, AtTrap}
 use Rattle.shim_semantics.specs.Nodes.{Node, Live, Dead, state}
 use Rattle.shim_semantics.specs.Acts.{Acted, Effects, nothing, catch_logged, act_live}
-use Rattle.shim_laws_table.specs.Seen.{ProcessStatus, lives, dies, process_status}
+use Rattle.shim_laws_table.specs.NodeStatus.{ProcessStatus, lives, dies, process_status}
 use Rattle.shim_laws_table_events.specs.keeping.Tables.{TableView, HasProcessState}
 use Rattle.shim_laws_table_events.specs.keeping.Moves.{Performs}
 use Rattle.shim_laws_table_events.specs.keeping.Acting.{event_at_stop}
@@ -13,7 +13,7 @@ use Rattle.shim_process_table.specs.Touching.{ReadiesAbove}
 use Rattle.shim_process_table.specs.declared.acting.Thrown.{Thrown}
 use Rattle.shim_process_table.specs.declared.acting.Thrown.TheVariants as thrown
 
--- the process with this number lives, and stands trapped
+-- the process with this number lives, and is trapped
 abbrev pub IsTrappedAt : {S : Type 0} → Ops S → TableView S → ℕ → Type 0
 IsTrappedAt o v number = (kind : Trap) × (line : ℕ) × LivesAt o v number (AtTrap kind line)
 
@@ -22,7 +22,7 @@ pub record ActsAlone {S : Type 0} (o : Ops S) (n number : ℕ) (stop : StopView)
   pub first : ℕ
   pub process : S
   pub has : HasProcessState before number first process lives
-  pub stood : o.stop process ≡ stop
+  pub stop_was : o.stop process ≡ stop
   pub left : Node S
   pub does : act_live o process stop ≡ Some (record { node = left; effects = effects })
   pub came : process_status left ≡ k

@@ -4,16 +4,16 @@ use Rattle.shim_local.specs.Process.{Ops}
 use Rattle.shim_semantics.specs.Nodes.{Live, Death, state}
 use Rattle.shim_semantics.specs.Acts.{Acted, Effects, nothing, closed}
 use Rattle.shim_semantics.specs.Trees.{Close}
-use Rattle.shim_laws_table.specs.Seen.{ProcessStatus, lives, forks, dies, process_status}
+use Rattle.shim_laws_table.specs.NodeStatus.{ProcessStatus, lives, forks, dies, process_status}
 use Rattle.shim_laws_table.specs.Changes.{HasClosed, segment, prevailing_among}
 use Rattle.shim_laws_table.specs.Agrees.{free}
 use Rattle.shim_records.specs.Acted.{process_status_of, AllUpdated}
-use Rattle.shim_records.specs.Pairs.{stands_of}
+use Rattle.shim_records.specs.Pairs.{record_view}
 use Rattle.shim_records.specs.declared.record.Record.{Record}
 use Rattle.shim_records.specs.declared.record.Status.{Status}
-use Rattle.shim_laws_table_events.specs.keeping.Tables.{TableView, HasProcessState, stands}
+use Rattle.shim_laws_table_events.specs.keeping.Tables.{TableView, HasProcessState, views}
 use Rattle.shim_laws_table_events.specs.keeping.Moves.{Performs}
-use Rattle.shim_laws_table_events.specs.closes.Closing.{HasCome, CountsOffIfOver, RecountedIf}
+use Rattle.shim_laws_table_events.specs.closes.Closing.{HasCome, CountsOffIfOver, RecomputedIf}
 use Rattle.shim_process_table.specs.Touching.{ChangesOnlyAbove}
 use Rattle.shim_process_table.specs.Acting.{status_by_throw, throw_effects, thrown_by}
 use Rattle.shim_process_table.specs.declared.acting.Thrown.TheVariants as thrown
@@ -49,18 +49,18 @@ pub record ClosesAt {S : Type 0} (o : Ops S) (n number : ℕ) (outcome : CloseOu
   pub process : S
   pub forked : HasProcessState before number first process (forks many)
   pub left : Acted S
-  pub does : left ≡ closed o process (segment first many before.states) (prevailing_among (segment first many (stands before)))
+  pub does : left ≡ closed o process (segment first many before.states) (prevailing_among (segment first many (views before)))
   pub path : o.path (state left.node) ≡ o.path process
   pub apart : (b : ℕ) → b < many → number ≢ first + b
-  pub told : left.effects ≡ close_effects outcome
+  pub effects_are : left.effects ≡ close_effects outcome
   pub came : ClosedAs outcome (process_status left.node)
-  pub becomes : HasClosed before.states behind.states (stands before) (stands behind) number first many (state left.node) (process_status left.node)
+  pub becomes : HasClosed before.states behind.states (views before) (views behind) number first many (state left.node) (process_status left.node)
   pub moves : Performs o (Close (o.path process)) before behind
   pub touches : ChangesOnlyAbove n number before behind
 
 -- the record at the end, where there is one, is in use
 abbrev pub EndsInUse : {S : Type 0} → TableView S → Type 0
-EndsInUse v = (i : ℕ) (r : Record) → length v.records ≡ i + 1 → slice_get v.records i ≡ Some r → stands_of r ≢ free
+EndsInUse v = (i : ℕ) (r : Record) → length v.records ≡ i + 1 → slice_get v.records i ≡ Some r → record_view r ≢ free
 
 -- ---- the parts
 
@@ -94,4 +94,4 @@ pub record ClosesRecord {S : Type 0} (o : Ops S) (states : List S) (at : ℕ) (s
   pub come : HasCome was is (process_status_of status)
   pub leaves : CountsOffIfOver (process_status_of status) at (slice_set before at is) left
   pub walked : AllUpdated o process (process_status_of status) 4294967295 at left between
-  pub again : RecountedIf d o states process 4294967295 at between behind
+  pub again : RecomputedIf d o states process 4294967295 at between behind

@@ -1,12 +1,12 @@
--- What can happen at a process, as the code tells it.
+-- What can happen at a process, as the code returns it.
 use Rattle.std.specs.Prelude.{◌≡◌, ◌<◌, ℕ, ◌+◌, Bool, true, false, Option, Some, None, List, map, slice_get}
 use Rattle.shim_base.specs.Paths.{Channel, NamedChannel}
 use Rattle.shim_local.specs.Process.{Ops, AtPut, AtFork, AtThrow, AtTrap, AtFinish, AtNext}
-use Rattle.shim_laws_table.specs.Seen.{ProcessStatus, lives}
+use Rattle.shim_laws_table.specs.NodeStatus.{ProcessStatus, lives}
 use Rattle.shim_laws_table.specs.Agrees.{RecordView, used}
 use Rattle.shim_laws_table.specs.Counts.{Tally, tally_ready}
 use Rattle.shim_laws_table.specs.Dooms.{is_below}
-use Rattle.shim_records.specs.Pairs.{tally, counts_in, stands_of}
+use Rattle.shim_records.specs.Pairs.{tally, counts_in, record_view}
 use Rattle.shim_records.specs.declared.pair.Pair.{Pair}
 use Rattle.shim_records.specs.declared.record.Record.{Record}
 use Rattle.shim_laws_table_events.specs.keeping.Tables.{TableView, HasProcessState}
@@ -17,13 +17,13 @@ use Rattle.shim_process_table.specs.Stepping.{LivesAt}
 use Rattle.shim_process_table.specs.declared.due.Due.{Due}
 use Rattle.shim_process_table.specs.declared.due.Due.TheVariants as code
 
--- it lives, and stands at a channel that it declared
+-- it lives, and is at a channel that it declared
 pub record MeetsAlone {S : Type 0} (o : Ops S) (v : TableView S) (i : ℕ) : Type 0 where
   pub first : ℕ
   pub process : S
   pub chan : NamedChannel
   pub has : HasProcessState v i first process lives
-  pub stands : o.stop process ≡ AtNext chan
+  pub stop_is : o.stop process ≡ AtNext chan
   pub declared : o.path process ≡ chan.channel.home
 
 -- it declared the channel of its pair in this place, and by the pair's counts it is ready on that
@@ -75,7 +75,7 @@ ready_record o c _ _ y = false
 
 -- whether the process with this number is ready on it
 abbrev pub ready_at : {S : Type 0} → Ops S → Channel → List S → List Record → ℕ → Bool
-ready_at o c states rs i = ready_record o c (slice_get states i) (slice_get (map stands_of rs) i) (counts_in c rs i)
+ready_at o c states rs i = ready_record o c (slice_get states i) (slice_get (map record_view rs) i) (counts_in c rs i)
 
 -- one of so many from a number on that is ready, or that none is
 abbrev pub ReadyAmong : {S : Type 0} → Ops S → Channel → List S → List Record → ℕ → ℕ → Option ℕ → Type 0

@@ -5,12 +5,12 @@ use Rattle.shim_local.specs.Views.{ForkGives}
 use Rattle.shim_local.specs.declared.local.Forked.{Forked}
 use Rattle.shim_local.specs.declared.local.Forked.TheVariants as forked_view
 use Rattle.shim_semantics.specs.Trees.{Own}
-use Rattle.shim_laws_table.specs.Seen.{ProcessStatus, lives}
+use Rattle.shim_laws_table.specs.NodeStatus.{ProcessStatus, lives}
 use Rattle.shim_laws_table.specs.Agrees.{free}
 use Rattle.shim_laws_table.specs.Changes.{HasForked}
-use Rattle.shim_records.specs.Pairs.{stands_of}
+use Rattle.shim_records.specs.Pairs.{record_view}
 use Rattle.shim_records.specs.declared.record.Record.{Record}
-use Rattle.shim_laws_table_events.specs.keeping.Tables.{TableView, HasProcessState, stands}
+use Rattle.shim_laws_table_events.specs.keeping.Tables.{TableView, HasProcessState, views}
 use Rattle.shim_laws_table_events.specs.keeping.Moves.{Performs}
 use Rattle.shim_process_table.specs.Touching.{ChangesOnlyAbove, ChangesOnlyForking}
 use Rattle.shim_process_table.specs.declared.forking.ForkOutcome.{ForkOutcome}
@@ -23,12 +23,12 @@ pub record HasForkedHere {S : Type 0} (o : Ops S) (n number first count : ℕ) (
   pub is : S
   pub born : List S
   pub lived : HasProcessState before number was_first was lives
-  pub stood : o.stop was ≡ AtFork
+  pub stop_was : o.stop was ≡ AtFork
   pub forked : o.fork was ≡ Parted is born
   pub many : length born ≡ count
   pub fits : first + count ≤ 4294967295
   pub unused : (b d : ℕ) (t : S) (k : ProcessStatus) → b < count → HasProcessState before (first + b) d t k → ⊥
-  pub becomes : HasForked before.states behind.states (stands before) (stands behind) number first is born
+  pub becomes : HasForked before.states behind.states (views before) (views behind) number first is born
   pub moves : Performs o (Own (o.path was)) before behind
   pub touches : ChangesOnlyForking n number first count before behind
 
@@ -38,7 +38,7 @@ pub record HasTrappedHere {S : Type 0} (o : Ops S) (number : ℕ) (before behind
   pub was : S
   pub is : S
   pub lived : HasProcessState before number first was lives
-  pub stood : o.stop was ≡ AtFork
+  pub stop_was : o.stop was ≡ AtFork
   pub trapped : o.fork was ≡ Trapped is
   pub behind_is : behind ≡ record { states = slice_set before.states number is; records = before.records }
   pub moves : Performs o (Own (o.path was)) before behind
@@ -54,15 +54,15 @@ abbrev pub forked_count : {S : Type 0} → Forked S → ℕ
 forked_count (forked_view.Children ks) = length ks
 forked_count forked_view.Trapped = 0
 
--- the process with this number lives and stands at a fork, which leaves the process in this state, and comes to these children or to a trap
+-- the process with this number lives and is at a fork, which leaves the process in this state, and comes to these children or to a trap
 abbrev pub ForkComesTo : {S : Type 0} → Ops S → TableView S → ℕ → S → Forked S → Type 0
 ForkComesTo {S} o v i p came = (f : ℕ) × (l : S) × HasProcessState v i f l lives × (o.stop l ≡ AtFork) × ForkGives o l p came
 
 -- so many records from the number g on are free, or behind all others
 pub record IsFreeBlock (g n : ℕ) (rs : List Record) : Type 0 where
   pub inside : g ≤ length rs
-  pub free_ones : (b : ℕ) (r : Record) → b < n → slice_get rs (g + b) ≡ Some r → stands_of r ≡ free
+  pub free_ones : (b : ℕ) (r : Record) → b < n → slice_get rs (g + b) ≡ Some r → record_view r ≡ free
 
--- the process with this number lives, stands at a fork, and would stand so behind it, with these children
+-- the process with this number lives, is at a fork, and would stand so behind it, with these children
 abbrev pub ForkedTo : {S : Type 0} → Ops S → ℕ → S → List S → TableView S → Type 0
 ForkedTo {S} o i p ks v = (f : ℕ) × (l : S) × HasProcessState v i f l lives × (o.stop l ≡ AtFork) × (o.fork l ≡ Parted p ks)

@@ -1,6 +1,6 @@
 -- What readers of one process ask, and what they answer.
 use Rattle.std.specs.Prelude.{◌≡◌, ◌≤◌, ◌<◌, ℕ, Option, Some, None, List, slice_get, length}
-use Rattle.shim_laws_table.specs.Seen.{ProcessStatus, forks}
+use Rattle.shim_laws_table.specs.NodeStatus.{ProcessStatus, forks}
 use Rattle.shim_records.specs.Members.{IsAmong}
 use Rattle.shim_records.specs.Pairs.{up_in}
 use Rattle.shim_records.specs.declared.pair.Pair.{Pair}

@@ -3,7 +3,7 @@ use Rattle.std.specs.Prelude.{◌≡◌, ℕ, ℤ, Bool, true, false, Option, So
 use Rattle.shim_base.specs.Paths.{Channel, NamedChannel}
 use Rattle.shim_local.specs.Process.{Ops, AtNext}
 use Rattle.shim_semantics.specs.Nodes.{is_next}
-use Rattle.shim_laws_table.specs.Seen.{lives}
+use Rattle.shim_laws_table.specs.NodeStatus.{lives}
 use Rattle.shim_laws_table.specs.Counts.{live_child_status}
 use Rattle.shim_records.specs.Pairs.{child_status_of}
 use Rattle.shim_records.specs.Ways.{IsUpdatedAbove}
@@ -20,17 +20,17 @@ abbrev pub WaitsAt : {S : Type 0} → Ops S → Channel → ℕ → TableView S 
 WaitsAt {S} o c i v true = (f : ℕ) × (l : S) × (d : NamedChannel) × HasProcessState v i f l lives × (o.stop l ≡ AtNext d) × (d.channel ≡ c)
 WaitsAt {S} o c i v false = (f : ℕ) (l : S) → HasProcessState v i f l lives → is_next (o.stop l) c ≡ false
 
--- a live process stands at the channel no more: the counts above the record x were updated for it, through at most n forks
+-- a live process is at the channel no more: the counts above the record x were updated for it, through at most n forks
 abbrev pub LeavesChannel : Channel → ℕ → ℕ → List Record → List Record → Type 0
 LeavesChannel c n x before behind = (was : ChildStatus) × (is : ChildStatus) × (child_status_of was ≡ live_child_status true) × (child_status_of is ≡ live_child_status false) × IsUpdatedAbove c n x was is before behind
 
--- The process with this number lived, stood at the channel and received the value there; no other process has changed, and no record in use is readier than before but its own and those of the first so many forks above it. It belongs in that queue now.
+-- The process with this number lived, was at the channel and received the value there; no other process has changed, and no record in use is readier than before but its own and those of the first so many forks above it. It belongs in that queue now.
 pub record HasReceived {S : Type 0} (o : Ops S) (c : Channel) (x : ℤ) (number : ℕ) (to_requeue : Requeue) (before behind : TableView S) : Type 0 where
   pub first : ℕ
   pub process : S
   pub chan : NamedChannel
   pub has : HasProcessState before number first process lives
-  pub stood : o.stop process ≡ AtNext chan
+  pub stop_was : o.stop process ≡ AtNext chan
   pub is_channel : chan.channel ≡ c
   pub becomes : HasBecome number (o.receive process x) lives before behind
   pub newly_ready : ReadiesAbove o to_requeue.forks number before behind

@@ -1,7 +1,7 @@
 -- What a fork knows of who of its children shares a channel, and a walk by that, block by block.
 use Rattle.std.specs.Prelude.{◌≡◌, ◌<◌, ◌≤◌, ℕ, ◌+◌, Option, Some, None, List, ◌++◌}
 use Rattle.shim_base.specs.Paths.{Channel}
-use Rattle.shim_laws_table.specs.Seen.{forks}
+use Rattle.shim_laws_table.specs.NodeStatus.{forks}
 use Rattle.shim_records.specs.Pairs.{known_in}
 use Rattle.shim_records.specs.declared.record.Status.{Status}
 use Rattle.shim_records.specs.declared.record.Status.TheVariants as code

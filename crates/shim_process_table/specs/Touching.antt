@@ -4,7 +4,7 @@ use Rattle.std.specs.Option.{option_map}
 use Rattle.shim_base.specs.Paths.{Channel}
 use Rattle.shim_local.specs.Process.{Ops}
 use Rattle.shim_semantics.specs.Nodes.{is_next}
-use Rattle.shim_laws_table.specs.Seen.{ProcessStatus}
+use Rattle.shim_laws_table.specs.NodeStatus.{ProcessStatus}
 use Rattle.shim_records.specs.Pairs.{up_in, rest_of, counts_in, counts_ready, min_labels_in}
 use Rattle.shim_records.specs.Ways.{IsAbove, most_forks}
 use Rattle.shim_records.specs.declared.record.Record.{Record}

@@ -4,7 +4,7 @@ ghost use Rattle.shim_base.specs.declared.operators.Trap.{Trap as TrapView};
 ghost use Rattle.shim_local.specs.Process.{AtPut, AtFinish, AtThrow, AtTrap};
 ghost use Rattle.shim_semantics.specs.Nodes.{death_with};
 ghost use Rattle.shim_semantics.specs.Acts.{nothing, putting, throwing, trapping};
-ghost use Rattle.shim_laws_table.specs.Seen.{lives, ends, dies};
+ghost use Rattle.shim_laws_table.specs.NodeStatus.{lives, ends, dies};
 ghost use Rattle.shim_records.specs.Ways.{most_forks};
 ghost use Rattle.shim_process_table.specs.Stepping.{LivesAt};
 ghost use Rattle.shim_process_table.specs.Acting.{IsTrappedAt, ActsAlone, status_by_throw, thrown_by, throw_effects};
@@ -25,14 +25,14 @@ pub enum Thrown {
     Caught(u32, u32),
     /// No handler of its own is in force, and the process died so.
     Died(Death),
-    /// Its expression traps, and the process stands trapped.
+    /// Its expression traps, and the process is trapped.
     Trapped,
 }
 
-// The throw of this label at which a process stands.
+// The throw of this label at which a process is.
 fn throw_own<L: Local>(process: &mut L, label: u32) -> Thrown
     requires sound { L.ops.sound process.old }
-    requires stands { L.ops.stop process.old ≡ AtThrow label }
+    requires stop_is { L.ops.stop process.old ≡ AtThrow label }
     ensures { thrown_by result process.new ≡ throwing L.ops process.old label (L.ops.number process.old) }
 {
     match process.thrown() {
@@ -48,8 +48,8 @@ fn throw_own<L: Local>(process: &mut L, label: u32) -> Thrown
 }
 
 impl<L: Local> ProcessTable<L> {
-    /// The process with this number, which lives and stands at a `put`, does it. The answer is the byte, or
-    /// `None` where the expression traps; it then stands trapped. It says where the process has come, too.
+    /// The process with this number, which lives and is at a `put`, does it. The answer is the byte, or
+    /// `None` where the expression traps; it then is trapped. It says where the process has come, too.
     pub fn put(&mut self, number: u32) -> (Option<u8>, Requeue)
         requires { LivesAt L.ops self.old number AtPut }
         ensures acts { ActsAlone L.ops result.1.forks number AtPut lives (putting result.0) self.old self.new }
@@ -61,8 +61,8 @@ impl<L: Local> ProcessTable<L> {
         (byte, to_requeue)
     }
 
-    /// The process with this number, which lives and stands at a throw of the exception of this label, throws
-    /// it: a handler of its own catches it, or the process dies, or stands trapped. The answer says where it
+    /// The process with this number, which lives and is at a throw of the exception of this label, throws
+    /// it: a handler of its own catches it, or the process dies, or is trapped. The answer says where it
     /// has come, too.
     pub fn throw(&mut self, number: u32, label: u32) -> (Thrown, Requeue)
         requires { LivesAt L.ops self.old number (AtThrow label) }
@@ -84,7 +84,7 @@ impl<L: Local> ProcessTable<L> {
         (thrown, to_requeue)
     }
 
-    /// The process with this number, which lives and stands trapped, dies of the trap.
+    /// The process with this number, which lives and is trapped, dies of the trap.
     pub fn trap(&mut self, number: u32)
         requires { IsTrappedAt L.ops self.old number }
         ensures { (kind : TrapView) (line : ℕ) → LivesAt L.ops self.old number (AtTrap kind line) → ActsAlone L.ops (most_forks + 1) number (AtTrap kind line) (dies (death_with 0 (pos 0))) (trapping kind line) self.old self.new }

@@ -5,11 +5,11 @@ ghost use Rattle.shim_semantics.specs.Acts.{thrown};
 ghost use Rattle.shim_laws_table.specs.Agrees.{free};
 ghost use Rattle.shim_laws_table.specs.Changes.{segment, prevailing_with, prevailing_among};
 ghost use Rattle.shim_records.specs.Acted.{process_status_of};
-ghost use Rattle.shim_records.specs.Pairs.{stands_of, stands_by, AreOrdered};
+ghost use Rattle.shim_records.specs.Pairs.{record_view, status_view};
 ghost use Rattle.shim_records.specs.declared.record.Record.{Record};
 ghost use Rattle.shim_records.specs.declared.record.Status.TheVariants.{Free};
 ghost use Rattle.shim_records.specs.Ways.{most_forks};
-ghost use Rattle.shim_laws_table_events.specs.closes.Closing.{AreFreed, HasCome, CountsOffIfOver, GivenRecounted, RecountedIf};
+ghost use Rattle.shim_laws_table_events.specs.closes.Closing.{AreFreed, HasCome, CountsOffIfOver, GivenRecomputed, RecomputedIf};
 ghost use Rattle.shim_process_table.specs.Closing.{CanClose, ClosesAt, EndsInUse, status_by_close, HasJoined, TakesBack, ClosesRecord};
 ghost use Rattle.shim_process_table.specs.Acting.{thrown_by};
 ghost use Rattle.shim_process_table.specs.Touching.{ChangesOnlyRecords};
@@ -24,7 +24,7 @@ use shim_records::{
 /// What came of a process whose fork has closed.
 #[derive(Clone, Copy, Debug, PartialEq, Eq)]
 pub enum CloseOutcome {
-    /// All children had ended, and it stands behind the fork.
+    /// All children had ended, and it is behind the fork.
     GoesOn,
     /// A child had died, and the exception was thrown in it.
     Threw(Thrown),
@@ -32,7 +32,7 @@ pub enum CloseOutcome {
 
 // The prevailing one of a death and another one, if there are any.
 fn prevailing(status: Status, rest: Option<Death>) -> Option<Death>
-    ensures { (f : ℕ) → result ≡ prevailing_with (stands_by f status) rest }
+    ensures { (f : ℕ) → result ≡ prevailing_with (status_view f status) rest }
 {
     match status {
         Status::Dead(death) => match rest {
@@ -46,7 +46,7 @@ fn prevailing(status: Status, rest: Option<Death>) -> Option<Death>
 // The prevailing death of these children.
 fn prevailing_death(records: &[Record], first: usize, count: usize) -> Option<Death>
     requires { first + count ≤ length records.now }
-    ensures { result ≡ prevailing_among (segment first count (map stands_of records.now)) }
+    ensures { result ≡ prevailing_among (segment first count (map record_view records.now)) }
 {
     let mut death = None;
     let mut left = count;
@@ -57,7 +57,7 @@ fn prevailing_death(records: &[Record], first: usize, count: usize) -> Option<De
     death
 }
 
-// The process takes back the values of its children, whose states stand behind its own.
+// The process takes back the values of its children, whose states are behind its own.
 fn join_behind<L: Local>(states: &mut [L], parent: usize, first: usize, count: usize, goes_on: bool)
     requires order { parent < first }
     requires inside { first + count ≤ length states.old }
@@ -68,7 +68,7 @@ fn join_behind<L: Local>(states: &mut [L], parent: usize, first: usize, count: u
     front[parent].join(&back[..count], goes_on);
 }
 
-// The process takes back the values of its children, whose states stand before its own.
+// The process takes back the values of its children, whose states are before its own.
 fn join_before<L: Local>(states: &mut [L], parent: usize, first: usize, count: usize, goes_on: bool)
     requires order { first + count ≤ parent }
     requires inside { parent < length states.old }
@@ -167,10 +167,9 @@ fn count_off_if_over(records: &mut Vec<Record>, at: usize, status: Status)
 
 // Reads the labels above a process off again, for each channel that it was given and shares.
 fn recompute_all<L: Local>(states: &[L], records: &mut Vec<Record>, at: usize, forks: u32)
-    requires ordered { AreOrdered records.old.items }
     requires few { (s : L) → slice_get states.now at ≡ Some s → length (L.ops.given s) ≤ 18446744073709551615 }
     requires inside { at < length states.now }
-    ensures { (s : L) → slice_get states.now at ≡ Some s → GivenRecounted L.ops states.now s forks at records.old.items records.new.items }
+    ensures { (s : L) → slice_get states.now at ≡ Some s → GivenRecomputed L.ops states.now s forks at records.old.items records.new.items }
 {
     let process = &states[at];
     for place in 0..usize::MAX {
@@ -193,10 +192,9 @@ fn recompute_if<L: Local>(
     at: usize,
     death: Option<Death>,
 ) -> u32
-    requires ordered { AreOrdered records.old.items }
     requires few { (s : L) → slice_get states.now at ≡ Some s → length (L.ops.given s) ≤ 18446744073709551615 }
     requires inside { at < length states.now }
-    ensures recounts { (s : L) → slice_get states.now at ≡ Some s → RecountedIf death L.ops states.now s most_forks at records.old.items records.new.items }
+    ensures recomputes { (s : L) → slice_get states.now at ≡ Some s → RecomputedIf death L.ops states.now s most_forks at records.old.items records.new.items }
     ensures touches { ChangesOnlyRecords result at records.old.items records.new.items }
 {
     match death {
@@ -217,7 +215,6 @@ fn close_record<L: Local>(
     status: Status,
     death: Option<Death>,
 ) -> u32
-    requires ordered { AreOrdered records.old.items }
     requires few { (s : L) → slice_get states.now at ≡ Some s → length (L.ops.given s) ≤ 18446744073709551615 }
     requires of_state { at < length states.now }
     requires of_record { at < length records.old.items }
@@ -236,7 +233,7 @@ fn close_record<L: Local>(
 // What came of a process.
 fn status_after(outcome: CloseOutcome) -> Status
     ensures used { result ≢ Free }
-    ensures sort { process_status_of result ≡ status_by_close outcome }
+    ensures status { process_status_of result ≡ status_by_close outcome }
 {
     match outcome {
         CloseOutcome::GoesOn => Status::Live,
@@ -248,8 +245,8 @@ fn status_after(outcome: CloseOutcome) -> Status
 
 // How many records there are without the free ones at the end.
 fn used_end(records: &[Record]) -> usize
-    ensures free { (i : ℕ) (r : Record) → result ≤ i → slice_get records.now i ≡ Some r → stands_of r ≡ free }
-    ensures used { (i : ℕ) (r : Record) → result ≡ i + 1 → slice_get records.now i ≡ Some r → stands_of r ≢ free }
+    ensures free { (i : ℕ) (r : Record) → result ≤ i → slice_get records.now i ≡ Some r → record_view r ≡ free }
+    ensures used { (i : ℕ) (r : Record) → result ≡ i + 1 → slice_get records.now i ≡ Some r → record_view r ≢ free }
     ensures inside { result ≤ length records.now }
 {
     let mut end = records.len();

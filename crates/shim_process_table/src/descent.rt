@@ -7,7 +7,7 @@ ghost use Rattle.shim_laws_table_events.specs.meetings.Plans.{children_between, 
 ghost use Rattle.shim_laws_table_events.specs.meetings.Descents.{numbers_of_length};
 ghost use Rattle.shim_process_table.specs.Descent.{numbers_of_block, ahead_of, children_by, IsSharer, DescendsOn};
 ghost use Rattle.shim_process_table.specs.Planning.{forked_into, PlansOn, KnowledgeAt, IsSourceOf};
-ghost use Rattle.shim_records.specs.Pairs.{chans_of, known_of, known_for, IsOrdered};
+ghost use Rattle.shim_records.specs.Pairs.{known_of, known_for};
 ghost use Rattle.shim_process_table.specs.Lookups.{AreInUse};
 
 use crate::process_table::ProcessTable;
@@ -24,9 +24,9 @@ pub(crate) struct Block {
     pub(crate) count: usize,
 }
 
-/// Numbers of processes, in the order of a walk from the root with leftmost children first: those that share a
-/// channel, as `ProcessTable::sharers` finds them, or those that a meeting may concern, as `ProcessTable::plan_meeting` does. It
-/// keeps the room that it has.
+/// Numbers of processes, in the order of a walk from the root with leftmost children first: those that share
+/// a channel, as `ProcessTable::sharers` finds them, or those that a rendezvous may concern, as
+/// `ProcessTable::plan_meeting` does. It keeps the room that it has.
 #[derive(Drop)]
 pub struct Sharers {
     pub(crate) numbers: Vec<u32>,
@@ -91,7 +91,6 @@ fn forked_into(status: Status) -> Option<u32>
 
 // What a fork knows of who shares the channel, if it knows anything of it.
 fn sharing_of(fork: &Record, c: &Chan) -> Option<Sharing>
-    requires { IsOrdered (chans_of fork.now.pairs.items) }
     ensures { result ≡ known_for c.now.channel (known_of fork.now.pairs.items) }
 {
     match place_in(fork.pairs.as_slice(), c) {
@@ -153,9 +152,9 @@ impl<L: Local> ProcessTable<L> {
         Err(NoMemory)
     }
 
-    /// What an enabled meeting of the channel wants, whose home has this number: processes among which are all that
-    /// stand at it, each once, and the value of its source, which is the answer. Forks know below which children to look,
-    /// so nobody is asked who shares the channel.
+    /// What an enabled rendezvous of the channel needs, whose home has this number: processes among which are
+    /// all that wait at it, each once, and the value of its source, which is the answer. Forks know below
+    /// which children to look, so nobody is asked who shares the channel.
     pub fn plan_meeting(
         &self,
         number: u32,

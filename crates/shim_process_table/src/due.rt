@@ -1,8 +1,8 @@
 // What can happen at a process, by its record and those of its children.
 ghost use Rattle.std.specs.Prelude.{◌≡◌, ◌≢◌, ℕ, true, false, Some, slice_get};
-ghost use Rattle.shim_laws_table.specs.Seen.{lives};
+ghost use Rattle.shim_laws_table.specs.NodeStatus.{lives};
 ghost use Rattle.shim_laws_table.specs.Counts.{tally_ready};
-ghost use Rattle.shim_records.specs.Pairs.{tally, AreOrdered};
+ghost use Rattle.shim_records.specs.Pairs.{tally};
 ghost use Rattle.shim_records.specs.declared.record.Status.TheVariants.{Forked};
 ghost use Rattle.shim_laws_table_events.specs.keeping.Tables.{TableView, HasProcessState};
 ghost use Rattle.shim_process_table.specs.Due.{DueIs};
@@ -17,19 +17,19 @@ use shim_records::{Pair, Record, Status, tally_ready};
 #[derive(Clone, Copy, Debug, PartialEq, Eq)]
 pub enum Due {
     Nothing,
-    /// It lives, and stands at a `put`.
+    /// It lives, and is at a `put`.
     Put,
-    /// It lives, and stands at a fork.
+    /// It lives, and is at a fork.
     Fork,
     /// It lives, and throws the exception of this label.
     Throw(u32),
-    /// It lives, and stands trapped: why, and the line.
+    /// It lives, and is trapped: why, and the line.
     Trap(Trap, u32),
     /// It lives, and has nothing left to do.
     Finish,
     /// It has forked, and none of its children goes on.
     Close,
-    /// It lives, and stands at a channel that it declared.
+    /// It lives, and waits at a channel that it declared.
     MeetAlone,
     /// It has forked, and all who share a channel that it declared are there: the place of the channel's pair.
     Meet(usize),
@@ -87,7 +87,6 @@ fn due_below<L: Local>(
     fork: &Record,
     count: u32,
 ) -> Due
-    requires { AreOrdered records.now }
     ensures { (i : ℕ) → slice_get states.now i ≡ Some process.now → slice_get records.now i ≡ Some fork.now → fork.now.status ≡ Forked count → DueIs L.ops (record { states = states.now; records = records.now }) i result }
 {
     if fork.running_children == 0 {

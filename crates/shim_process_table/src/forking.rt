@@ -1,10 +1,10 @@
 // A fork in place.
 ghost use Rattle.std.specs.Prelude.{◌≡◌, ◌≢◌, ◌≤◌, ◌<◌, ◌+◌, ◌++◌, ℕ, true, false, Some, [], ◌∷◌, cond, length, slice_get, vec_len, vec_capacity, IfOk, OnOk, OnErr};
 ghost use Rattle.shim_local.specs.Process.{AtFork};
-ghost use Rattle.shim_laws_table.specs.Seen.{lives, forks};
+ghost use Rattle.shim_laws_table.specs.NodeStatus.{lives, forks};
 ghost use Rattle.shim_laws_table.specs.Agrees.{free, used};
 ghost use Rattle.shim_laws_table.specs.Counts.{tally_ready};
-ghost use Rattle.shim_records.specs.Pairs.{tally, child_status_of, stands_of, AreOrdered};
+ghost use Rattle.shim_records.specs.Pairs.{tally, child_status_of, record_view};
 ghost use Rattle.shim_records.specs.Fresh.{channels};
 ghost use Rattle.shim_records.specs.Blocks.{with_block};
 ghost use Rattle.shim_records.specs.Ways.{most_forks};
@@ -31,7 +31,7 @@ pub enum ForkOutcome {
     Trapped,
 }
 
-/// What the fork of a process comes to: the number of the process, how it stands behind the fork, and its
+/// What the fork of a process comes to: the number of the process, how it is behind the fork, and its
 /// children or a trap.
 #[derive(Drop)]
 pub struct Fork<L> {
@@ -137,7 +137,6 @@ fn ready(alloc: Global, pairs: &[Pair]) -> Result<Vec<Chan>, NoMemory>
 // Updates the counts above the record for each of these channels, of a process that wasn't ready on it and is. The
 // answer is a number of forks beyond which no counts have changed, perhaps more than need be.
 fn update_ready(records: &mut Vec<Record>, at: usize, chans: &[Chan]) -> u32
-    requires { AreOrdered records.old.items }
     ensures ways { EachUpdatedAbove most_forks at (channels chans.now) records.old.items records.new.items }
     ensures touches { ChangesOnlyRecords result at records.old.items records.new.items }
 {
@@ -197,7 +196,7 @@ fn block_for(records: &[Record], hint: Option<u32>, count: u32) -> Result<u32, N
 
 // The process's record says that it forked into so many, of which the first has this number.
 fn note_fork(parent: &mut Record, first: u32, count: u32, pairs: Vec<Pair>)
-    ensures forked { stands_of parent.new ≡ used first (forks count) }
+    ensures forked { record_view parent.new ≡ used first (forks count) }
     ensures parent { parent.new.parent ≡ parent.old.parent }
     ensures path { parent.new.path ≡ parent.old.path }
     ensures running_children { parent.new.running_children ≡ count }
@@ -220,7 +219,6 @@ fn put_fork<L: Local>(
 ) -> Result<PutChildren, NoMemory>
     requires inside { fork.number < vec_len records.old }
     requires beside { length states.old.items ≡ length records.old.items }
-    requires ordered { AreOrdered records.old.items }
     ensures ok { IfOk result (λ put. ForksAt L.ops fork.number put.first fork.parent fork.children.items (record { states = states.old.items; records = records.old.items }) (record { states = states.new.items; records = records.new.items })) }
     ensures fits { IfOk result (λ put. put.first + length fork.children.items ≤ 4294967295) }
     ensures touches { IfOk result (λ put. ChangesOnlyForking put.forks fork.number put.first (length fork.children.items) (record { states = states.old.items; records = records.old.items }) (record { states = states.new.items; records = records.new.items })) }
@@ -250,7 +248,7 @@ fn put_fork<L: Local>(
 }
 
 impl<L: Local> ProcessTable<L> {
-    /// What the fork comes to of the process with this number, which lives and stands at one. Nothing changes
+    /// What the fork comes to of the process with this number, which lives and is at one. Nothing changes
     /// before it is put.
     pub fn fork_of(&self, number: u32) -> Result<Fork<L>, NoMemory>
         requires { LivesAt L.ops self.now number AtFork }
@@ -268,7 +266,7 @@ impl<L: Local> ProcessTable<L> {
     }
 
     /// The process forks so, in place. The answer says how many forks above it have other counts, at most.
-    /// Want of memory changes nothing.
+    /// Running out of memory changes nothing.
     pub fn put_fork(&mut self, alloc: Global, fork: Fork<L>) -> Result<(ForkOutcome, u32), NoMemory>
         requires { ForkComesTo L.ops self.old fork.number fork.parent fork.came }
         ensures ok { IfOk result (λ put. ForksHere L.ops put.1 fork.number self.old self.new put.0) }

@@ -1,7 +1,7 @@
 // Which child of a fork is ready on a channel, and doomed there.
 ghost use Rattle.std.specs.Prelude.{◌≡◌};
 ghost use Rattle.shim_laws_table.specs.Dooms.{is_below};
-ghost use Rattle.shim_records.specs.Pairs.{counts_ready, tally_for, chans_of, IsOrdered, AreOrdered};
+ghost use Rattle.shim_records.specs.Pairs.{counts_ready, tally_for};
 ghost use Rattle.shim_process_table.specs.Due.{ready_at, ReadyAmong, DoomedAmong};
 
 use shim_base::Chan;
@@ -10,7 +10,6 @@ use shim_records::{Pair, Record, Status, is_at_channel, place_in, tally_ready};
 
 // Whether all are there by the counts that a fork has for the channel.
 fn counts_all(fork: &Record, c: &Chan) -> bool
-    requires { IsOrdered (chans_of fork.now.pairs.items) }
     ensures { result ≡ counts_ready (tally_for c.now.channel fork.now.pairs.items) }
 {
     match place_in(fork.pairs.as_slice(), c) {
@@ -21,7 +20,6 @@ fn counts_all(fork: &Record, c: &Chan) -> bool
 
 // Whether the process with this number is ready on the channel.
 fn is_ready<L: Local>(states: &[L], records: &[Record], at: usize, c: &Chan) -> bool
-    requires { AreOrdered records.now }
     ensures { result ≡ ready_at L.ops c.now.channel states.now records.now at }
 {
     if at >= states.len() {
@@ -45,7 +43,6 @@ fn first_ready<L: Local>(
     count: u32,
     c: &Chan,
 ) -> Option<usize>
-    requires { AreOrdered records.now }
     ensures { ReadyAmong L.ops c.now.channel states.now records.now first count result }
 {
     for branch in 0..count {
@@ -77,7 +74,6 @@ pub(crate) fn doomed<L: Local>(
     count: u32,
     pair: &Pair,
 ) -> Option<usize>
-    requires { AreOrdered records.now }
     ensures { DoomedAmong L.ops states.now records.now process.now first count pair.now result }
 {
     if is_low(pair.min_dead_label, process) {

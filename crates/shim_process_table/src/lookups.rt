@@ -1,7 +1,7 @@
 // Readers of one process, by its number. None takes memory.
 ghost use Rattle.std.specs.Prelude.{◌≡◌, ℕ, Some, slice_get, length};
 ghost use Rattle.shim_records.specs.declared.pair.Pair.{Pair as PairOf};
-ghost use Rattle.shim_laws_table.specs.Seen.{forks};
+ghost use Rattle.shim_laws_table.specs.NodeStatus.{forks};
 ghost use Rattle.shim_laws_table_events.specs.keeping.Tables.{HasProcessState};
 ghost use Rattle.shim_process_table.specs.Lookups.{IsInUse, HasForkedAt, ChildrenAre, HasPair, HasPairAt, ParentIs};
 

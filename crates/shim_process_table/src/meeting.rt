@@ -1,7 +1,6 @@
 // A meeting, one process after the other.
 ghost use Rattle.std.specs.Prelude.{ℕ};
-ghost use Rattle.shim_laws_table.specs.Seen.{lives};
-ghost use Rattle.shim_records.specs.Pairs.{AreOrdered};
+ghost use Rattle.shim_laws_table.specs.NodeStatus.{lives};
 ghost use Rattle.shim_records.specs.Ways.{most_forks, NoneReadied};
 ghost use Rattle.shim_laws_table_events.specs.keeping.Tables.{TableView, HasProcessState};
 ghost use Rattle.shim_laws_table_events.specs.meetings.Receiving.{MovesOn};
@@ -19,10 +18,9 @@ use shim_records::{
     Record, is_at_channel, live_child_status, propagate_stop_above, update_counts_above,
 };
 
-// Brings the counts above a process up to date that stood at the channel and stands there no more. No fork
+// Brings the counts above a process up to date that was at the channel and is there no more. No fork
 // becomes ready by that.
 fn leave_channel(c: &Chan, records: &mut Vec<Record>, at: usize)
-    requires { AreOrdered records.old.items }
     ensures leaves { LeavesChannel c.now.channel most_forks at records.old.items records.new.items }
     ensures none { NoneReadied c.now.channel records.old.items records.new.items }
 {
@@ -36,10 +34,9 @@ fn leave_channel(c: &Chan, records: &mut Vec<Record>, at: usize)
     );
 }
 
-// Brings the counts above a process up to date that stood at the channel and has received there. It answers
+// Brings the counts above a process up to date that was at the channel and has received there. It answers
 // where the process has come.
 fn move_on<L: Local>(process: &L, c: &Chan, records: &mut Vec<Record>, at: usize) -> Requeue
-    requires { AreOrdered records.old.items }
     ensures moves { MovesOn L.ops process.now c.now.channel most_forks at records.old.items records.new.items }
     ensures newly_ready { MoveReadies L.ops process.now c.now.channel result.forks at records.old.items records.new.items }
     ensures queue { (v : TableView L) (i f : ℕ) → HasProcessState v i f process.now lives → QueueIs L.ops v i result.queue }
@@ -72,9 +69,9 @@ fn move_on<L: Local>(process: &L, c: &Chan, records: &mut Vec<Record>, at: usize
 }
 
 impl<L: Local> ProcessTable<L> {
-    /// The process with this number receives the value of a meeting of the channel, if it lives and stands at
-    /// it, and the answer says where it has come; `None` where it doesn't, and then nothing changes. It takes
-    /// no memory.
+    /// The process with this number receives the value of a rendezvous of the channel, if it lives and waits
+    /// at it, and the answer says where it has come; `None` where it doesn't, and then nothing changes. It
+    /// takes no memory.
     pub fn receive(&mut self, number: u32, c: &Chan, v: i64) -> Option<Requeue>
         ensures receives { ReceivesOne L.ops c.now.channel v number self.old self.new }
         ensures here { ReceivesHere L.ops c.now.channel v number result self.old self.new }
@@ -88,7 +85,7 @@ impl<L: Local> ProcessTable<L> {
         Some(to_requeue)
     }
 
-    // Whether the process with this number lives and stands at the channel.
+    // Whether the process with this number lives and is at the channel.
     fn waits_at(&self, at: usize, c: &Chan) -> bool
         ensures { WaitsAt L.ops c.now.channel at self.now result }
     {

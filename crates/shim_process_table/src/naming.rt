@@ -12,7 +12,7 @@ use crate::process_table::ProcessTable;
 use shim_base::Chan;
 use shim_local::{Local, Stop};
 
-// The name that the process has for the channel, if it stands at it.
+// The name that the process has for the channel, if it is at it.
 fn name_of<L: Local>(process: &L, c: &Chan) -> Option<u32>
     ensures { result ≡ name_for c.now.channel (next_channel (L.ops.stop process.now)) }
 {
@@ -28,8 +28,8 @@ fn name_of<L: Local>(process: &L, c: &Chan) -> Option<u32>
 }
 
 impl<L: Local> ProcessTable<L> {
-    /// The name that a meeting of the channel brings whose home has this number, if it is the first one: that
-    /// of the first process which stands at the channel, on a walk from the root with leftmost children first.
+    /// The name that a rendezvous of the channel brings whose home has this number, if it is the first one: that of
+    /// the first process which waits at the channel, on a walk from the root with leftmost children first.
     pub fn meeting_name(&self, number: u32, c: &Chan, sharers: &Sharers) -> u32
         requires home { Declares L.ops self.now number c.now.channel }
         requires enabled { IsEnabled L.ops (Meet c.now.channel) self.now }
@@ -39,7 +39,7 @@ impl<L: Local> ProcessTable<L> {
         self.first_name(sharers, c)
     }
 
-    // The name that the first of these has for the channel which lives and stands at it; 0 if there is none.
+    // The name that the first of these has for the channel which lives and is at it; 0 if there is none.
     fn first_name(&self, sharers: &Sharers, c: &Chan) -> u32
         ensures { IsChannelName L.ops self.now c.now.channel sharers.now result }
     {
@@ -52,7 +52,7 @@ impl<L: Local> ProcessTable<L> {
         0
     }
 
-    // The name that the process with this number has for the channel, if it lives and stands at it.
+    // The name that the process with this number has for the channel, if it lives and is at it.
     fn name_by(&self, at: usize, c: &Chan) -> Option<u32>
         ensures { NamesIt L.ops c.now.channel at self.now result }
     {

@@ -1,7 +1,6 @@
 // A live process that has changed, and may have come to a channel.
 ghost use Rattle.std.specs.Prelude.{ℕ};
-ghost use Rattle.shim_laws_table.specs.Seen.{lives};
-ghost use Rattle.shim_records.specs.Pairs.{AreOrdered};
+ghost use Rattle.shim_laws_table.specs.NodeStatus.{lives};
 ghost use Rattle.shim_records.specs.Ways.{most_forks};
 ghost use Rattle.shim_laws_table_events.specs.keeping.Tables.{TableView, HasProcessState};
 ghost use Rattle.shim_laws_table_events.specs.keeping.Propagating.{PropagatesStop};
@@ -20,10 +19,9 @@ pub struct Requeue {
     pub forks: u64,
 }
 
-/// Brings the counts above a live process up to date that has changed, where it stands at a channel now and
-/// stood at none before. It answers where the process has come.
+/// Brings the counts above a live process up to date that has changed, where it waits at a channel now and waited
+/// at none before. It answers where the process has come.
 pub(crate) fn propagate_stop<L: Local>(process: &L, records: &mut Vec<Record>, at: usize) -> Requeue
-    requires { AreOrdered records.old.items }
     ensures propagates { PropagatesStop L.ops process.now most_forks at records.old.items records.new.items }
     ensures newly_ready { StopReadies L.ops process.now result.forks at records.old.items records.new.items }
     ensures queue { (v : TableView L) (i f : ℕ) → HasProcessState v i f process.now lives → QueueIs L.ops v i result.queue }

@@ -1,7 +1,7 @@
 // In which queue a process belongs.
 ghost use Rattle.std.specs.Prelude.{◌≡◌, ℕ};
 ghost use Rattle.shim_local.specs.Process.{AtNext};
-ghost use Rattle.shim_laws_table.specs.Seen.{lives};
+ghost use Rattle.shim_laws_table.specs.NodeStatus.{lives};
 ghost use Rattle.shim_laws_table_events.specs.keeping.Tables.{TableView, HasProcessState};
 ghost use Rattle.shim_process_table.specs.Lookups.{IsInUse};
 ghost use Rattle.shim_process_table.specs.Queue.{QueueIs};
@@ -23,7 +23,7 @@ pub enum Queue {
     Event,
 }
 
-/// Where a live process belongs that stands at the channel.
+/// Where a live process belongs that waits at the channel.
 pub(crate) fn queue_at<L: Local>(process: &L, chan: &Chan) -> Queue
     ensures { (v : TableView L) (i f : ℕ) → HasProcessState v i f process.now lives → L.ops.stop process.now ≡ AtNext chan.now → QueueIs L.ops v i result }
 {

@@ -37,7 +37,7 @@ fn lives_on(status: Status) -> bool
 }
 
 impl<L: Local> ProcessTable<L> {
-    /// The process with this number, which lives and stands before a quiet step, does up to `most` of them in
+    /// The process with this number, which lives and is before a quiet step, does up to `most` of them in
     /// place, and fewer only where it comes to another stop, or memory is wanted. The answer says where it has
     /// come, too.
     pub fn step(&mut self, number: u32, most: u64) -> (Quiet, Requeue)
@@ -54,7 +54,7 @@ impl<L: Local> ProcessTable<L> {
         (quiet, to_requeue)
     }
 
-    /// The process with this number, which lives and stands before a quiet step, did so many of them
+    /// The process with this number, which lives and is before a quiet step, did so many of them
     /// elsewhere as lead to this state. The answer says where it has come. It takes no memory.
     pub fn advance(&mut self, number: u32, last: L) -> Requeue
         requires comes { (taken : ℕ) × QuietlyReaches L.ops self.old number taken last }

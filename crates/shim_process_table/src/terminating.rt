@@ -1,6 +1,5 @@
 // A live process ends or dies.
 ghost use Rattle.std.specs.Prelude.{◌≡◌, ◌≤◌, ◌<◌, length, vec_len};
-ghost use Rattle.shim_records.specs.Pairs.{AreOrdered};
 ghost use Rattle.shim_records.specs.Ways.{most_forks};
 ghost use Rattle.shim_laws_table_events.specs.keeping.Acting.{TakesIn, Terminates};
 ghost use Rattle.shim_process_table.specs.Touching.{ChangesOnlyRecords};
@@ -11,7 +10,6 @@ use shim_records::{Record, Status, count_off, lower_all_labels, update_all_count
 // Takes in the label of a death above the process's record, for each channel that it was given and shares. It
 // answers how many forks took it, at most.
 fn take_label<L: Local>(process: &L, status: Status, records: &mut Vec<Record>, at: usize) -> u32
-    requires ordered { AreOrdered records.old.items }
     requires few { length (L.ops.given process.now) ≤ 18446744073709551615 }
     ensures takes { TakesIn L.ops process.now status most_forks at records.old.items records.new.items }
     ensures touches { ChangesOnlyRecords result at records.old.items records.new.items }
@@ -34,7 +32,6 @@ pub(crate) fn terminate<L: Local>(
     at: usize,
 ) -> u32
     requires within { at < vec_len records.old }
-    requires ordered { AreOrdered records.old.items }
     requires few { length (L.ops.given process.now) ≤ 18446744073709551615 }
     ensures leaves { Terminates L.ops process.now status most_forks at records.old.items records.new.items }
     ensures touches { ChangesOnlyRecords result at records.old.items records.new.items }

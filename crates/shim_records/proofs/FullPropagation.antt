@@ -15,7 +15,7 @@ abbrev parent_of : Option UncountedRecord → Option ℕ
 parent_of None = None
 parent_of (Some r) = r.parent
 
--- who has which parent is told by what records say beside their pairs
+-- who has which parent follows from what records say beside their pairs
 up_of_rest : (rs : List Record) (i : ℕ) → parent_of (slice_get (map rest_of rs) i) ≡ up_in rs i
 up_of_rest [] i = refl
 up_of_rest (r ∷ rs) zero = refl
@@ -65,7 +65,7 @@ module _ (c : Channel) (n x : ℕ) (was is : ChildStatus) (start now : List Reco
       let none : n - walked ≡ 0 = omega (arith, past) in
       (on.0 (counts_in c now) (subst (λ k. Goes (up_in start) k (counts_in c now) here (counts_in c now)) (sym none) (too_far (counts_in c now) here.at (child_status_of here.was) (child_status_of here.is))), on.1)
 
--- at first nothing is walked
+-- at first nothing is updated
 pub begun : (c : Channel) (n x : ℕ) (was is : ChildStatus) (start : List Record) → OnIt c n x was is start start (record { at = x; was = was; is = is }) 0 (n - 0) start (record { at = x; was = was; is = is })
 begun c n x was is start =
     let all : n - 0 ≡ n = omega arith in

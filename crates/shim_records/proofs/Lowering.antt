@@ -93,7 +93,7 @@ same_labels c rs j was is now h same = λ t k. each k t
       | inr w ↦ h.others k w
     ]
 
-module _ (c : Channel) (rs : List Record) (j i : ℕ) (r : Record) (p q : Pair) (stood : slice_get rs j ≡ Some r) (place : pair_index c r.pairs.items ≡ Some i) (is_p : p ≡ get_or r.pairs.items i p)
+module _ (c : Channel) (rs : List Record) (j i : ℕ) (r : Record) (p q : Pair) (record_before : slice_get rs j ≡ Some r) (place : pair_index c r.pairs.items ≡ Some i) (is_p : p ≡ get_or r.pairs.items i p)
     (chan : q.chan ≡ p.chan) (sharing : q.sharing ≡ p.sharing) (says : tally q ≡ tally p) where
   abbrev new : Record
   new = with_pair r i q
@@ -104,8 +104,8 @@ module _ (c : Channel) (rs : List Record) (j i : ℕ) (r : Record) (p q : Pair) 
   put : Put c r.pairs.items i p q
   put = put_there c r.pairs.items i p q place is_p chan says
 
-  stands : slice_get now j ≡ Some new
-  stands = set_there rs j r new stood
+  record_now : slice_get now j ≡ Some new
+  record_now = set_there rs j r new record_before
 
   -- the channels of its pairs are as before
   same_chans : chans_of (slice_set r.pairs.items i q) ≡ chans_of r.pairs.items
@@ -120,18 +120,18 @@ module _ (c : Channel) (rs : List Record) (j i : ℕ) (r : Record) (p q : Pair) 
 
   pub relabelled : Relabelled c rs j p.min_dead_label q.min_dead_label now
   relabelled = record {
-    counted = λ e. none_some (tally p) (sym e ∙ (ap (counts_at c) stood ∙ ap (option_map tally) put.found));
-    label_was = ap (min_label_at c) stood ∙ ap min_label_of put.found;
-    label_is = ap (min_label_at c) stands ∙ ap min_label_of put.finds;
+    counted = λ e. none_some (tally p) (sym e ∙ (ap (counts_at c) record_before ∙ ap (option_map tally) put.found));
+    label_was = ap (min_label_at c) record_before ∙ ap min_label_of put.found;
+    label_is = ap (min_label_at c) record_now ∙ ap min_label_of put.finds;
     others = λ k far. ap (min_label_at c) (set_elsewhere rs j k new far);
     only = record {
-      rest = map_set rest_of rs j r new stood (rest_with r (chans_of (slice_set r.pairs.items i q)) (known_of (slice_set r.pairs.items i q)) same_chans same_known);
+      rest = map_set rest_of rs j r new record_before (rest_with r (chans_of (slice_set r.pairs.items i q)) (known_of (slice_set r.pairs.items i q)) same_chans same_known);
       counts = λ d k. elim (same_or_not k j) [
-        | inl w ↦ ap (λ z. counts_at d (slice_get now z)) w ∙ (ap (counts_at d) stands ∙ (put.counts d ∙ (sym (ap (counts_at d) stood) ∙ sym (ap (λ z. counts_at d (slice_get rs z)) w))))
+        | inl w ↦ ap (λ z. counts_at d (slice_get now z)) w ∙ (ap (counts_at d) record_now ∙ (put.counts d ∙ (sym (ap (counts_at d) record_before) ∙ sym (ap (λ z. counts_at d (slice_get rs z)) w))))
         | inr w ↦ ap (counts_at d) (set_elsewhere rs j k new w)
       ];
       elsewhere = λ d far k. elim (same_or_not k j) [
-        | inl w ↦ ap (λ z. min_label_at d (slice_get now z)) w ∙ (ap (min_label_at d) stands ∙ (ap min_label_of (put.elsewhere d far) ∙ (sym (ap (min_label_at d) stood) ∙ sym (ap (λ z. min_label_at d (slice_get rs z)) w))))
+        | inl w ↦ ap (λ z. min_label_at d (slice_get now z)) w ∙ (ap (min_label_at d) record_now ∙ (ap min_label_of (put.elsewhere d far) ∙ (sym (ap (min_label_at d) record_before) ∙ sym (ap (λ z. min_label_at d (slice_get rs z)) w))))
         | inr w ↦ ap (min_label_at d) (set_elsewhere rs j k new w)
       ];
     };

@@ -13,11 +13,11 @@ use Rattle.shim_laws_table.specs.Updating.{UpdatedAbove}
 use Rattle.shim_laws_table.proofs.Brought.{counts_follow}
 use Rattle.shim_laws_table.proofs.Suffices.{given_suffice}
 use Rattle.shim_records.specs.Members.{IsAmong}
-use Rattle.shim_records.specs.Pairs.{child_status_of, counts_in, up_in, rest_of, stands_of}
+use Rattle.shim_records.specs.Pairs.{child_status_of, counts_in, up_in, rest_of, record_view}
 use Rattle.shim_records.specs.UpdatesAbove.{AllUpdatedAbove, none_left, one_more, UpdatesGiveCounts}
 use Rattle.shim_records.specs.declared.record.Record.{Record}
 use Rattle.shim_records.proofs.FullPropagation.{rest_ups}
-use Rattle.shim_records.proofs.ReadOff.{same_stands}
+use Rattle.shim_records.proofs.ReadOff.{same_views}
 
 -- another channel than the first is among those behind it
 pub among_rest : (c d : Channel) (cs : List Channel) → same_channel d c ≡ false → IsAmong c (d ∷ cs) → IsAmong c cs
@@ -88,18 +88,18 @@ updates_give_counts {S} o law rp states rs behind old new m a n x f s k cs sound
     rest = rest_same (λ z. child_status o z m) (λ z. child_status o z a.node) n x updated
 
     Both : List RecordView → Channel → (ℕ → Option Tally) → Type 0
-    Both stands c counts = Tallied o rp states stands c counts new × HaveCounts o rp states stands c counts new
+    Both views c counts = Tallied o rp states views c counts new × HaveCounts o rp states views c counts new
 
-    brought : (c : Channel) → Both (map stands_of rs) c (counts_in c behind)
+    brought : (c : Channel) → Both (map record_view rs) c (counts_in c behind)
     brought c = elim (among_or_not c cs) [
       | inl g ↦
-          (counts_follow o law).updated rp states (map stands_of rs) (up_in rs) c old new m a.node 4294967295 n x f s k (child_status o c m) (child_status o c a.node) (counts_in c rs) (counts_in c behind)
+          (counts_follow o law).updated rp states (map record_view rs) (up_in rs) c old new m a.node 4294967295 n x f s k (child_status o c m) (child_status o c a.node) (counts_in c rs) (counts_in c behind)
           shown linked few has rep refl refl far (share c g) (have c) (way c) (its_way (λ z. child_status o z m) (λ z. child_status o z a.node) n x c updated g).updated
-      | inr out ↦ subst (Both (map stands_of rs) c) (sym (others (λ z. child_status o z m) (λ z. child_status o z a.node) n x c updated out)) (
-        (given_suffice o law).counts rp states (map stands_of rs) c old new m a x f s k (counts_in c rs) sound shown has rep acts (λ given shares. out (all c given shares)) (have c) (way c),
+      | inr out ↦ subst (Both (map record_view rs) c) (sym (others (λ z. child_status o z m) (λ z. child_status o z a.node) n x c updated out)) (
+        (given_suffice o law).counts rp states (map record_view rs) c old new m a x f s k (counts_in c rs) sound shown has rep acts (λ given shares. out (all c given shares)) (have c) (way c),
         have c,
       )
     ]
 
-    each : (c : Channel) → Both (map stands_of behind) c (counts_in c behind)
-    each c = subst (λ z. Both z c (counts_in c behind)) (sym (same_stands rs behind rest)) (brought c)
+    each : (c : Channel) → Both (map record_view behind) c (counts_in c behind)
+    each c = subst (λ z. Both z c (counts_in c behind)) (sym (same_views rs behind rest)) (brought c)

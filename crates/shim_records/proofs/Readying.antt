@@ -72,7 +72,7 @@ module _ (c : Channel) (x : ℕ) (start : List Record) where
     walked_to : (i : ℕ) → up_in start here.at ≡ Some i → IsAbove (up_in start) (walked + 1) x i
     walked_to i e = subst (λ n. IsAbove (up_in start) n x i) one_more (led.next i e)
 
-    -- Where more forks were walked than may be, all are to be looked at again.
+    -- Where more forks were updated than may be, all are to be looked at again.
     pub all_again : (most : ℕ) → walked ≤ most → most ≤ walked → ReadiesWithin c (most + 1) x start now
     all_again most less more = record {
       counts = λ i out ready. so.counts i (λ w. out (among_more (up_in start) (most + 1) (few_enough so.few less) w)) ready;

@@ -11,12 +11,12 @@ use Rattle.shim_base.specs.Paths.{Path, Channel}
 use Rattle.shim_local.specs.Process.{Ops}
 use Rattle.shim_semantics.specs.Nodes.{Node, all_live, states}
 use Rattle.shim_base.proofs.Facts.{some_same, none_some}
-use Rattle.shim_laws_table.specs.Seen.{ProcessStatus, lives, forks, place}
+use Rattle.shim_laws_table.specs.NodeStatus.{ProcessStatus, lives, forks, place}
 use Rattle.shim_laws_table.specs.Agrees.{RecordView, free, used, Has, Agrees}
 use Rattle.shim_laws_table.specs.Changes.{HasForked, HasClosed}
 use Rattle.shim_laws_table.proofs.SameTrees.{same_or_not}
 use Rattle.shim_laws_table.proofs.Forking.{there_is, no_shorter}
-use Rattle.shim_records.specs.Pairs.{stands_of}
+use Rattle.shim_records.specs.Pairs.{record_view}
 use Rattle.shim_records.specs.Blocks.{with_one, with_block}
 use Rattle.shim_records.specs.Representing.{BlocksAreEvents, ForkInitialCounts}
 use Rattle.shim_records.proofs.Stepping.{set_there, set_elsewhere}
@@ -111,79 +111,79 @@ within g (suc n) j = elim (same_or_not j (g + n)) [
         between (suc b) zero u w = absurd (omega (arith, w))
         between (suc b) (suc n) u w = let v = between b n (λ z. u (ap suc z)) (omega (arith, w)) in omega (arith, v)
 
-used_sort : (f g : ℕ) (k h : ProcessStatus) → Some (used f k) ≡ Some (used g h) → k ≡ h
-used_sort f g k h e = cc
+used_status : (f g : ℕ) (k h : ProcessStatus) → Some (used f k) ≡ Some (used g h) → k ≡ h
+used_status f g k h e = cc
 
 free_used : {B : Type 0} (f : ℕ) (k : ProcessStatus) → free ≡ used f k → B
 free_used f k e = absurd cc
 
-module _ {S : Type 0} (states : List S) (stood births : List RecordView) (i f g : ℕ) (l p : S) (ks : List S) (long : length states ≡ length stood) (fits : g ≤ length stood) (as_long : length births ≡ length ks)
-    (live : (b : ℕ) (x : RecordView) → slice_get births b ≡ Some x → (d : ℕ) × (x ≡ used d lives)) (has : Has states stood i f l lives) (clear : (b d : ℕ) (t : S) (x : ProcessStatus) → b < length ks → Has states stood (g + b) d t x → ⊥) where
+module _ {S : Type 0} (states : List S) (old_views child_views : List RecordView) (i f g : ℕ) (l p : S) (ks : List S) (long : length states ≡ length old_views) (fits : g ≤ length old_views) (as_long : length child_views ≡ length ks)
+    (live : (b : ℕ) (x : RecordView) → slice_get child_views b ≡ Some x → (d : ℕ) × (x ≡ used d lives)) (has : Has states old_views i f l lives) (clear : (b d : ℕ) (t : S) (x : ProcessStatus) → b < length ks → Has states old_views (g + b) d t x → ⊥) where
   abbrev states' : List S
   states' = with_block g ks (slice_set states i p)
 
-  abbrev stands' : List RecordView
-  stands' = with_block g births (slice_set stood i (used g (forks (length ks))))
+  abbrev views' : List RecordView
+  views' = with_block g child_views (slice_set old_views i (used g (forks (length ks))))
 
   fits_states : g ≤ length (slice_set states i p)
   fits_states = let a = length-set states i p in omega (arith, a, long, fits)
 
-  fits_stands : g ≤ length (slice_set stood i (used g (forks (length ks))))
-  fits_stands = let a = length-set stood i (used g (forks (length ks))) in omega (arith, a, fits)
+  fits_views : g ≤ length (slice_set old_views i (used g (forks (length ks))))
+  fits_views = let a = length-set old_views i (used g (forks (length ks))) in omega (arith, a, fits)
 
-  outside : (j : ℕ) → ((b : ℕ) → b < length ks → j ≢ g + b) → (slice_get states' j ≡ slice_get (slice_set states i p) j) × (slice_get stands' j ≡ slice_get (slice_set stood i (used g (forks (length ks)))) j)
+  outside : (j : ℕ) → ((b : ℕ) → b < length ks → j ≢ g + b) → (slice_get states' j ≡ slice_get (slice_set states i p) j) × (slice_get views' j ≡ slice_get (slice_set old_views i (used g (forks (length ks)))) j)
   outside j far = (
     block_out g ks (slice_set states i p) j fits_states far,
-    block_out g births (slice_set stood i (used g (forks (length ks)))) j fits_stands (λ b less. far b (omega (arith, less, as_long))),
+    block_out g child_views (slice_set old_views i (used g (forks (length ks)))) j fits_views (λ b less. far b (omega (arith, less, as_long))),
   )
 
-  used_far : (j d : ℕ) (t : S) (x : ProcessStatus) → Has states stood j d t x → (b : ℕ) → b < length ks → j ≢ g + b
-  used_far j d t x h b less e = clear b d t x less (record { state_is = ap (slice_get states) (sym e) ∙ h.state_is; stands_so = ap (slice_get stood) (sym e) ∙ h.stands_so })
+  used_far : (j d : ℕ) (t : S) (x : ProcessStatus) → Has states old_views j d t x → (b : ℕ) → b < length ks → j ≢ g + b
+  used_far j d t x h b less e = clear b d t x less (record { state_is = ap (slice_get states) (sym e) ∙ h.state_is; view_is = ap (slice_get old_views) (sym e) ∙ h.view_is })
 
-  pub has_forked : HasForked states states' stood stands' i g p ks
+  pub has_forked : HasForked states states' old_views views' i g p ks
   has_forked = record {
     parent = let w = outside i (used_far i f l lives has) in record {
       state_is = w.0 ∙ set_there states i l p has.state_is;
-      stands_so = w.1 ∙ set_there stood i (used f lives) (used g (forks (length ks))) has.stands_so;
+      view_is = w.1 ∙ set_there old_views i (used f lives) (used g (forks (length ks))) has.view_is;
     };
     born = λ b k e.
         let less = slice_get_within ks b k e in
-        let y = there_is births b (omega (arith, less, as_long)) in
+        let y = there_is child_views b (omega (arith, less, as_long)) in
         let d = live b y.0 y.1 in
-        (d.0, record { state_is = block_in g ks (slice_set states i p) b k fits_states e; stands_so = block_in g births _ b y.0 fits_stands y.1 ∙ ap Some d.1 });
+        (d.0, record { state_is = block_in g ks (slice_set states i p) b k fits_states e; view_is = block_in g child_views _ b y.0 fits_views y.1 ∙ ap Some d.1 });
     others = λ j d t x other h. let w = outside j (used_far j d t x h) in record {
       state_is = w.0 ∙ (set_elsewhere states i j p other ∙ h.state_is);
-      stands_so = w.1 ∙ (set_elsewhere stood i j (used g (forks (length ks))) other ∙ h.stands_so);
+      view_is = w.1 ∙ (set_elsewhere old_views i j (used g (forks (length ks))) other ∙ h.view_is);
     };
     only = λ j d t x h. elim (within g (length ks) j) [
       | inl w ↦
           let less = w.1 in
           let k = there_is ks w.0 w.1 in
-          let y = there_is births w.0 (omega (arith, less, as_long)) in
+          let y = there_is child_views w.0 (omega (arith, less, as_long)) in
           let at_state : slice_get states' j ≡ Some k.0 = ap (slice_get states') w.2 ∙ block_in g ks (slice_set states i p) w.0 k.0 fits_states k.1 in
-          let at_stand : slice_get stands' j ≡ Some y.0 = ap (slice_get stands') w.2 ∙ block_in g births _ w.0 y.0 fits_stands y.1 in
+          let at_view : slice_get views' j ≡ Some y.0 = ap (slice_get views') w.2 ∙ block_in g child_views _ w.0 y.0 fits_views y.1 in
           let z = live w.0 y.0 y.1 in
-          inr (inl (w.0, k.1 ∙ (sym at_state ∙ h.state_is), w.2, used_sort d z.0 x lives (sym h.stands_so ∙ (at_stand ∙ ap Some z.1))))
+          inr (inl (w.0, k.1 ∙ (sym at_state ∙ h.state_is), w.2, used_status d z.0 x lives (sym h.view_is ∙ (at_view ∙ ap Some z.1))))
       | inr far ↦ elim (same_or_not j i) [
         | inl w ↦
             let at = outside j far in
             let its_state : t ≡ p = some_same t p (sym h.state_is ∙ (at.0 ∙ (ap (slice_get (slice_set states i p)) w ∙ set_there states i l p has.state_is))) in
-            inl (w, its_state, used_sort d g x (forks (length ks)) (sym h.stands_so ∙ (at.1 ∙ (ap (slice_get (slice_set stood i (used g (forks (length ks))))) w ∙ set_there stood i (used f lives) (used g (forks (length ks))) has.stands_so))))
+            inl (w, its_state, used_status d g x (forks (length ks)) (sym h.view_is ∙ (at.1 ∙ (ap (slice_get (slice_set old_views i (used g (forks (length ks))))) w ∙ set_there old_views i (used f lives) (used g (forks (length ks))) has.view_is))))
         | inr w ↦
             let at = outside j far in
             inr (inr (
               w,
               record {
                 state_is = sym (set_elsewhere states i j p w) ∙ (sym at.0 ∙ h.state_is);
-                stands_so = sym (set_elsewhere stood i j (used g (forks (length ks))) w) ∙ (sym at.1 ∙ h.stands_so);
+                view_is = sym (set_elsewhere old_views i j (used g (forks (length ks))) w) ∙ (sym at.1 ∙ h.view_is);
               },
             ))
       ]
     ];
   }
 
-module _ {S : Type 0} (o : Ops S) (rp : Path) (states : List S) (stood freed : List RecordView) (root : Node S) (i g n f : ℕ) (l s : S) (k : ProcessStatus) (ok : Agrees o rp states stood root) (has : Has states stood i g l (forks n))
-    (inside : (b : ℕ) (x : RecordView) → b < n → slice_get freed (g + b) ≡ Some x → x ≡ free) (outside : (j : ℕ) → ((b : ℕ) → b < n → j ≢ g + b) → slice_get freed j ≡ slice_get stood j) where
+module _ {S : Type 0} (o : Ops S) (rp : Path) (states : List S) (old_views freed : List RecordView) (root : Node S) (i g n f : ℕ) (l s : S) (k : ProcessStatus) (ok : Agrees o rp states old_views root) (has : Has states old_views i g l (forks n))
+    (inside : (b : ℕ) (x : RecordView) → b < n → slice_get freed (g + b) ≡ Some x → x ≡ free) (outside : (j : ℕ) → ((b : ℕ) → b < n → j ≢ g + b) → slice_get freed j ≡ slice_get old_views j) where
   -- the fork's own record is none of its children's
   apart : (b : ℕ) → b < n → i ≢ g + b
   apart b less e =
@@ -191,27 +191,27 @@ module _ {S : Type 0} (o : Ops S) (rp : Path) (states : List S) (stood freed : L
       let same : l ≡ z.1 = some_same l z.1 (sym has.state_is ∙ (ap (slice_get states) e ∙ z.3.state_is)) in
       no_shorter (place o rp l) b (ap (place o rp) same ∙ z.4)
 
-  its_stand : slice_get (slice_set freed i (used f k)) i ≡ Some (used f k)
-  its_stand = set_there freed i (used g (forks n)) (used f k) (outside i apart ∙ has.stands_so)
+  its_view : slice_get (slice_set freed i (used f k)) i ≡ Some (used f k)
+  its_view = set_there freed i (used g (forks n)) (used f k) (outside i apart ∙ has.view_is)
 
-  pub has_closed : HasClosed states (slice_set states i s) stood (slice_set freed i (used f k)) i g n s k
+  pub has_closed : HasClosed states (slice_set states i s) old_views (slice_set freed i (used f k)) i g n s k
   has_closed = record {
     first = f;
-    parent = record { state_is = set_there states i l s has.state_is; stands_so = its_stand };
+    parent = record { state_is = set_there states i l s has.state_is; view_is = its_view };
     others = λ j d t x other far h. record {
       state_is = set_elsewhere states i j s other ∙ h.state_is;
-      stands_so = set_elsewhere freed i j (used f k) other ∙ (outside j far ∙ h.stands_so);
+      view_is = set_elsewhere freed i j (used f k) other ∙ (outside j far ∙ h.view_is);
     };
     only = λ j d t x h. elim (same_or_not j i) [
       | inl w ↦ inl (
         w,
         some_same t s (sym h.state_is ∙ (ap (slice_get (slice_set states i s)) w ∙ set_there states i l s has.state_is)),
-        used_sort d f x k (sym h.stands_so ∙ (ap (slice_get (slice_set freed i (used f k))) w ∙ its_stand)),
+        used_status d f x k (sym h.view_is ∙ (ap (slice_get (slice_set freed i (used f k))) w ∙ its_view)),
       )
       | inr w ↦
-          let stands : slice_get freed j ≡ Some (used d x) = sym (set_elsewhere freed i j (used f k) w) ∙ h.stands_so in
-          let far : (b : ℕ) → b < n → j ≢ g + b = λ b less e. free_used d x (sym (inside b (used d x) less (ap (slice_get freed) (sym e) ∙ stands))) in
-          inr (w, far, record { state_is = sym (set_elsewhere states i j s w) ∙ h.state_is; stands_so = sym (outside j far) ∙ stands })
+          let view_now : slice_get freed j ≡ Some (used d x) = sym (set_elsewhere freed i j (used f k) w) ∙ h.view_is in
+          let far : (b : ℕ) → b < n → j ≢ g + b = λ b less e. free_used d x (sym (inside b (used d x) less (ap (slice_get freed) (sym e) ∙ view_now))) in
+          inr (w, far, record { state_is = sym (set_elsewhere states i j s w) ∙ h.state_is; view_is = sym (outside j far) ∙ view_now })
     ];
   }
 
@@ -223,19 +223,19 @@ module _ {S : Type 0} (o : Ops S) where
   pub blocks_are_events : BlocksAreEvents o
   blocks_are_events = record {
     fork = λ states rs born i f g l p ks r long fits as_long live has clear says.
-        let a = map_long stands_of rs in
-        let b = map_long stands_of born in
-        let is : map stands_of (with_block g born (slice_set rs i r)) ≡ with_block g (map stands_of born) (slice_set (map stands_of rs) i (used g (forks (length ks)))) =
-        map_block stands_of g born (slice_set rs i r) ∙ (ap (with_block g (map stands_of born)) (map_slice_set stands_of rs i r) ∙ ap (λ z. with_block g (map stands_of born) (slice_set (map stands_of rs) i z)) says) in
-        subst (λ z. HasForked states (with_block g ks (slice_set states i p)) (map stands_of rs) z i g p ks) (sym is)
-        (has_forked states (map stands_of rs) (map stands_of born) i f g l p ks (omega (arith, a, long)) (omega (arith, a, fits)) (omega (arith, b, as_long))
-        (λ d x e. let w = map_some stands_of (slice_get born d) x (sym (map_get stands_of born d) ∙ e) in let y = live d w.0 w.1 in (y.0, sym w.2 ∙ y.1)) has clear);
+        let a = map_long record_view rs in
+        let b = map_long record_view born in
+        let is : map record_view (with_block g born (slice_set rs i r)) ≡ with_block g (map record_view born) (slice_set (map record_view rs) i (used g (forks (length ks)))) =
+        map_block record_view g born (slice_set rs i r) ∙ (ap (with_block g (map record_view born)) (map_slice_set record_view rs i r) ∙ ap (λ z. with_block g (map record_view born) (slice_set (map record_view rs) i z)) says) in
+        subst (λ z. HasForked states (with_block g ks (slice_set states i p)) (map record_view rs) z i g p ks) (sym is)
+        (has_forked states (map record_view rs) (map record_view born) i f g l p ks (omega (arith, a, long)) (omega (arith, a, fits)) (omega (arith, b, as_long))
+        (λ d x e. let w = map_some record_view (slice_get born d) x (sym (map_get record_view born d) ∙ e) in let y = live d w.0 w.1 in (y.0, sym w.2 ∙ y.1)) has clear);
     close = λ rp states rs ss root i g n f l s k r ok has freed says.
-        let is : map stands_of (slice_set ss i r) ≡ slice_set (map stands_of ss) i (used f k) = map_slice_set stands_of ss i r ∙ ap (slice_set (map stands_of ss) i) says in
-        subst (λ z. HasClosed states (slice_set states i s) (map stands_of rs) z i g n s k) (sym is)
-        (has_closed o rp states (map stands_of rs) (map stands_of ss) root i g n f l s k ok has
-        (λ b x less e. let w = map_some stands_of (slice_get ss (g + b)) x (sym (map_get stands_of ss (g + b)) ∙ e) in sym w.2 ∙ freed.inside b w.0 less w.1)
-        (λ j far. map_get stands_of ss j ∙ (ap (option_map stands_of) (freed.outside j far) ∙ sym (map_get stands_of rs j))));
+        let is : map record_view (slice_set ss i r) ≡ slice_set (map record_view ss) i (used f k) = map_slice_set record_view ss i r ∙ ap (slice_set (map record_view ss) i) says in
+        subst (λ z. HasClosed states (slice_set states i s) (map record_view rs) z i g n s k) (sym is)
+        (has_closed o rp states (map record_view rs) (map record_view ss) root i g n f l s k ok has
+        (λ b x less e. let w = map_some record_view (slice_get ss (g + b)) x (sym (map_get record_view ss (g + b)) ∙ e) in sym w.2 ∙ freed.inside b w.0 less w.1)
+        (λ j far. map_get record_view ss j ∙ (ap (option_map record_view) (freed.outside j far) ∙ sym (map_get record_view rs j))));
   }
 
 -- ---- a new fork's pairs

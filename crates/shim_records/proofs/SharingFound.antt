@@ -130,29 +130,29 @@ pair_known c (x ∷ ps) p e = on (same_channel x.chan.channel c) e (pair_known c
 abbrev pub knowledge : Record → List KnownPair
 knowledge r = known_of r.pairs.items
 
-abbrev told_by : Channel → Option (List KnownPair) → Option Sharing
-told_by c None = None
-told_by c (Some ps) = known_for c ps
+abbrev sharing_in : Channel → Option (List KnownPair) → Option Sharing
+sharing_in c None = None
+sharing_in c (Some ps) = known_for c ps
 
-known_told : (c : Channel) (x : Option Record) → known_at c x ≡ told_by c (option_map knowledge x)
-known_told c None = refl
-known_told c (Some r) = refl
+known_of_record : (c : Channel) (x : Option Record) → known_at c x ≡ sharing_in c (option_map knowledge x)
+known_of_record c None = refl
+known_of_record c (Some r) = refl
 
 -- records whose pairs know the same
 pub same_known_at : (c : Channel) (x y : Option Record) → option_map knowledge x ≡ option_map knowledge y → known_at c x ≡ known_at c y
-same_known_at c x y e = known_told c x ∙ (ap (told_by c) e ∙ sym (known_told c y))
+same_known_at c x y e = known_of_record c x ∙ (ap (sharing_in c) e ∙ sym (known_of_record c y))
 
 pub same_known : (before behind : List Record) → map knowledge behind ≡ map knowledge before → (c : Channel) (i : ℕ) → known_in c behind i ≡ known_in c before i
 same_known before behind h c i = same_known_at c (slice_get behind i) (slice_get before i) (sym (map_get knowledge behind i) ∙ (ap (λ z. slice_get z i) h ∙ map_get knowledge before i))
 
-abbrev rest_tells : Channel → Option UncountedRecord → Option Sharing
-rest_tells c None = None
-rest_tells c (Some z) = known_for c z.known
+abbrev sharing_of_rest : Channel → Option UncountedRecord → Option Sharing
+sharing_of_rest c None = None
+sharing_of_rest c (Some z) = known_for c z.known
 
-known_rest : (c : Channel) (x : Option Record) → known_at c x ≡ rest_tells c (option_map rest_of x)
+known_rest : (c : Channel) (x : Option Record) → known_at c x ≡ sharing_of_rest c (option_map rest_of x)
 known_rest c None = refl
 known_rest c (Some r) = refl
 
 -- records that say the same beside their counts know the same
 pub rest_known : (before behind : List Record) → map rest_of behind ≡ map rest_of before → (c : Channel) (i : ℕ) → known_in c behind i ≡ known_in c before i
-rest_known before behind h c i = known_rest c (slice_get behind i) ∙ (ap (rest_tells c) (sym (map_get rest_of behind i) ∙ (ap (λ z. slice_get z i) h ∙ map_get rest_of before i)) ∙ sym (known_rest c (slice_get before i)))
+rest_known before behind h c i = known_rest c (slice_get behind i) ∙ (ap (sharing_of_rest c) (sym (map_get rest_of behind i) ∙ (ap (λ z. slice_get z i) h ∙ map_get rest_of before i)) ∙ sym (known_rest c (slice_get before i)))

@@ -116,7 +116,7 @@ module _ (c : Channel) (rs : List Record) (here : CountChange) where
   pub up_is : (r : Record) (j : Option ℕ) → slice_get rs here.at ≡ Some r → r.parent ≡ j → up_in rs here.at ≡ j
   up_is r j e f = ap up_at e ∙ f
 
-  module _ (j i : ℕ) (r : Record) (p q : Pair) (up : up_in rs here.at ≡ Some j) (stood : slice_get rs j ≡ Some r) (place : pair_index c r.pairs.items ≡ Some i) (is_p : p ≡ get_or r.pairs.items i p)
+  module _ (j i : ℕ) (r : Record) (p q : Pair) (up : up_in rs here.at ≡ Some j) (record_before : slice_get rs j ≡ Some r) (place : pair_index c r.pairs.items ≡ Some i) (is_p : p ≡ get_or r.pairs.items i p)
       (chan : q.chan ≡ p.chan) (sharing : q.sharing ≡ p.sharing) (label : q.min_dead_label ≡ p.min_dead_label)
       (moved : CanMove 4294967295 (child_status_of here.was) (child_status_of here.is) (tally p) → IsExchanged (child_status_of here.was) (child_status_of here.is) (tally p) (tally q)) where
     abbrev new : Record
@@ -128,13 +128,13 @@ module _ (c : Channel) (rs : List Record) (here : CountChange) where
     put : Put c r.pairs.items i p q
     put = put_there c r.pairs.items i p q place is_p chan label
 
-    stands : slice_get now j ≡ Some new
-    stands = set_there rs j r new stood
+    record_now : slice_get now j ≡ Some new
+    record_now = set_there rs j r new record_before
 
     are_moved : AreMoved 4294967295 (counts_in c rs) j (child_status_of here.was) (child_status_of here.is) (tally p) (tally q) (counts_in c now)
     are_moved = record {
-      old = ap (counts_at c) stood ∙ ap (option_map tally) put.found;
-      new = ap (counts_at c) stands ∙ ap (option_map tally) put.finds;
+      old = ap (counts_at c) record_before ∙ ap (option_map tally) put.found;
+      new = ap (counts_at c) record_now ∙ ap (option_map tally) put.finds;
       moved = moved;
       others = λ k far. ap (counts_at c) (set_elsewhere rs j k new far);
     }
@@ -152,13 +152,13 @@ module _ (c : Channel) (rs : List Record) (here : CountChange) where
 
     only : OnlyCounts c rs now
     only = record {
-      rest = map_set rest_of rs j r new stood (rest_with r (chans_of (slice_set r.pairs.items i q)) (known_of (slice_set r.pairs.items i q)) same_chans same_known);
+      rest = map_set rest_of rs j r new record_before (rest_with r (chans_of (slice_set r.pairs.items i q)) (known_of (slice_set r.pairs.items i q)) same_chans same_known);
       elsewhere = λ d far k. elim (same_or_not k j) [
-        | inl w ↦ ap (λ z. counts_at d (slice_get now z)) w ∙ (ap (counts_at d) stands ∙ (ap (option_map tally) (put.elsewhere d far) ∙ (sym (ap (counts_at d) stood) ∙ sym (ap (λ z. counts_at d (slice_get rs z)) w))))
+        | inl w ↦ ap (λ z. counts_at d (slice_get now z)) w ∙ (ap (counts_at d) record_now ∙ (ap (option_map tally) (put.elsewhere d far) ∙ (sym (ap (counts_at d) record_before) ∙ sym (ap (λ z. counts_at d (slice_get rs z)) w))))
         | inr w ↦ ap (counts_at d) (set_elsewhere rs j k new w)
       ];
       labels = λ d k. elim (same_or_not k j) [
-        | inl w ↦ ap (λ z. min_label_at d (slice_get now z)) w ∙ (ap (min_label_at d) stands ∙ (put.labels d ∙ (sym (ap (min_label_at d) stood) ∙ sym (ap (λ z. min_label_at d (slice_get rs z)) w))))
+        | inl w ↦ ap (λ z. min_label_at d (slice_get now z)) w ∙ (ap (min_label_at d) record_now ∙ (put.labels d ∙ (sym (ap (min_label_at d) record_before) ∙ sym (ap (λ z. min_label_at d (slice_get rs z)) w))))
         | inr w ↦ ap (min_label_at d) (set_elsewhere rs j k new w)
       ];
     }
@@ -182,7 +182,7 @@ module _ (c : Channel) (rs : List Record) (here : CountChange) where
       ready_then i e = ap (λ z. counts_ready (counts_in c rs z)) (its_place i e) ∙ ap counts_ready are_moved.old
 
       label_then : (i : ℕ) → up_in rs here.at ≡ Some i → min_labels_in c rs i ≡ q.min_dead_label
-      label_then i e = ap (min_labels_in c rs) (its_place i e) ∙ (ap (min_label_at c) stood ∙ (ap min_label_of put.found ∙ sym label))
+      label_then i e = ap (min_labels_in c rs) (its_place i e) ∙ (ap (min_label_at c) record_before ∙ (ap min_label_of put.found ∙ sym label))
 
       reads : (next : Option CountChange) → (next ≡ None → tally_ready (tally p) ≡ tally_ready (tally q)) → (Falls here → (above : CountChange) → next ≡ Some above → Falls above) → ReadsParent c rs here next due now
       reads next same falls = record {

@@ -4,7 +4,7 @@ use Rattle.std.specs.Prelude.{slice_get}
 use Rattle.shim_base.proofs.Facts.{some_same}
 use Rattle.shim_laws_table.specs.Agrees.{free}
 use Rattle.shim_laws_table.proofs.SameTrees.{same_or_not}
-use Rattle.shim_records.specs.Pairs.{stands_of}
+use Rattle.shim_records.specs.Pairs.{record_view}
 use Rattle.shim_records.specs.Blocks.{with_one, IsFreed}
 use Rattle.shim_records.specs.declared.record.Record.{Record}
 use Rattle.shim_records.proofs.Stepping.{set_there, set_elsewhere}
@@ -23,12 +23,12 @@ one_behind (y ∷ ys) (suc g) x h = ap (λ z. y ∷ z) (one_behind ys g x (omega
 pub none_freed : (g : ℕ) (rs : List Record) (n : ℕ) → n ≡ 0 → IsFreed g n rs rs
 none_freed g rs n e = record { inside = λ b r less. absurd (omega (arith, less, e)); outside = λ j h. refl }
 
-pub freed_one : (first at : ℕ) (before now : List Record) (r new : Record) → IsFreed first (at - first) before now → first ≤ at → slice_get now at ≡ Some r → stands_of new ≡ free → IsFreed first (at + 1 - first) before (slice_set now at new)
+pub freed_one : (first at : ℕ) (before now : List Record) (r new : Record) → IsFreed first (at - first) before now → first ≤ at → slice_get now at ≡ Some r → record_view new ≡ free → IsFreed first (at + 1 - first) before (slice_set now at new)
 freed_one first at before now r new h less e is = record {
   inside = λ b x within there. elim (same_or_not (first + b) at) [
     | inl w ↦
         let same : x ≡ new = some_same x new (sym there ∙ (ap (slice_get (slice_set now at new)) w ∙ set_there now at r new e)) in
-        ap stands_of same ∙ is
+        ap record_view same ∙ is
     | inr n ↦ h.inside b x (nearer b within n) (sym (set_elsewhere now at (first + b) new n) ∙ there)
   ];
   outside = λ j far. set_elsewhere now at j new (λ w. far (at - first) (last less) (w ∙ there_last less)) ∙ h.outside j (λ b within w. far b (further b within) w);

@@ -4,7 +4,7 @@ use Rattle.std.specs.Prelude.{slice_get}
 use Rattle.shim_base.specs.Paths.{Channel, NamedChannel}
 use Rattle.shim_base.proofs.Facts.{some_same, none_some}
 use Rattle.shim_local.specs.Process.{Ops}
-use Rattle.shim_laws_table.specs.Seen.{ProcessStatus}
+use Rattle.shim_laws_table.specs.NodeStatus.{ProcessStatus}
 use Rattle.shim_laws_table.specs.Counts.{ChildStatus as Read}
 use Rattle.shim_laws_table.specs.Sufficing.{leaf_status}
 use Rattle.shim_records.specs.Members.{IsAmong}
@@ -68,7 +68,7 @@ one_behind was is n x d c read reads (one_more h cs r rs before between behind o
     u v first (one_behind was is n x d c read reads more (λ g. out (suc g.0, g.1)) e f way)
 
 module _ {S : Type 0} (o : Ops S) (s : S) where
-  -- ---- whether a channel stood before
+  -- ---- whether a channel was before
 
   pub none_earlier : (c : Channel) → Earlier o s c 0 → ⊥
   none_earlier c h = let w = h.2 in omega (arith, w)
@@ -85,8 +85,8 @@ module _ {S : Type 0} (o : Ops S) (s : S) where
     | inr w ↦ far (ap (λ z. z.channel) (some_same d h.1 (sym e ∙ (ap (slice_get (o.given s)) (sym w) ∙ h.3))) ∙ h.4)
   ]
 
-  pub stood_before : (c : Channel) (at place : ℕ) (d : NamedChannel) → at < place → slice_get (o.given s) at ≡ Some d → d.channel ≡ c → Earlier o s c place
-  stood_before c at place d less e same = (at, d, less, e, same)
+  pub declared_before : (c : Channel) (at place : ℕ) (d : NamedChannel) → at < place → slice_get (o.given s) at ≡ Some d → d.channel ≡ c → Earlier o s c place
+  declared_before c at place d less e same = (at, d, less, e, same)
 
   -- ---- the ways for the first ones
 

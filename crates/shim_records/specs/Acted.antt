@@ -6,7 +6,7 @@ use Rattle.shim_local.specs.Laws.{IsGiven}
 use Rattle.shim_semantics.specs.Nodes.{Node}
 use Rattle.shim_semantics.specs.Acts.{Acted, act_here}
 use Rattle.shim_semantics.specs.Sound.{IsSound}
-use Rattle.shim_laws_table.specs.Seen.{ProcessStatus, lives, forks, ends, dies, is_leaf, place}
+use Rattle.shim_laws_table.specs.NodeStatus.{ProcessStatus, lives, forks, ends, dies, is_leaf, place}
 use Rattle.shim_laws_table.specs.Agrees.{Has, Represents}
 use Rattle.shim_laws_table.specs.Places.{IsReplaced}
 use Rattle.shim_laws_table.specs.Tallied.{Tallied, OnTheWay, HaveCounts}
@@ -14,7 +14,7 @@ use Rattle.shim_laws_table.specs.Updating.{AreLinked, AreAtMost}
 use Rattle.shim_laws_table.specs.Counts.{ChildStatus as Read}
 use Rattle.shim_laws_table.specs.Sufficing.{leaf_status}
 use Rattle.shim_records.specs.Members.{IsAmong}
-use Rattle.shim_records.specs.Pairs.{child_status_of, counts_in, up_in, rest_of, stands_of}
+use Rattle.shim_records.specs.Pairs.{child_status_of, counts_in, up_in, rest_of, record_view}
 use Rattle.shim_records.specs.Ways.{IsUpdatedAbove}
 use Rattle.shim_records.specs.UpdatesAbove.{AllUpdatedAbove}
 use Rattle.shim_records.specs.declared.pair.ChildStatus.{ChildStatus}
@@ -34,7 +34,7 @@ process_status_of (code.Dead d) = dies d
 abbrev pub acting : {S : Type 0} → Ops S → S → Channel → Read
 acting o s c = record { alive = o.shares s c; ready_on = false; dead_on = false }
 
--- the channel stands at a place before this one, of those that the process was given
+-- the channel is at a place before this one, of those that the process was given
 abbrev pub Earlier : {S : Type 0} → Ops S → S → Channel → ℕ → Type 0
 Earlier o s c place = (at : ℕ) × (d : NamedChannel) × (at < place) × (slice_get (o.given s) at ≡ Some d) × (d.channel ≡ c)
 
@@ -54,9 +54,9 @@ pub record AllUpdated {S : Type 0} (o : Ops S) (s : S) (k : ProcessStatus) (n x 
 -- The node of a process that did something by itself, and has no children now, is in its place, and the counts above are still those of the tree before. Updated for those channels, all counts are those of the tree now, and nothing else in the records has changed.
 abbrev pub StepUpdatesCounts : {S : Type 0} → Ops S → Type 0
 StepUpdatesCounts {S} o = (rp : Path) (states : List S) (rs behind : List Record) (old new m : Node S) (a : Acted S) (n x f : ℕ) (s : S) (k : ProcessStatus)
-    → IsSound o old → Represents o rp states (map stands_of rs) new → AreLinked states (map stands_of rs) (up_in rs) → AreAtMost 4294967295 states (map stands_of rs)
-    → Has states (map stands_of rs) x f s k → IsReplaced (place o rp s) m a.node old new → act_here o m ≡ Some a → is_leaf a.node ≡ true → length (place o rp s) ≤ n
-    → ((c : Channel) → HaveCounts o rp states (map stands_of rs) c (counts_in c rs) new) → ((c : Channel) → OnTheWay o rp states (map stands_of rs) c (counts_in c rs) old new (place o rp s))
+    → IsSound o old → Represents o rp states (map record_view rs) new → AreLinked states (map record_view rs) (up_in rs) → AreAtMost 4294967295 states (map record_view rs)
+    → Has states (map record_view rs) x f s k → IsReplaced (place o rp s) m a.node old new → act_here o m ≡ Some a → is_leaf a.node ≡ true → length (place o rp s) ≤ n
+    → ((c : Channel) → HaveCounts o rp states (map record_view rs) c (counts_in c rs) new) → ((c : Channel) → OnTheWay o rp states (map record_view rs) c (counts_in c rs) old new (place o rp s))
     → AllUpdated o s k n x rs behind
     → (map rest_of behind ≡ map rest_of rs)
-    × ((c : Channel) → Tallied o rp states (map stands_of behind) c (counts_in c behind) new × HaveCounts o rp states (map stands_of behind) c (counts_in c behind) new)
+    × ((c : Channel) → Tallied o rp states (map record_view behind) c (counts_in c behind) new × HaveCounts o rp states (map record_view behind) c (counts_in c behind) new)

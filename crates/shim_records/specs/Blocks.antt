@@ -1,7 +1,7 @@
 -- Records that lie together, put in place of others or behind them, and freed.
 use Rattle.std.specs.Prelude.{◌≡◌, ◌≢◌, ◌<◌, ℕ, zero, suc, ◌+◌, Some, List, [], ◌∷◌, slice_get}
 use Rattle.shim_laws_table.specs.Agrees.{free}
-use Rattle.shim_records.specs.Pairs.{stands_of}
+use Rattle.shim_records.specs.Pairs.{record_view}
 use Rattle.shim_records.specs.declared.record.Record.{Record}
 
 -- one item put in place of another, or behind the last
@@ -17,5 +17,5 @@ with_block g (x ∷ xs) ys = with_block (g + 1) xs (with_one g x ys)
 
 -- from the number g on n records are free, and all others are as before
 pub record IsFreed (g n : ℕ) (before behind : List Record) : Type 0 where
-  pub inside : (b : ℕ) (r : Record) → b < n → slice_get behind (g + b) ≡ Some r → stands_of r ≡ free
+  pub inside : (b : ℕ) (r : Record) → b < n → slice_get behind (g + b) ≡ Some r → record_view r ≡ free
   pub outside : (j : ℕ) → ((b : ℕ) → b < n → j ≢ g + b) → slice_get behind j ≡ slice_get before j

@@ -8,12 +8,12 @@ use Rattle.shim_records.specs.Labels.{IsLoweredAbove}
 use Rattle.shim_records.specs.Acted.{Earlier}
 use Rattle.shim_records.specs.declared.record.Record.{Record}
 
--- For each of these channels, none of which stands there twice, the label y was taken in from the record x on, through at most n forks.
+-- For each of these channels, none of which is there twice, the label y was taken in from the record x on, through at most n forks.
 pub data AllLoweredAbove (y n x : ℕ) : List Channel → List Record → List Record → Type 0 where
   none_left : (rs : List Record) → AllLoweredAbove y n x [] rs rs
   one_more : (c : Channel) (cs : List Channel) (before between behind : List Record) → (IsAmong c cs → ⊥) → IsLoweredAbove c y n x before between → AllLoweredAbove y n x cs between behind → AllLoweredAbove y n x (c ∷ cs) before behind
 
--- for one channel it was taken in, unless the process doesn't share it or it stood before
+-- for one channel it was taken in, unless the process doesn't share it or it was before
 pub data LowersForOne {S : Type 0} (o : Ops S) (s : S) (y n x : ℕ) (c : Channel) (place : ℕ) (before behind : List Record) : Type 0 where
   unshared : o.shares s c ≡ false → behind ≡ before → LowersForOne o s y n x c place before behind
   again : Earlier o s c place → behind ≡ before → LowersForOne o s y n x c place before behind

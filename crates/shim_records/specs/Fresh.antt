@@ -29,7 +29,7 @@ abbrev pub RisesFrom : Channel → List Channel → Type 0
 RisesFrom a [] = Unit {0}
 RisesFrom a (c ∷ cs) = (is_lt (channel_order c a) ≡ false) × RisesFrom c cs
 
--- they stand in order, some perhaps several times
+-- they are in order, some perhaps several times
 abbrev pub Rises : List Channel → Type 0
 Rises [] = Unit {0}
 Rises (c ∷ cs) = RisesFrom c cs

@@ -1,10 +1,10 @@
--- The counts above a live process that was killed where it stood, updated for all channels that it was given and shares, one after the other.
+-- The counts above a live process that was killed where it was, updated for all channels that it was given and shares, one after the other.
 use Rattle.std.specs.Prelude.{◌≡◌, ℕ, true, false, List}
 use Rattle.shim_base.specs.Paths.{Channel}
 use Rattle.shim_local.specs.Process.{Ops}
 use Rattle.shim_local.specs.Laws.{IsGiven}
 use Rattle.shim_semantics.specs.Nodes.{death}
-use Rattle.shim_laws_table.specs.Seen.{lives, dies}
+use Rattle.shim_laws_table.specs.NodeStatus.{lives, dies}
 use Rattle.shim_laws_table.specs.Counts.{ChildStatus as Read}
 use Rattle.shim_laws_table.specs.Sufficing.{leaf_status}
 use Rattle.shim_records.specs.Members.{IsAmong}

@@ -8,7 +8,7 @@ pub mod Waiting
 pub mod Representing
 pub mod Labels
 pub mod CountingOff
-pub mod Recounting
+pub mod Recomputing
 pub mod UpdatesAbove
 pub mod Acted
 pub mod Died

@@ -3,7 +3,7 @@ use Rattle.std.specs.declared.cmp.Ordering.TheVariants.{Less}
 use Rattle.std.specs.Prelude.{ℕ, suc, Bool, false, Option, Some, None, List, [], ◌∷◌, cond, slice_get, ◌≡◌, ◌<◌, map}
 use Rattle.std.specs.Option.{option_map}
 use Rattle.shim_base.specs.Paths.{Path, Channel, same_channel, channel_order}
-use Rattle.shim_laws_table.specs.Seen.{lives, forks, ends, dies}
+use Rattle.shim_laws_table.specs.NodeStatus.{lives, forks, ends, dies}
 use Rattle.shim_laws_table.specs.Agrees.{RecordView, free, used}
 use Rattle.shim_laws_table.specs.Counts.{Tally, ChildStatus as Read, tally_ready}
 use Rattle.shim_records.specs.declared.pair.Pair.{Pair}
@@ -25,7 +25,7 @@ child_status_of r = record { alive = r.alive; ready_on = r.ready_on; dead_on = r
 abbrev pub chans_of : List Pair → List Channel
 chans_of ps = map (λ p. p.chan.channel) ps
 
--- they stand in order, each once
+-- they are in order, each once
 pub record IsOrdered (cs : List Channel) : Type 0 where
   pub order : (i j : ℕ) (a b : Channel) → i < j → slice_get cs i ≡ Some a → slice_get cs j ≡ Some b → channel_order a b ≡ Less
 
@@ -81,12 +81,12 @@ abbrev pub up_in : List Record → ℕ → Option ℕ
 up_in rs i = up_at (slice_get rs i)
 
 -- what came of a process
-abbrev pub stands_by : ℕ → Status → RecordView
-stands_by f code.Free = free
-stands_by f code.Live = used f lives
-stands_by f (code.Forked n) = used f (forks n)
-stands_by f code.Ended = used f ends
-stands_by f (code.Dead d) = used f (dies d)
+abbrev pub status_view : ℕ → Status → RecordView
+status_view f code.Free = free
+status_view f code.Live = used f lives
+status_view f (code.Forked n) = used f (forks n)
+status_view f code.Ended = used f ends
+status_view f (code.Dead d) = used f (dies d)
 
 -- into how many a process has forked
 abbrev pub fork_size : Status → ℕ
@@ -97,8 +97,8 @@ fork_size code.Ended = 0
 fork_size (code.Dead x) = 0
 
 -- what the record says of its process
-abbrev pub stands_of : Record → RecordView
-stands_of r = stands_by r.first r.status
+abbrev pub record_view : Record → RecordView
+record_view r = status_view r.first r.status
 
 -- what a pair knows of its channel, whatever its children do
 pub record KnownPair : Type 0 where
@@ -141,6 +141,6 @@ pub record UncountedRecord : Type 0 where
 abbrev pub rest_of : Record → UncountedRecord
 rest_of r = record { status = r.status; first = r.first; parent = r.parent; path = r.path; running_children = r.running_children; chans = chans_of r.pairs.items; known = known_of r.pairs.items }
 
--- the pairs of each record stand in order
+-- the pairs of each record are in order
 abbrev pub AreOrdered : List Record → Type 0
 AreOrdered rs = (i : ℕ) (r : Record) → slice_get rs i ≡ Some r → IsOrdered (chans_of r.pairs.items)

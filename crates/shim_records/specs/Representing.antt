@@ -7,27 +7,27 @@ use Rattle.std.specs.Prelude.{◌≡◌, ◌<◌, ◌≤◌, ℕ, ◌+◌, Some,
 use Rattle.shim_base.specs.Paths.{Path, Channel}
 use Rattle.shim_local.specs.Process.{Ops}
 use Rattle.shim_semantics.specs.Nodes.{Node, all_live}
-use Rattle.shim_laws_table.specs.Seen.{ProcessStatus, lives, forks}
+use Rattle.shim_laws_table.specs.NodeStatus.{ProcessStatus, lives, forks}
 use Rattle.shim_laws_table.specs.Agrees.{used, Has, Agrees}
 use Rattle.shim_laws_table.specs.Changes.{HasForked, HasClosed}
-use Rattle.shim_records.specs.Pairs.{stands_of, tally_for, min_label_of, pair_of}
+use Rattle.shim_records.specs.Pairs.{record_view, tally_for, min_label_of, pair_of}
 use Rattle.shim_records.specs.Blocks.{with_block, IsFreed}
 use Rattle.shim_records.specs.declared.record.Record.{Record}
 
 -- records of live processes
 abbrev pub AllLive : List Record → Type 0
-AllLive rs = (b : ℕ) (r : Record) → slice_get rs b ≡ Some r → (f : ℕ) × (stands_of r ≡ used f lives)
+AllLive rs = (b : ℕ) (r : Record) → slice_get rs b ≡ Some r → (f : ℕ) × (record_view r ≡ used f lives)
 
 -- What records show when a block was put, or was freed:
 pub record BlocksAreEvents {S : Type 0} (o : Ops S) : Type 0 where
   -- a process has forked whose record says so, and whose children's states and records were put together in place of free ones or behind all
   pub fork : (states : List S) (rs born : List Record) (i f g : ℕ) (l p : S) (ks : List S) (r : Record) → length states ≡ length rs → g ≤ length rs → length born ≡ length ks → AllLive born
-      → Has states (map stands_of rs) i f l lives → ((b d : ℕ) (t : S) (x : ProcessStatus) → b < length ks → Has states (map stands_of rs) (g + b) d t x → ⊥) → stands_of r ≡ used g (forks (length ks))
-      → HasForked states (with_block g ks (slice_set states i p)) (map stands_of rs) (map stands_of (with_block g born (slice_set rs i r))) i g p ks
+      → Has states (map record_view rs) i f l lives → ((b d : ℕ) (t : S) (x : ProcessStatus) → b < length ks → Has states (map record_view rs) (g + b) d t x → ⊥) → record_view r ≡ used g (forks (length ks))
+      → HasForked states (with_block g ks (slice_set states i p)) (map record_view rs) (map record_view (with_block g born (slice_set rs i r))) i g p ks
   -- a fork has closed whose record says what came of it, and whose children's records are free
-  pub close : (rp : Path) (states : List S) (rs ss : List Record) (root : Node S) (i g n f : ℕ) (l s : S) (k : ProcessStatus) (r : Record) → Agrees o rp states (map stands_of rs) root
-      → Has states (map stands_of rs) i g l (forks n) → IsFreed g n rs ss → stands_of r ≡ used f k
-      → HasClosed states (slice_set states i s) (map stands_of rs) (map stands_of (slice_set ss i r)) i g n s k
+  pub close : (rp : Path) (states : List S) (rs ss : List Record) (root : Node S) (i g n f : ℕ) (l s : S) (k : ProcessStatus) (r : Record) → Agrees o rp states (map record_view rs) root
+      → Has states (map record_view rs) i g l (forks n) → IsFreed g n rs ss → record_view r ≡ used f k
+      → HasClosed states (slice_set states i s) (map record_view rs) (map record_view (slice_set ss i r)) i g n s k
 
 -- The pairs of a new fork are the counts with which it begins, and none of its children has died.
 abbrev pub ForkInitialCounts : {S : Type 0} → Ops S → Type 0

@@ -49,7 +49,7 @@ pub record MovesParent (c : Channel) (before : List Record) (here : CountChange)
 abbrev pub Falls : CountChange → Type 0
 Falls here = (child_status_of here.was ≡ live_child_status true) × (child_status_of here.is ≡ live_child_status false)
 
--- How the parent is read by its counts behind a step up, which tells whether it is due: all are there, or it has a label.
+-- How the parent is read by its counts behind a step up, by which it is due or not: all are there, or it has a label.
 pub record ReadsParent (c : Channel) (before : List Record) (here : CountChange) (next : Option CountChange) (due : Bool) (behind : List Record) : Type 0 where
   -- where it isn't due, neither is so
   pub closed : due ≡ false → (i : ℕ) → up_in before here.at ≡ Some i → (counts_ready (counts_in c behind i) ≡ false) × (min_labels_in c before i ≡ None)

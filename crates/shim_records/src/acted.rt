@@ -1,6 +1,6 @@
 // The counts above a process that has done anything by itself, brought up to date for all channels.
 ghost use Rattle.std.specs.Prelude.{◌≡◌, ◌≤◌, true, false, length};
-ghost use Rattle.shim_records.specs.Pairs.{child_status_of, AreOrdered};
+ghost use Rattle.shim_records.specs.Pairs.{child_status_of};
 ghost use Rattle.shim_records.specs.Ways.{AllCountsMovedWithin};
 ghost use Rattle.shim_records.specs.Acted.{Earlier, process_status_of, UpdatesForOne, AllUpdated};
 ghost use Rattle.shim_laws_table.specs.Sufficing.{leaf_status};
@@ -35,7 +35,7 @@ fn status_now<L: Local>(process: &L, status: Status, c: &Chan) -> ChildStatus
     }
 }
 
-// Whether the channel stands at no place before this one, of those that the process was given.
+// Whether the channel is at no place before this one, of those that the process was given.
 pub(crate) fn is_first<L: Local>(process: &L, c: &Chan, place: usize) -> bool
     ensures first { result ≡ true → Earlier L.ops process.now c.now.channel place → ⊥ }
     ensures again { result ≡ false → Earlier L.ops process.now c.now.channel place }
@@ -64,7 +64,6 @@ fn update_for_one<L: Local>(
     place: usize,
     forks: u32,
 ) -> u32
-    requires { AreOrdered records.old.items }
     ensures counts { UpdatesForOne L.ops process.now (process_status_of status) forks at c.now.channel place records.old.items records.new.items }
     ensures reaches { AllCountsMovedWithin result at records.old.items records.new.items }
     ensures most { result ≤ forks }
@@ -93,7 +92,6 @@ pub fn update_all_counts<L: Local>(
     at: usize,
     forks: u32,
 ) -> u32
-    requires ordered { AreOrdered records.old.items }
     requires few { length (L.ops.given process.now) ≤ 18446744073709551615 }
     ensures counts { AllUpdated L.ops process.now (process_status_of status) forks at records.old.items records.new.items }
     ensures reaches { AllCountsMovedWithin result at records.old.items records.new.items }

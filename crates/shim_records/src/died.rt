@@ -1,6 +1,5 @@
 // The labels above a process that has died, brought up to date for all channels.
 ghost use Rattle.std.specs.Prelude.{◌≡◌, ◌≤◌, length};
-ghost use Rattle.shim_records.specs.Pairs.{AreOrdered};
 ghost use Rattle.shim_records.specs.Died.{LowersForOne, IsTaken};
 
 use crate::acted::is_first;
@@ -9,7 +8,7 @@ use crate::record::Record;
 use shim_base::Chan;
 use shim_local::Local;
 
-// Takes the label in for the channel, if the process shares it and it stands at no place before.
+// Takes the label in for the channel, if the process shares it and it is at no place before.
 fn lower_for_one<L: Local>(
     process: &L,
     records: &mut Vec<Record>,
@@ -19,7 +18,6 @@ fn lower_for_one<L: Local>(
     label: u32,
     forks: u32,
 )
-    requires { AreOrdered records.old.items }
     ensures { LowersForOne L.ops process.now label forks at c.now.channel place records.old.items records.new.items }
 {
     if !process.shares(c) {
@@ -40,7 +38,6 @@ pub fn lower_all_labels<L: Local>(
     label: u32,
     forks: u32,
 )
-    requires ordered { AreOrdered records.old.items }
     requires few { length (L.ops.given process.now) ≤ 18446744073709551615 }
     ensures { IsTaken L.ops process.now label forks at records.old.items records.new.items }
 {

@@ -20,7 +20,7 @@ fn more(count: u32, test: bool) -> u32
     if test { count + 1 } else { count }
 }
 
-// Whether the process shares the channel, as it does or not, and doesn't stand at it.
+// Whether the process shares the channel, as it does or not, and isn't at it.
 fn isnt_ready<L: Local>(process: &L, chan: &Chan, shares: bool) -> bool
     ensures { result ≡ shares && not (is_next (L.ops.stop process.now) chan.now.channel) }
 {
@@ -145,13 +145,24 @@ fn pair_one<L: Local>(pairs: &mut Vec<Pair>, chan: Chan, children: &[L]) -> Resu
     Ok(())
 }
 
-// A pair for each of these channels, which may stand there several times.
+// Of channels in ascending order, how many there are without repetitions, so that pairs get exactly their room.
+fn distinct(chans: &[Chan]) -> usize {
+    let mut count: usize = 0;
+    for i in 0..chans.len() {
+        if i == 0 || chans[i] != chans[i - 1] {
+            count = count.saturating_add(1);
+        }
+    }
+    count
+}
+
+// A pair for each of these channels, which may be there several times.
 fn paired<L: Local>(alloc: Global, chans: Vec<Chan>, children: &[L]) -> Result<Vec<Pair>, NoMemory>
     requires few { length children.now ≤ 4294967295 }
     requires rises { Rises (channels chans.items) }
     ensures { IfOk result (λ pairs. IsPaired L.ops children.now (channels chans.items) pairs.items) }
 {
-    let mut pairs = Vec::new(alloc);
+    let mut pairs = Vec::with_capacity(alloc, distinct(chans.as_slice()))?;
     for chan in chans {
         pair_one(&mut pairs, chan, children)?;
     }

@@ -1,6 +1,6 @@
-// The counts above a live process that was killed where it stood, brought up to date for all channels.
+// The counts above a live process that was killed where it was, brought up to date for all channels.
 ghost use Rattle.std.specs.Prelude.{◌≡◌, ◌≤◌, length};
-ghost use Rattle.shim_records.specs.Pairs.{child_status_of, AreOrdered};
+ghost use Rattle.shim_records.specs.Pairs.{child_status_of};
 ghost use Rattle.shim_records.specs.Killed.{living, as_dead, KillsOne, IsKilled};
 
 use crate::acted::is_first;
@@ -42,7 +42,6 @@ fn kill_one<L: Local>(
     place: usize,
     forks: u32,
 )
-    requires { AreOrdered records.old.items }
     ensures { KillsOne L.ops process.now forks at c.now.channel place records.old.items records.new.items }
 {
     if !process.shares(c) {
@@ -62,9 +61,8 @@ fn kill_one<L: Local>(
 }
 
 /// Brings the counts above a process up to date that lived and was killed, for each channel that it was given
-/// and shares. It may have stood at a channel, and so have been read as ready there.
+/// and shares. It may have waited at a channel, and so have been read as ready there.
 pub fn kill_all<L: Local>(process: &L, records: &mut Vec<Record>, at: usize, forks: u32)
-    requires ordered { AreOrdered records.old.items }
     requires few { length (L.ops.given process.now) ≤ 18446744073709551615 }
     ensures { IsKilled L.ops process.now forks at records.old.items records.new.items }
 {

@@ -1,7 +1,7 @@
 // The least labels of dead sharers, brought up to date on the way up from a death.
 ghost use Rattle.std.specs.Prelude.{◌≡◌, Some, false};
 ghost use Rattle.shim_laws_table.specs.Dooms.{lesser};
-ghost use Rattle.shim_records.specs.Pairs.{tally, AreOrdered};
+ghost use Rattle.shim_records.specs.Pairs.{tally};
 ghost use Rattle.shim_records.specs.Labels.{LowersOne, IsLoweredAbove};
 
 use crate::pair::{Pair, place_in};
@@ -35,7 +35,6 @@ fn lower_label(pair: &mut Pair, label: u32) -> bool
 // Takes the label into those of the record's parent, if it has counts for the channel; the parent, where
 // the label was lower than before.
 fn lower_one(records: &mut Vec<Record>, at: usize, c: &Chan, label: u32) -> Option<usize>
-    requires { AreOrdered records.old.items }
     ensures { LowersOne c.now.channel label records.old.items at result records.new.items }
 {
     if at >= records.len() {
@@ -60,7 +59,6 @@ fn lower_one(records: &mut Vec<Record>, at: usize, c: &Chan, label: u32) -> Opti
 /// Takes the label of a death of a sharer of the channel into the labels above its record, through at most
 /// so many forks: as far up as a fork had none as low.
 pub fn lower_min_labels(records: &mut Vec<Record>, at: usize, c: &Chan, label: u32, forks: u32)
-    requires { AreOrdered records.old.items }
     ensures { IsLoweredAbove c.now.channel label forks at records.old.items records.new.items }
 {
     let mut here = at;

@@ -17,8 +17,8 @@ pub fn fork_initial_counts<L: Local>()
     ensures { ForkInitialCounts L.ops }
 {}
 
-/// Where a process has done anything by itself, and for each channel that it was given and shares the way up
-/// was walked, the counts of all records are right again.
+/// Where a process has done anything by itself, and for each channel that it was given and shares the counts above
+/// were updated, the counts of all records are right again.
 pub fn updates_give_counts<L: Local>()
     ensures { UpdatesGiveCounts L.ops }
 {}

@@ -1,5 +1,5 @@
 //! The records of a tree of processes, side by side with their states: what came of each process, who made
-//! it, and of a fork how its children stand at the channels that they share.
+//! it, and of a fork how its children are at the channels that they share.
 //!
 //! A process's number is its place among the records, and that of its state. The laws of
 //! `shim_laws_table` say which tree they show.
@@ -16,8 +16,8 @@ mod counting_off;
 pub mod laws;
 mod pair;
 mod receiving;
+mod recomputing;
 mod record;
-mod recounting;
 mod upward;
 mod worklist;
 
@@ -30,7 +30,7 @@ pub use killed::kill_all;
 pub use labels::lower_min_labels;
 pub use pair::{ChildStatus, Pair, Sharing, live_child_status, place_in, tally_ready};
 pub use receiving::is_at_channel;
+pub use recomputing::recompute_min_labels;
 pub use record::{Record, Status, fork_size, is_free};
-pub use recounting::recompute_min_labels;
 pub use upward::{propagate_stop_above, update_counts_above};
 pub use worklist::Worklist;

@@ -4,7 +4,7 @@ ghost use Rattle.shim_base.specs.Paths.{same_channel};
 ghost use Rattle.shim_laws_table.specs.Counts.{bit, tally_ready, live_child_status, IsExchanged};
 ghost use Rattle.shim_laws_table.specs.Updating.{CanMove};
 ghost use Rattle.shim_records.specs.declared.pair.Pair.{Pair as PairOf};
-ghost use Rattle.shim_records.specs.Pairs.{tally, child_status_of, pair_index, chans_of, IsOrdered};
+ghost use Rattle.shim_records.specs.Pairs.{tally, child_status_of, pair_index};
 
 use shim_base::Chan;
 
@@ -30,7 +30,7 @@ pub struct Pair {
     pub dead: u32,
     /// The least label of those at and below the children that share it and are dead.
     pub min_dead_label: Option<u32>,
-    /// Who they are. Three numbers tell it, however many they are.
+    /// Who they are. Three numbers say it, however many they are.
     pub sharing: Sharing,
 }
 
@@ -105,9 +105,8 @@ fn first_of(pairs: &[Pair], c: &Chan) -> Option<usize>
 }
 
 /// The place of the pair for the channel, among pairs in the order of their channels. It is looked for from
-/// the front: mostly there are few, and whether two channels are the same is told sooner than their order.
+/// the front: mostly there are few, and whether two channels are the same is known sooner than their order.
 pub fn place_in(pairs: &[Pair], c: &Chan) -> Option<usize>
-    requires { IsOrdered (chans_of pairs.now) }
     ensures { result ≡ pair_index c.now.channel pairs.now }
 {
     first_of(pairs, c)

@@ -1,7 +1,7 @@
 // What is kept of a process beside its state.
 ghost use Rattle.std.specs.Prelude.{◌≡◌, ◌≢◌, false, true};
 ghost use Rattle.shim_laws_table.specs.Agrees.{free};
-ghost use Rattle.shim_records.specs.Pairs.{fork_size, stands_of};
+ghost use Rattle.shim_records.specs.Pairs.{fork_size, record_view};
 
 use crate::pair::Pair;
 use shim_base::Path;
@@ -30,8 +30,8 @@ pub fn fork_size(status: Status) -> u32
 
 /// Whether the record is free.
 pub fn is_free(place: &Record) -> bool
-    ensures free { result ≡ true → stands_of place.now ≡ free }
-    ensures used { result ≡ false → stands_of place.now ≢ free }
+    ensures free { result ≡ true → record_view place.now ≡ free }
+    ensures used { result ≡ false → record_view place.now ≢ free }
 {
     match place.status {
         Status::Free => true,
@@ -47,9 +47,9 @@ pub struct Record {
     pub first: u32,
     /// The number of the process whose fork made it; none at the root.
     pub parent: Option<u32>,
-    pub path: Path,
     /// How many children of its fork have neither ended nor died.
     pub running_children: u32,
+    pub path: Path,
     /// The counts of its fork's children, for each channel that it shares and gave to one of them.
     pub pairs: Vec<Pair>,
 }

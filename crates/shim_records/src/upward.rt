@@ -1,7 +1,7 @@
 // Counts brought up to date on the way up.
 ghost use Rattle.std.specs.Prelude.{◌≡◌, ◌≤◌, ◌+◌, true, false, None, if◌then◌else◌};
 ghost use Rattle.shim_laws_table.specs.Counts.{live_child_status};
-ghost use Rattle.shim_records.specs.Pairs.{child_status_of, AreOrdered};
+ghost use Rattle.shim_records.specs.Pairs.{child_status_of};
 ghost use Rattle.shim_records.specs.Ways.{most_forks, StepsUp, IsUpdatedAbove, CountsMovedWithin, NoneReadied, ComesTo, ReadiesWithin};
 
 use crate::pair::{ChildStatus, live_child_status, move_pair, place_in, tally_ready};
@@ -29,7 +29,6 @@ fn may_be_due(all: bool, label: Option<u32>) -> bool
 // Moves the counts of the record's parent, if it has counts for the channel; the parent, where it is read
 // otherwise than before, and whether anything may be due at it on the channel.
 fn step_up(records: &mut Vec<Record>, c: &Chan, here: CountChange) -> (Option<CountChange>, bool)
-    requires { AreOrdered records.old.items }
     ensures { StepsUp c.now.channel records.old.items here result.0 result.1 records.new.items }
 {
     if here.at >= records.len() {
@@ -74,7 +73,6 @@ pub fn update_counts_above(
     is: ChildStatus,
     forks: u32,
 ) -> u32
-    requires { AreOrdered records.old.items }
     ensures counts { IsUpdatedAbove c.now.channel forks at was is records.old.items records.new.items }
     ensures reaches { CountsMovedWithin c.now.channel result at records.old.items records.new.items }
     ensures most { result ≤ forks }
@@ -91,7 +89,7 @@ pub fn update_counts_above(
     forks
 }
 
-// How many forks are to be looked at again, where so many were and one more was walked.
+// How many forks are to be looked at again, where so many were and one more was updated.
 fn looked_at(before: u64, walked: u32, due: bool) -> u64
     ensures { result ≡ (if due then walked + 1 else before) }
 {
@@ -102,7 +100,6 @@ fn looked_at(before: u64, walked: u32, due: bool) -> u64
 /// before. The answer is how many forks above it are to be looked at again: at those further up all
 /// are there no more than before, and none of them has a label where a child has become ready.
 pub fn propagate_stop_above(records: &mut Vec<Record>, at: usize, c: &Chan) -> u64
-    requires { AreOrdered records.old.items }
     ensures counts { ComesTo c.now.channel most_forks at records.old.items records.new.items }
     ensures readies { ReadiesWithin c.now.channel result at records.old.items records.new.items }
 {

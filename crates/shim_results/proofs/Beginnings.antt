@@ -38,7 +38,7 @@ begins_by x t own (es, leads, many) =
 meaning_stopped : (x : Execution) → UsesOwnSlots x.source → status_of x ≡ 4 → IsStoppedAt x (tree_of x)
 meaning_stopped x own four = record { reached = is_reached_whole x own four; counted = spent_steps x own four; goes_on = decides_spent.only x own four }
 
--- what is told of a stopped run is read off such a tree
+-- what is printed of a stopped run is read off such a tree
 pub stopped_tree : (course : Course) (x : Execution) (e : Ended) → UsesOwnSlots x.source → status_of x ≡ 4 → IsStoppedEnd course x e
     → (t : Tree LocalState) × IsStoppedAt x t × IsBeginning x t × (e ≡ read_off x t)
 stopped_tree ByFirstEvents x e own four is =

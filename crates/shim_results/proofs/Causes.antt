@@ -1,4 +1,4 @@
--- What the status of the meaning tells of the tree to which it came.
+-- What the status of the meaning says of the tree to which it came.
 use Rattle.std.proofs.Common.{◌≡◌, ◌≢◌, ◌↔◌, ℕ, zero, suc, ◌+◌, inl, inr, Bool, IsTrue, None, List, [], ◌∷◌, map, cond, refl, sym, ap, ◌∙◌, arith}
 use Rattle.std.specs.FinMap as finite
 use Rattle.shim_base.specs.Paths.{Path}
@@ -36,34 +36,34 @@ still_going : {S : Type 0} (root : Node S) (es : List Event) → head es ≢ Non
 still_going root [] some = absurd (some refl)
 still_going root (e ∷ es) some = refl
 
--- the outcome that is told of a run is that of its tree, named
-told : {S : Type 0} (o : Ops S) (throws : List ℕ) (t : Tree S) → (named throws (ended o t)).outcome ≡ named_outcome throws (outcome o t.root)
+-- the outcome that is printed of a run is that of its tree, named
+outcome_named : {S : Type 0} (o : Ops S) (throws : List ℕ) (t : Tree S) → (named throws (ended o t)).outcome ≡ named_outcome throws (outcome o t.root)
 unfolding ended
-told o throws t = refl
+outcome_named o throws t = refl
 
--- the status of the meaning tells the outcome of its tree
-status_told : (x : Execution) → status_of x ≡ status_of_outcome (outcome process_ops (tree_of x).root)
+-- the status of the meaning is that of the outcome of its tree
+status_named_as : (x : Execution) → status_of x ≡ status_of_outcome (outcome process_ops (tree_of x).root)
 unfolding end_of reference_of tree_of
-status_told x =
+status_named_as x =
     let t = tree_of x in
-    ap status_of_outcome (told process_ops x.source.main_throws t) ∙ status_named x.source.main_throws (outcome process_ops t.root)
+    ap status_of_outcome (outcome_named process_ops x.source.main_throws t) ∙ status_named x.source.main_throws (outcome process_ops t.root)
 
 status_at_rest : (x : Execution) → first_event process_ops (tree_of x) ≡ None → status_of x ≡ status_of_outcome (outcome_of_root (tree_of x).root)
 status_at_rest x none =
     let t = tree_of x in
-    status_told x ∙ ap status_of_outcome (at_rest t.root (walk process_ops t.root) none)
+    status_named_as x ∙ ap status_of_outcome (at_rest t.root (walk process_ops t.root) none)
 
 status_stopped : (x : Execution) → first_event process_ops (tree_of x) ≢ None → status_of x ≡ 4
 status_stopped x some =
     let t = tree_of x in
-    status_told x ∙ ap status_of_outcome (still_going t.root (walk process_ops t.root) some)
+    status_named_as x ∙ ap status_of_outcome (still_going t.root (walk process_ops t.root) some)
 
 -- a root that died has the status 1, whatever its label
 dead_status : (x : ℕ) → status_of_outcome (outcome_of_label x) ≡ 1
 dead_status zero = refl
 dead_status (suc x) = refl
 
--- what the status of a root at rest tells of it
+-- what the status of a root at rest says of it
 root_ended : {S : Type 0} (n : Node S) → IsTrue (has_ended n) ↔ (status_of_outcome (outcome_of_root n) ≡ 0)
 root_ended (Live l) = (λ h. absurd (cc), λ e. absurd (omega (arith, e)))
 root_ended (Forked l ks) = (λ h. absurd (cc), λ e. absurd (omega (arith, e)))

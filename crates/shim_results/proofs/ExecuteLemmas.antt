@@ -38,9 +38,9 @@ reference_was (Err e) source program input bytes budget same read is = tt
 pub answers_run : (course : Course) (shown : Execution → Ended → List ℕ) (s t : Source) (input : List ℕ) (budget : ℕ) (e : Ended) (status : ℕ) (text : List ℕ) → s ≡ t
     → IsEnd course (record { source = s; input = input; budget = budget }) e → status ≡ status_of_outcome e.outcome → text ≡ shown (record { source = s; input = input; budget = budget }) e
     → AnswersRun course shown (record { source = t; input = input; budget = budget }) (record { status = status; text = text })
-answers_run course shown s t input budget e status text same end told written =
+answers_run course shown s t input budget e status text same end code written =
     subst (λ (b : Source). AnswersRun course shown (record { source = b; input = input; budget = budget }) (record { status = status; text = text })) same
-    (e, end, (λ i. record { status = told i; text = written i }))
+    (e, end, (λ i. record { status = code i; text = written i }))
 
 -- of an accepted program comes what comes of its source
 pub of_accepted : {A : Type 0} (OfSource : Program → Source → A → Type 0) (OfFault : SourceFault → A → Type 0) (bytes : List ℕ) (source : Source) (a : A)

@@ -1,4 +1,4 @@
--- What a meaning comes to that is told with the reasons why it is blocked.
+-- What a meaning comes to that is printed with the reasons why it is blocked.
 use Rattle.std.proofs.Common.{◌≡◌, ℕ, List, ◌++◌, true, sym, ap, ◌∙◌, subst}
 use Rattle.shim_local.specs.declared.Ended.{Ended}
 use Rattle.shim_local.specs.declared.Outcome.TheVariants.{Blocked}
@@ -27,12 +27,12 @@ module _ (source program : Source) (input bytes : List ℕ) (budget : ℕ) (same
   unfolding tree_of
   tree_was t is = is ∙ λ i. meaning_of (same i) (read i) budget
 
-  -- where the end is told to be blocked, nothing can happen in the tree, and its root goes on
+  -- where the end is blocked, nothing can happen in the tree, and its root goes on
   pub rests_blocked : (t : Tree LocalState) (e : Ended) → t ≡ meaning_of program bytes budget → e ≡ reference_of program bytes budget → IsEndOfRun process_ops budget (meaning_of program bytes budget)
       → e.outcome ≡ Blocked → IsQuiescent process_ops t × (goes t.root ≡ true)
-  rests_blocked t e is told ran blocked =
+  rests_blocked t e is named_is ran blocked =
       let there = tree_was t is in
-      let end = reference_is source program input bytes budget e same read told in
+      let end = reference_is source program input bytes budget e same read named_is in
       let run = subst (λ (u : Tree LocalState). IsEndOfRun process_ops budget u) (sym is ∙ there) ran in
       subst (λ (u : Tree LocalState). IsQuiescent process_ops u × (goes u.root ≡ true)) (sym there) (blocked_rests run_so run (sym (ap (λ (y : Ended). y.outcome) end) ∙ blocked))
 
@@ -40,6 +40,6 @@ module _ (source program : Source) (input bytes : List ℕ) (budget : ℕ) (same
   pub answers_explained : (t : Tree LocalState) (e : Ended) (status : ℕ) (text : List ℕ) → t ≡ meaning_of program bytes budget → e ≡ reference_of program bytes budget
       → status ≡ status_of_outcome e.outcome → text ≡ report source.names e ++ reasons_of e.outcome t → AnswersRun ByFirstEvents report_with_reasons run_so (record { status = status; text = text })
   unfolding report_with_reasons
-  answers_explained t e status text is told code written =
+  answers_explained t e status text is named_is code written =
       let whole = written ∙ ap (λ (u : Tree LocalState). report source.names e ++ reasons_of e.outcome u) (tree_was t is) in
-      (e, meaning_end run_so e (reference_is source program input bytes budget e same read told), (λ i. record { status = code i; text = whole i }))
+      (e, meaning_end run_so e (reference_is source program input bytes budget e same read named_is), (λ i. record { status = code i; text = whole i }))

@@ -1,14 +1,11 @@
 -- The units of functions stand at the numbers of their functions, and what is lifted out of them behind them all: so the count of the former is that of the functions.
-use Rattle.std.proofs.Common.{ℕ, ◌+◌, ◌<◌, ◌≤◌, ◌≡◌, ◌∙◌, Bool, List, [], ◌∷◌, ◌++◌, Option, None, Some, Result, Ok, Err, length, map, eq-eqb, ne_eqb, refl, sym, ap, subst, arith, if◌then◌else◌}
+use Rattle.std.proofs.Common.{ℕ, ◌+◌, ◌<◌, ◌≤◌, ◌≡◌, ◌∙◌, Bool, List, [], ◌∷◌, ◌++◌, Option, None, Some, Result, Ok, Err, length, eq-eqb, ne_eqb, refl, sym, ap, arith, if◌then◌else◌}
 use Rattle.shim_syntax.specs.Names.{Texts, with_functions}
 use Rattle.shim_syntax.specs.declared.Function.{Function}
 use Rattle.shim_syntax.specs.declared.Program.{Program}
 use Rattle.shim_scopes.specs.declared.form.Form.{Form as Resolved}
 use Rattle.shim_scopes.specs.declared.tree.RFunction.{RFunction}
-use Rattle.shim_scopes.specs.declared.tree.RStmt.{RStmt, RStmt-F, fold-roll-RStmt, ind-RStmt, map-RStmt, roll-RStmt}
-use Rattle.shim_scopes.specs.declared.tree.RWhat.{RWhat, RWhat-F, fold-roll-RWhat, map-RWhat, roll-RWhat}
-use Rattle.shim_scopes.specs.declared.tree.RBranch.{RBranch, RBranch-F, fold-roll-RBranch, map-RBranch, roll-RBranch}
-use Rattle.shim_scopes.specs.declared.tree.RBranchWhat.{RBranchWhat, RBranchWhat-F, fold-roll-RBranchWhat, map-RBranchWhat, roll-RBranchWhat}
+use Rattle.shim_scopes.specs.declared.tree.RStmt.{RStmt}
 use Rattle.shim_scopes.specs.Functions.{bind_function, bind_functions, bind_program, main_of}
 use Rattle.shim_scopes.specs.Refusals.{Refusal}
 use Rattle.shim_scopes.specs.Statements.{Whole}
@@ -16,17 +13,11 @@ use Rattle.shim_scopes.proofs.Refusals.{first_ok}
 use Rattle.shim_units.specs.declared.form.Form.{Form}
 use Rattle.shim_units.specs.declared.slot_map.SlotMap.{SlotMap}
 use Rattle.shim_units.specs.declared.unit.Unit.{Unit as UnitOf}
-use Rattle.shim_units.specs.declared.unit.UBranch.{UBranch}
-use Rattle.shim_units.specs.declared.unit.UCall.{UCall}
-use Rattle.shim_units.specs.declared.unit.UStmt.{UStmt}
-use Rattle.shim_units.specs.declared.unit.UWhat.{UWhat}
-use Rattle.shim_units.specs.declared.unit.UWhat.TheVariants.{If, For, Try}
-use Rattle.shim_units.specs.Moving.{slot_index_of, slot_index_of_option, renumbered, moved_option}
-use Rattle.shim_units.specs.Parts.{LiftContext, Part, Lifts}
-use Rattle.shim_units.specs.Lifting.{branch_inner, lift_all, lift_branch, lift_three, lift_two}
-use Rattle.shim_units.specs.PartFold.{branch_what_step, what_step, branch_step, stmt_step, part, parts, branch_part, branch_parts, lift_in}
+use Rattle.shim_units.specs.Parts.{LiftContext, Lifts}
+use Rattle.shim_units.specs.Lifting.{branch_inner}
+use Rattle.shim_units.specs.PartFold.{lift_in}
 use Rattle.shim_units.specs.Units.{lift_function, lift_functions, lifted}
-use Rattle.shim_units.proofs.PartSteps.{branch_what_part, what_part}
+use Rattle.shim_units.proofs.LiftInduction.{body_holds}
 use Rattle.shim_sharing.specs.declared.ShareFault.{ShareFault}
 use Rattle.shim_sharing.specs.Accepting.{unless_refused}
 use Rattle.shim_sharing.specs.Refusals.{refusal}
@@ -46,130 +37,11 @@ are_both n (u ∷ us) vs h k = (h.0, are_both n us vs h.1 k)
 abbrev StaysIn : {T : Type 0} → Lifts T → Type 0
 StaysIn f = (context : LiftContext) (w : SlotMap) (n : ℕ) → AreOf context.number (f context w n).units
 
-two : {R S T : Type 0} (g : SlotMap → R → S → T) (f : Lifts R) (h : Lifts S) → StaysIn f → StaysIn h → StaysIn (λ context w n. lift_two (g w) f h context w n)
-two g f h a b context w n = let p = f context w n in are_both context.number p.units (h context w (n + length p.units)).units (a context w n) (b context w (n + length p.units))
-
-three : {Q R S T : Type 0} (g : SlotMap → Q → R → S → T) (e : Lifts Q) (f : Lifts R) (h : Lifts S) → StaysIn e → StaysIn f → StaysIn h → StaysIn (λ context w n. lift_three (g w) e f h context w n)
-three g e f h a b c context w n =
-    let p = e context w n in
-    let m : ℕ = n + length p.units in
-    let q = f context w m in
-    let k : ℕ = m + length q.units in
-    let s = h context w k in
-    are_both context.number p.units (q.units ++ s.units) (a context w n) (are_both context.number q.units s.units (b context w m) (c context w k))
-
-block_branch : (body : List (Part UStmt)) → StaysIn (lift_all body) → StaysIn (lift_branch body)
-block_branch body h context w n = (refl, h context (branch_inner context body w) (n + 1))
-
-abbrev BranchWhatStays : RBranchWhat → Type 0
-BranchWhatStays x = (line : ℕ) → StaysIn (branch_what_part x line).lift
-
-abbrev WhatStays : RWhat → Type 0
-WhatStays x = (line : ℕ) → StaysIn (what_part x line).lift
-
-abbrev BranchStays : RBranch → Type 0
-BranchStays b = StaysIn (branch_part b).lift
-
-abbrev StmtStays : RStmt → Type 0
-StmtStays s = StaysIn (part s).lift
-
-abbrev StayingBranchWhat : Type 0
-StayingBranchWhat = (x : RBranchWhat) × BranchWhatStays x
-
-abbrev StayingWhat : Type 0
-StayingWhat = (x : RWhat) × WhatStays x
-
-abbrev StayingBranch : Type 0
-StayingBranch = (b : RBranch) × BranchStays b
-
-abbrev StayingStmt : Type 0
-StayingStmt = (s : RStmt) × StmtStays s
-
-abbrev stmts : List StayingStmt → List RStmt
-stmts ys = map (λ (e : StayingStmt). e.0) ys
-
-abbrev branches : List StayingBranch → List RBranch
-branches ys = map (λ (e : StayingBranch). e.0) ys
-
-more_parts : (p : Part UStmt) (ps : List (Part UStmt)) → StaysIn p.lift → StaysIn (lift_all ps) → StaysIn (lift_all (p ∷ ps))
-more_parts p ps one rest context w n = let r = p.lift context w n in are_both context.number r.units (lift_all ps context w (n + length r.units)).units (one context w n) (rest context w (n + length r.units))
-
-stmts_stay : (ys : List StayingStmt) → StaysIn (lift_all (parts (stmts ys)))
-stmts_stay [] = λ context w n. tt
-stmts_stay (y ∷ ys) = more_parts (part y.0) (parts (stmts ys)) y.1 (stmts_stay ys)
-
-more_branches : (p : Part UBranch) (ps : List (Part UBranch)) → StaysIn p.lift → StaysIn (lift_all ps) → StaysIn (lift_all (p ∷ ps))
-more_branches p ps one rest context w n = let r = p.lift context w n in are_both context.number r.units (lift_all ps context w (n + length r.units)).units (one context w n) (rest context w (n + length r.units))
-
-branches_stay : (ys : List StayingBranch) → StaysIn (lift_all (branch_parts (branches ys)))
-branches_stay [] = λ context w n. tt
-branches_stay (y ∷ ys) = more_branches (branch_part y.0) (branch_parts (branches ys)) y.1 (branches_stay ys)
-
-abbrev branch_what_of : RBranchWhat-F StayingBranchWhat StayingWhat StayingBranch StayingStmt → RBranchWhat-F RBranchWhat RWhat RBranch RStmt
-branch_what_of y = map-RBranchWhat StayingBranchWhat StayingWhat StayingBranch StayingStmt RBranchWhat RWhat RBranch RStmt (λ e. e.0) (λ e. e.0) (λ e. e.0) (λ e. e.0) y
-
-abbrev what_of : RWhat-F StayingBranchWhat StayingWhat StayingBranch StayingStmt → RWhat-F RBranchWhat RWhat RBranch RStmt
-what_of y = map-RWhat StayingBranchWhat StayingWhat StayingBranch StayingStmt RBranchWhat RWhat RBranch RStmt (λ e. e.0) (λ e. e.0) (λ e. e.0) (λ e. e.0) y
-
-abbrev branch_of : RBranch-F StayingBranchWhat StayingWhat StayingBranch StayingStmt → RBranch-F RBranchWhat RWhat RBranch RStmt
-branch_of y = map-RBranch StayingBranchWhat StayingWhat StayingBranch StayingStmt RBranchWhat RWhat RBranch RStmt (λ e. e.0) (λ e. e.0) (λ e. e.0) (λ e. e.0) y
-
-abbrev stmt_of : RStmt-F StayingBranchWhat StayingWhat StayingBranch StayingStmt → RStmt-F RBranchWhat RWhat RBranch RStmt
-stmt_of y = map-RStmt StayingBranchWhat StayingWhat StayingBranch StayingStmt RBranchWhat RWhat RBranch RStmt (λ e. e.0) (λ e. e.0) (λ e. e.0) (λ e. e.0) y
-
-branch_what_layer : (y : RBranchWhat-F StayingBranchWhat StayingWhat StayingBranch StayingStmt) (line : ℕ)
-    → StaysIn (branch_what_step (map-RBranchWhat RBranchWhat RWhat RBranch RStmt (ℕ → Part UCall) (ℕ → Part UWhat) (Part UBranch) (Part UStmt) branch_what_part what_part branch_part part (branch_what_of y)) line).lift
-branch_what_layer (RBranchWhat-F.RBranchWhat::Block body) line = block_branch (parts (stmts body)) (stmts_stay body)
-branch_what_layer (RBranchWhat-F.RBranchWhat::Call c) line = λ context w n. tt
-
-what_layer : (y : RWhat-F StayingBranchWhat StayingWhat StayingBranch StayingStmt) (line : ℕ)
-    → StaysIn (what_step (map-RWhat RBranchWhat RWhat RBranch RStmt (ℕ → Part UCall) (ℕ → Part UWhat) (Part UBranch) (Part UStmt) branch_what_part what_part branch_part part (what_of y)) line).lift
-what_layer (RWhat-F.Declare ty x a) line = λ context w n. tt
-what_layer (RWhat-F.Assign x a) line = λ context w n. tt
-what_layer (RWhat-F.Next x) line = λ context w n. tt
-what_layer (RWhat-F.NextAssign x a) line = λ context w n. tt
-what_layer (RWhat-F.AssignNext x y) line = λ context w n. tt
-what_layer (RWhat-F.Get x y) line = λ context w n. tt
-what_layer (RWhat-F.Put x a) line = λ context w n. tt
-what_layer (RWhat-F.If a first other) line =
-    two (λ w r s. If (renumbered w.slots a) r s) (lift_all (parts (stmts first))) (lift_all (parts (stmts other))) (stmts_stay first) (stmts_stay other)
-what_layer (RWhat-F.While a body) line = λ context w n. stmts_stay body context w n
-what_layer (RWhat-F.For first test step body) line =
-    three (λ w p r s. For p (moved_option w.slots test) r s) (lift_all (parts (stmts first))) (lift_all (parts (stmts step))) (lift_all (parts (stmts body))) (stmts_stay first) (stmts_stay step) (stmts_stay body)
-what_layer (RWhat-F.RWhat::Block body) line = λ context w n. stmts_stay body context w n
-what_layer (RWhat-F.RWhat::Call c) line = λ context w n. tt
-what_layer (RWhat-F.Try body x y handler) line =
-    two (λ w r s. Try r (slot_index_of w.exceptions x) (slot_index_of_option w.slots y) s) (lift_all (parts (stmts body))) (lift_all (parts (stmts handler))) (stmts_stay body) (stmts_stay handler)
-what_layer (RWhat-F.Throw x a) line = λ context w n. tt
-what_layer (RWhat-F.Par bs) line = λ context w n. branches_stay bs context w n
-
-branch_what_case : (x : RBranchWhat-F RBranchWhat RWhat RBranch RStmt) (y : RBranchWhat-F StayingBranchWhat StayingWhat StayingBranch StayingStmt) → branch_what_of y ≡ x → BranchWhatStays (roll-RBranchWhat x)
-branch_what_case x y is = subst (λ z. BranchWhatStays (roll-RBranchWhat z)) is
-    (subst (λ (q : ℕ → Part UCall). (line : ℕ) → StaysIn (q line).lift)
-    (sym (fold-roll-RBranchWhat (ℕ → Part UCall) (ℕ → Part UWhat) (Part UBranch) (Part UStmt) branch_what_step what_step branch_step stmt_step (branch_what_of y))) (branch_what_layer y))
-
-what_case : (x : RWhat-F RBranchWhat RWhat RBranch RStmt) (y : RWhat-F StayingBranchWhat StayingWhat StayingBranch StayingStmt) → what_of y ≡ x → WhatStays (roll-RWhat x)
-what_case x y is = subst (λ z. WhatStays (roll-RWhat z)) is
-    (subst (λ (q : ℕ → Part UWhat). (line : ℕ) → StaysIn (q line).lift)
-    (sym (fold-roll-RWhat (ℕ → Part UCall) (ℕ → Part UWhat) (Part UBranch) (Part UStmt) branch_what_step what_step branch_step stmt_step (what_of y))) (what_layer y))
-
-branch_case : (x : RBranch-F RBranchWhat RWhat RBranch RStmt) (y : RBranch-F StayingBranchWhat StayingWhat StayingBranch StayingStmt) → branch_of y ≡ x → BranchStays (roll-RBranch x)
-branch_case x y is = subst (λ z. BranchStays (roll-RBranch z)) is
-    (subst (λ (q : Part UBranch). StaysIn q.lift)
-    (sym (fold-roll-RBranch (ℕ → Part UCall) (ℕ → Part UWhat) (Part UBranch) (Part UStmt) branch_what_step what_step branch_step stmt_step (branch_of y))) (λ context w n. y.what.1 y.line context w n))
-
-stmt_case : (x : RStmt-F RBranchWhat RWhat RBranch RStmt) (y : RStmt-F StayingBranchWhat StayingWhat StayingBranch StayingStmt) → stmt_of y ≡ x → StmtStays (roll-RStmt x)
-stmt_case x y is = subst (λ z. StmtStays (roll-RStmt z)) is
-    (subst (λ (q : Part UStmt). StaysIn q.lift)
-    (sym (fold-roll-RStmt (ℕ → Part UCall) (ℕ → Part UWhat) (Part UBranch) (Part UStmt) branch_what_step what_step branch_step stmt_step (stmt_of y))) (λ context w n. y.what.1 y.line context w n))
-
-stmt_stays : (s : RStmt) → StmtStays s
-stmt_stays = ind-RStmt BranchWhatStays WhatStays BranchStays StmtStays branch_what_case what_case branch_case stmt_case
-
 -- so is the text of a function
 body_stays : (body : List RStmt) → StaysIn (lift_in body)
-body_stays [] = λ context w n. tt
-body_stays (s ∷ body) = more_parts (part s) (parts body) (stmt_stays s) (body_stays body)
+body_stays = body_holds (λ T f. StaysIn f) (λ T f context w n. tt) (λ S T g f h. h)
+    (λ R S T g f h a b context w n. let p = f context w n in are_both context.number p.units (h context w (n + length p.units)).units (a context w n) (b context w (n + length p.units)))
+    (λ body h context w n. (refl, h context (branch_inner context body w) (n + 1)))
 
 -- all of these units belong to functions below this number
 abbrev AreBelow : ℕ → List UnitOf → Type 0

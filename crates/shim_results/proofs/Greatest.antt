@@ -1,4 +1,4 @@
--- What the greatest of several statuses tells of the meanings that have them.
+-- What the greatest of several statuses says of the meanings that have them.
 use Rattle.std.proofs.Common.{◌≡◌, ◌≤◌, ◌<◌, ◌⊎◌, ◌↔◌, ℕ, zero, suc, max, List, [], ◌∷◌, map, length, slice_index_or, All, Any, inl, inr, refl, sym, ◌∙◌, subst, arith}
 use Rattle.std.proofs.lemmas.List.Elements.{All-cons, All-head, All-nil, All-tail, All-weaker}
 use Rattle.shim_process.specs.OwnSlots.{UsesOwnSlots}

@@ -58,8 +58,8 @@ line_of_fault bytes fault h line (inl (program, is, r, refused, same)) = absurd 
 line_of_fault bytes fault h line (inr (other, is, same)) = same ∙ ap (λ (f : ParseFault). refusal_text (Parse f)) (h.only other is)
 
 pub outcome : (action : SourceAction) (as_run : Source → Execution) (bytes : List ℕ) (answer : Answer) → AnswersSource action as_run bytes answer → Outcome action as_run bytes answer
-outcome action as_run bytes answer (inl (program, text, inl (source, units, told))) =
-    does source (record { program = program; text = text.text; units = units }) told (λ other is_other. (one_source bytes program source text units other is_other, text.only is_other.program is_other.text)) (never_refused bytes program source text units)
+outcome action as_run bytes answer (inl (program, text, inl (source, units, has_done))) =
+    does source (record { program = program; text = text.text; units = units }) has_done (λ other is_other. (one_source bytes program source text units other is_other, text.only is_other.program is_other.text)) (never_refused bytes program source text units)
 outcome action as_run bytes answer (inl (program, text, inr (r, refused, is))) =
     refuses (refusal_text r) (inl (program, text.text, r, refused, refl)) (line_of_refused bytes program r text refused) (no_acceptance bytes program r text refused) is
 outcome action as_run bytes answer (inr (fault, h, is)) =

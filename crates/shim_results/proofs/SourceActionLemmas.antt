@@ -1,4 +1,4 @@
--- What comes of a source that is accepted, in one go: how its action ended, with what is told; that its journal is refused; or that it was run on several inputs.
+-- What comes of a source that is accepted, in one go: how its action ended, with what is printed; that its journal is refused; or that it was run on several inputs.
 use Rattle.std.proofs.Common.{◌≡◌, ◌<◌, ◌⊎◌, ℕ, List, inl, inr, refl, sym, ap, ◌∙◌, subst, arith}
 use Rattle.shim_command.specs.declared.mode.Course.{Course}
 use Rattle.shim_command.specs.declared.mode.Course.TheVariants.{InSomeOrder}
@@ -13,12 +13,12 @@ use Rattle.shim_process.proofs.PlaceRoot.{root_sound}
 use Rattle.shim_semantics.specs.Trees.{Tree}
 use Rattle.shim_laws_replay.specs.Ends.{AgreesWithMeaning}
 use Rattle.shim_laws_replay.specs.Journals.{Entry}
-use Rattle.shim_laws_replay.specs.Told.{IsToldAs}
+use Rattle.shim_laws_replay.specs.ReadOff.{IsReadOffAs}
 use Rattle.shim_laws_journals.specs.Accepting.{JournalRefusal}
-use Rattle.shim_laws_journals.proofs.Accepting.{accepted_is_told, not_both, one_refusal}
+use Rattle.shim_laws_journals.proofs.Accepting.{accepted_is_read_off, not_both, one_refusal}
 use Rattle.shim_reference.proofs.RootChannels.{main_shares_its_own}
 use Rattle.shim_results.specs.RunEnds.{Execution, end_of, printed_steps, read_off, report_of, status_of, status_of_outcome, tree_of, IsBeginning, IsEnd, IsEndStatus, IsReachedIn, IsStoppedAt, IsStoppedEnd, as_meant, stopped}
-use Rattle.shim_results.specs.Recorded.{IsJournalOf, IsJournalRefused, IsNoJournal, IsNoRun, IsOnlyJournal, IsRunTo, execution_within, malformed_line, refusal_line}
+use Rattle.shim_results.specs.Recorded.{IsJournalOf, IsJournalRefused, IsNoJournal, IsNoRun, IsRecordOf, IsOnlyJournal, IsRunTo, execution_within, malformed_line, refusal_line}
 use Rattle.shim_results.specs.SourceActions.{SourceAction, runs, describes, records, replays, runs_each}
 use Rattle.shim_results.specs.Answer.{Answer, AnswersEach, AnswersProgram, AnswersRecord, AnswersReplay, AnswersRun, journal_refused, reported}
 use Rattle.shim_results.specs.SourceActionEnds.{EndsBy, IsReached, IsRefusedBy, IsRunBy, IsShown, IsShownAt, IsStoppedBy, IsTextBy, status_by}
@@ -29,7 +29,7 @@ use Rattle.shim_results.proofs.TreeEnds.{end_is, tree_end, rested_there, stopped
 use Rattle.shim_results.proofs.Reached.{is_reached, is_reached_whole}
 use Rattle.shim_results.proofs.Statuses.{end_below, end_not_two, end_status, greatest_end}
 
--- what is told of an execution that is stopped
+-- what is printed of an execution that is stopped
 pub record StoppedPrinted (action : SourceAction) (x : Execution) (text : List ℕ) : Type 0 where
   pub tree : Tree LocalState
   pub at : IsStoppedAt x tree
@@ -38,7 +38,7 @@ pub record StoppedPrinted (action : SourceAction) (x : Execution) (text : List �
   pub shown : IsShown action x (read_off x tree) text
   pub shown_there : IsShownAt action x tree text
 
--- what is told of an execution
+-- what is printed of an execution
 pub record ActionPrinted (action : SourceAction) (program : Program) (x : Execution) (answer : Answer) : Type 0 where
   pub status : answer.status ≡ status_by action x
   pub whole : (status_by action x ≡ 4 → ⊥) → IsTextBy action program x answer.text
@@ -47,7 +47,7 @@ pub record ActionPrinted (action : SourceAction) (program : Program) (x : Execut
 -- a source is run once on each of several inputs
 abbrev pub IsMany : SourceAction → Type 0
 IsMany (runs course shown) = ⊥
-IsMany (describes told) = ⊥
+IsMany (describes relation) = ⊥
 IsMany records = ⊥
 IsMany (replays journal) = ⊥
 IsMany (runs_each names inputs) = Unit {0}
@@ -79,29 +79,29 @@ printed_run course shown program x answer own (e, end, is) = record {
       let text : answer.text ≡ shown x (read_off x s.0) = ap (λ (a : Answer). a.text) is ∙ ap (λ (y : Ended). shown x y) s.3 in
       record { tree = s.0; at = s.1; begins = s.2; may = subst (λ (y : Ended). IsStoppedEnd course x y) s.3 may; shown = text; shown_there = text }
 
--- a run that a journal tells of ends as the meaning does
+-- a run that a journal leads ends as the meaning does
 module _ (x : Execution) (es : List Entry) (t : Tree LocalState) (own : UsesOwnSlots x.source) (run : IsRunTo x es t) where
-  agrees_told : AgreesWithMeaning process_ops (root x.source x.input) x.budget t × IsToldAs process_ops (root x.source x.input) x.budget t
-  agrees_told =
-      let h = accepted_is_told process_ops process_laws (root x.source x.input) x.budget es t (root_sound x.source x.input own) (main_shares_its_own (root x.source x.input) x.source x.input refl) run in
+  agrees_read_off : AgreesWithMeaning process_ops (root x.source x.input) x.budget t × IsReadOffAs process_ops (root x.source x.input) x.budget t
+  agrees_read_off =
+      let h = accepted_is_read_off process_ops process_laws (root x.source x.input) x.budget es t (root_sound x.source x.input own) (main_shares_its_own (root x.source x.input) x.source x.input refl) run in
       (h.1, h.2)
 
   run_status : status_of_outcome (read_off x t).outcome ≡ status_of x
-  run_status = end_status InSomeOrder x (read_off x t) (tree_end x t own agrees_told.0 agrees_told.1)
+  run_status = end_status InSomeOrder x (read_off x t) (tree_end x t own agrees_read_off.0 agrees_read_off.1)
 
   run_rests : (status_of x ≡ 4 → ⊥) → t ≡ tree_of x
-  run_rests whole = rested_there x t own agrees_told.0 agrees_told.1 whole
+  run_rests whole = rested_there x t own agrees_read_off.0 agrees_read_off.1 whole
 
   run_stops : status_of x ≡ 4 → IsStoppedAt x t
-  run_stops four = stopped_there x t own agrees_told.0 agrees_told.1 four
+  run_stops four = stopped_there x t own agrees_read_off.0 agrees_read_off.1 four
 
 printed_record : (program : Program) (x : Execution) (answer : Answer) → UsesOwnSlots x.source → AnswersRecord x answer → ActionPrinted records program x answer
-printed_record program x answer own (t, (es, text, run), is) = record {
+printed_record program x answer own (t, (es, text, run, apart), is) = record {
   status = is ∙ run_status x es t own run;
-  whole = λ whole. subst (λ (u : Tree LocalState). IsJournalOf x u answer.text) (run_rests x es t own run whole) (es, text, run);
+  whole = λ whole. subst (λ (u : Tree LocalState). IsRecordOf x u answer.text) (run_rests x es t own run whole) (es, text, run, apart);
   part = λ four.
       let at = run_stops x es t own run four in
-      record { tree = t; at = at; begins = begins_by x t own at.reached; may = (t, at, refl); shown = (t, at, refl, (es, text, run)); shown_there = (es, text, run) };
+      record { tree = t; at = at; begins = begins_by x t own at.reached; may = (t, at, refl); shown = (t, at, refl, (es, text, run, apart)); shown_there = (es, text, run, apart) };
 }
 
 -- what is read off the tree of the meaning
@@ -115,14 +115,14 @@ printed_replay journal program x t answer own (es, text, run) is = record {
   whole = λ whole.
       let same = run_rests x es t own run whole in (
         subst (λ (u : Tree LocalState). IsJournalOf x u journal) same (es, text, run),
-        told ∙ ap (λ (u : Tree LocalState). report_of x.source (read_off x u)) same ∙ ap (report_of x.source) (meaning_read x),
+        text_is ∙ ap (λ (u : Tree LocalState). report_of x.source (read_off x u)) same ∙ ap (report_of x.source) (meaning_read x),
       );
   part = λ four.
       let at = run_stops x es t own run four in
-      record { tree = t; at = at; begins = begins_by x t own at.reached; may = (t, at, refl); shown = (t, at, refl, (es, text, run), told); shown_there = ((es, text, run), told) };
+      record { tree = t; at = at; begins = begins_by x t own at.reached; may = (t, at, refl); shown = (t, at, refl, (es, text, run), text_is); shown_there = ((es, text, run), text_is) };
 } where
-  told : answer.text ≡ report_of x.source (read_off x t)
-  told = ap (λ (a : Answer). a.text) is
+  text_is : answer.text ≡ report_of x.source (read_off x t)
+  text_is = ap (λ (a : Answer). a.text) is
 
 -- ---- a journal that is replayed
 
@@ -178,20 +178,20 @@ replay_outcome journal program asked answer own (inl (b, es, only, inr (r, why, 
 replay_outcome journal program asked answer own (inr (n, bad, is)) =
     stays (malformed_line n) (inl (n, bad.faulty, refl)) (one_malformed asked journal n bad) (none_malformed asked journal n bad) is
 
--- the statuses of all runs give one that tells of runs
+-- the statuses of all runs give a status of runs
 each_outcome : (names inputs : List (List ℕ)) (program : Program) (asked : Execution) (answer : Answer) → AnswersEach names asked inputs answer → ActionOutcome (runs_each names inputs) program asked answer
 each_outcome names inputs program asked answer (named, es, ran, is) = many tt (subst IsEndStatus (sym (ap (λ (a : Answer). a.status) is)) (greatest_end es)) (λ y no. no) (λ line no. no)
 
 pub action_outcome : (action : SourceAction) (program : Program) (asked : Execution) (answer : Answer) → UsesOwnSlots asked.source → AnswersProgram action program asked answer → ActionOutcome action program asked answer
 action_outcome (runs course shown) program asked answer own done = ends asked own refl (λ y is. sym is) (λ line h. h) (printed_run course shown program asked answer own done)
-action_outcome (describes told) program asked answer own done = ends asked own refl (λ y is. sym is) (λ line h. h) (record { status = done.0; whole = λ _. done.1; part = λ four. absurd (omega (arith, four)) })
+action_outcome (describes relation) program asked answer own done = ends asked own refl (λ y is. sym is) (λ line h. h) (record { status = done.0; whole = λ _. done.1; part = λ four. absurd (omega (arith, four)) })
 action_outcome records program asked answer own done = ends asked own refl (λ y is. sym is) (λ line h. h) (printed_record program asked answer own done)
 action_outcome (replays journal) program asked answer own done = replay_outcome journal program asked answer own done
 action_outcome (runs_each names inputs) program asked answer own done = each_outcome names inputs program asked answer done
 
--- what is told of the execution that is done is told of this one
+-- what is printed of the execution that is done is printed of this one
 pub action_printed : (action : SourceAction) (program : Program) (asked : Execution) (answer : Answer) → ActionOutcome action program asked answer → (x : Execution) → IsRunBy action asked x → UsesOwnSlots x.source × ActionPrinted action program x answer
-action_printed action program asked answer (ends y own done only free told) x is = subst (λ (z : Execution). UsesOwnSlots z.source × ActionPrinted action program z answer) (only x is) (own, told)
+action_printed action program asked answer (ends y own done only free as_printed) x is = subst (λ (z : Execution). UsesOwnSlots z.source × ActionPrinted action program z answer) (only x is) (own, as_printed)
 action_printed action program asked answer (stays line why only none refused) x is = absurd (none x is)
 action_printed action program asked answer (many several few none free) x is = absurd (none x is)
 
@@ -199,14 +199,14 @@ action_printed action program asked answer (many several few none free) x is = a
 
 pub action_below : (action : SourceAction) (x : Execution) → status_by action x < 5
 action_below (runs course shown) x = end_below (end_of x).outcome
-action_below (describes told) x = omega arith
+action_below (describes relation) x = omega arith
 action_below records x = end_below (end_of x).outcome
 action_below (replays journal) x = end_below (end_of x).outcome
 action_below (runs_each names inputs) x = omega arith
 
 action_not_two : (action : SourceAction) (x : Execution) → status_by action x ≡ 2 → ⊥
 action_not_two (runs course shown) x e = end_not_two (end_of x).outcome e
-action_not_two (describes told) x e = omega (arith, e)
+action_not_two (describes relation) x e = omega (arith, e)
 action_not_two records x e = end_not_two (end_of x).outcome e
 action_not_two (replays journal) x e = end_not_two (end_of x).outcome e
 action_not_two (runs_each names inputs) x e = omega (arith, e)
@@ -217,39 +217,39 @@ pub record IsActionStatus (status : ℕ) : Type 0 where
   pub apart : status ≡ 2 → ⊥
 
 pub action_status : (action : SourceAction) (program : Program) (asked : Execution) (answer : Answer) → ActionOutcome action program asked answer → IsActionStatus answer.status
-action_status action program asked answer (ends x own done only free told) =
-    record { few = inl (let h = action_below action x in let s = told.status in omega (arith, h, s)); apart = λ two. action_not_two action x (sym told.status ∙ two) }
+action_status action program asked answer (ends x own done only free as_printed) =
+    record { few = inl (let h = action_below action x in let s = as_printed.status in omega (arith, h, s)); apart = λ two. action_not_two action x (sym as_printed.status ∙ two) }
 action_status action program asked answer (stays line why only none is) =
     let nine : answer.status ≡ 9 = ap (λ (a : Answer). a.status) is in
     record { few = inr nine; apart = λ two. omega (arith, nine, two) }
 action_status action program asked answer (many several status none free) = record { few = inl status.0; apart = status.1 }
 
--- ---- what a status tells of the meaning
+-- ---- what a status says of the meaning
 
 pub ends_by : (status : ℕ) (Cause : Execution → Type 0) → DecidesCause status Cause → (action : SourceAction) (asked x : Execution) → IsRunBy action asked x → UsesOwnSlots x.source → status_by action x ≡ status → EndsBy status Cause action x
 ends_by status Cause tell (runs course shown) asked x run own e = tell.only x own e
-ends_by status Cause tell (describes told) asked x run own e = sym e
+ends_by status Cause tell (describes relation) asked x run own e = sym e
 ends_by status Cause tell records asked x run own e = tell.only x own e
 ends_by status Cause tell (replays journal) asked x run own e = tell.only x own e
 ends_by status Cause tell (runs_each names inputs) asked x run own e = absurd run
 
 pub status_is : (status : ℕ) (Cause : Execution → Type 0) → DecidesCause status Cause → (action : SourceAction) (x : Execution) → UsesOwnSlots x.source → EndsBy status Cause action x → status_by action x ≡ status
 status_is status Cause tell (runs course shown) x own cause = tell.when x own cause
-status_is status Cause tell (describes told) x own cause = sym cause
+status_is status Cause tell (describes relation) x own cause = sym cause
 status_is status Cause tell records x own cause = tell.when x own cause
 status_is status Cause tell (replays journal) x own cause = tell.when x own cause
 status_is status Cause tell (runs_each names inputs) x own cause = absurd cause
 
 pub action_reached : (action : SourceAction) (asked x : Execution) → IsRunBy action asked x → IsReached action x
 action_reached (runs course shown) asked x run = is_reached x
-action_reached (describes told) asked x run = tt
+action_reached (describes relation) asked x run = tt
 action_reached records asked x run = is_reached x
 action_reached (replays journal) asked x run = is_reached x
 action_reached (runs_each names inputs) asked x run = absurd run
 
 pub action_spent : (action : SourceAction) (x : Execution) → UsesOwnSlots x.source → status_by action x ≡ 4 → IsReachedIn x.budget x
 action_spent (runs course shown) x own four = is_reached_whole x own four
-action_spent (describes told) x own four = absurd (omega (arith, four))
+action_spent (describes relation) x own four = absurd (omega (arith, four))
 action_spent records x own four = is_reached_whole x own four
 action_spent (replays journal) x own four = is_reached_whole x own four
 action_spent (runs_each names inputs) x own four = absurd (omega (arith, four))

@@ -1,4 +1,4 @@
--- The statuses that tell how runs ended: that of one, and the greatest of several.
+-- The statuses for how runs ended: that of one, and the greatest of several.
 use Rattle.std.proofs.Common.{◌≡◌, ◌<◌, ℕ, max, List, [], ◌∷◌, map, refl, sym, ap, ◌∙◌, arith}
 use Rattle.std.specs.List.{AllZip}
 use Rattle.shim_command.specs.declared.mode.Course.{Course}
@@ -14,7 +14,7 @@ pub end_status : (course : Course) (x : Execution) (e : Ended) → IsEnd course 
 end_status course x e (as_meant apart same) = ap (λ (y : Ended). status_of_outcome y.outcome) same
 end_status course x e (stopped four may so) = so ∙ sym four
 
--- the end of a run is told by a status below 5
+-- the end of a run has a status below 5
 pub end_below : (o : End) → status_of_outcome o < 5
 end_below Done = omega arith
 end_below (Uncaught i) = omega arith

@@ -11,7 +11,7 @@ use Rattle.shim_semantics.specs.Endings.{ended}
 use Rattle.shim_semantics.specs.Trees.{Tree, start, IsQuiescent}
 use Rattle.shim_semantics.specs.Walks.{meaning}
 use Rattle.shim_laws_replay.specs.Ends.{AgreesWithMeaning}
-use Rattle.shim_laws_replay.specs.Told.{IsToldAs}
+use Rattle.shim_laws_replay.specs.ReadOff.{IsReadOffAs}
 use Rattle.shim_reference.specs.Naming.{named}
 use Rattle.shim_reference.specs.Reference.{meaning_of, reference_of}
 use Rattle.shim_results.specs.RunEnds.{Execution, tree_of, end_of, read_off, status_of, status_of_outcome, IsEnd, IsStoppedAt, as_meant, stopped}
@@ -42,21 +42,21 @@ status_is : (x : Execution) → status_of x ≡ status_of_outcome (ended process
 status_is x = ap (λ (e : Ended). status_of_outcome e.outcome) (end_is x) ∙ status_named x.source.main_throws (ended process_ops (meant x)).outcome
 
 -- a tree at which a schedule has ended, where the meaning is stopped
-module _ (x : Execution) (t : Tree LocalState) (own : UsesOwnSlots x.source) (agrees : AgreesWithMeaning process_ops (root x.source x.input) x.budget t) (told : IsToldAs process_ops (root x.source x.input) x.budget t) where
+module _ (x : Execution) (t : Tree LocalState) (own : UsesOwnSlots x.source) (agrees : AgreesWithMeaning process_ops (root x.source x.input) x.budget t) (ends_agree : IsReadOffAs process_ops (root x.source x.input) x.budget t) where
   goes_on : status_of x ≡ 4 → IsQuiescent process_ops t → ⊥
   goes_on four q =
       let P : Tree LocalState → Type 0 = λ u. IsQuiescent process_ops u in
       decides_spent.only x own four (subst P (sym (tree_is x)) (agrees.alike.rests.0 q))
 
   spent_there : (ended process_ops t).outcome ≡ Spent → status_of x ≡ 4 → IsStoppedAt x t
-  spent_there here four = let whole = told.whole here in record { reached = whole.0; counted = whole.1; goes_on = goes_on four }
+  spent_there here four = let whole = ends_agree.whole here in record { reached = whole.0; counted = whole.1; goes_on = goes_on four }
 
   -- is one at which the run is stopped
   pub stopped_there : status_of x ≡ 4 → IsStoppedAt x t
   stopped_there four = by_outcome (spent_or_not (ended process_ops (meant x)).outcome)
     where
       by_outcome : ((ended process_ops (meant x)).outcome ≡ Spent) ⊎ (((ended process_ops (meant x)).outcome ≢ Spent) × (status_of_outcome (ended process_ops (meant x)).outcome ≢ 4)) → IsStoppedAt x t
-      by_outcome (inl spent) = spent_there (told.spent.1 spent) four
+      by_outcome (inl spent) = spent_there (ends_agree.spent.1 spent) four
       by_outcome (inr (other, apart)) = absurd (apart (sym (status_is x) ∙ four))
 
   -- and where it isn't, just the tree of the meaning
@@ -72,9 +72,9 @@ module _ (x : Execution) (t : Tree LocalState) (own : UsesOwnSlots x.source) (ag
       by_outcome : ((ended process_ops (meant x)).outcome ≡ Spent) ⊎ (((ended process_ops (meant x)).outcome ≢ Spent) × (status_of_outcome (ended process_ops (meant x)).outcome ≢ 4)) → IsEnd InSomeOrder x (read_off x t)
       by_outcome (inl spent) =
           let four : status_of x ≡ 4 = status_is x ∙ ap status_of_outcome spent in
-          let here = told.spent.1 spent in
+          let here = ends_agree.spent.1 spent in
           stopped four (t, spent_there here four, refl) (status_named x.source.main_throws (ended process_ops t).outcome ∙ ap status_of_outcome here)
-      by_outcome (inr (other, apart)) = as_meant (λ four. apart (sym (status_is x) ∙ four)) (ap (named x.source.main_throws) (told.same other) ∙ sym (end_is x))
+      by_outcome (inr (other, apart)) = as_meant (λ four. apart (sym (status_is x) ∙ four)) (ap (named x.source.main_throws) (ends_agree.same other) ∙ sym (end_is x))
 
 -- and the meaning is what a run by first events comes to
 pub meaning_end : (x : Execution) (e : Ended) → e ≡ end_of x → IsEnd ByFirstEvents x e

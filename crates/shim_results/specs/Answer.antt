@@ -20,7 +20,7 @@ use Rattle.shim_laws_replay.specs.Journals.{Entry}
 use Rattle.shim_laws_journals.specs.Accepting.{JournalRefusal}
 use Rattle.shim_results.specs.RunEnds.{Execution, read_off, report_of, status_of_outcome, IsEnd}
 use Rattle.shim_results.specs.Batches.{greatest, on_each, reports_of, statuses_of}
-use Rattle.shim_results.specs.Recorded.{IsJournalOf, IsNoJournal, IsNoRun, IsOnlyJournal, IsRunTo, execution_within, malformed_line, refusal_line}
+use Rattle.shim_results.specs.Recorded.{IsNoJournal, IsNoRun, IsOnlyJournal, IsRecordOf, IsRunTo, execution_within, malformed_line, refusal_line}
 use Rattle.shim_results.specs.SourceActions.{SourceAction, runs, describes, records, replays, runs_each, executed}
 
 -- a status and the text that goes with it
@@ -34,7 +34,7 @@ refused fault = record { status = 5; text = refusal_text fault }
 abbrev pub journal_refused : List ℕ → Answer
 journal_refused line = record { status = 9; text = line }
 
--- the report of what was read off a run of a source, with the status that tells how it ended
+-- the report of what was read off a run of a source, with the status for how it ended
 abbrev pub reported : Source → Ended → Answer
 reported source e = record { status = status_of_outcome e.outcome; text = report_of source e }
 
@@ -48,17 +48,17 @@ IsRefusal bytes line =
     ((program : Program) × IsText bytes program × (fault : SourceFault) × (checked program ≡ Err fault) × (line ≡ refusal_text fault))
     ⊎ ((fault : ParseFault) × IsFaultOf bytes fault × (line ≡ refusal_text (Parse fault)))
 
--- a run is answered with the status that tells how it ended, and with this text
+-- a run is answered with the status for how it ended, and with this text
 abbrev pub AnswersRun : Course → (Execution → Ended → List ℕ) → Execution → Answer → Type 0
 AnswersRun course shown x answer = (e : Ended) × IsEnd course x e × (answer ≡ record { status = status_of_outcome e.outcome; text = shown x e })
 
 -- a source that is described is answered with 0 and a text that has this relation to it
 abbrev pub AnswersDescription : (Program → Source → List ℕ → Type 0) → Program → Source → Answer → Type 0
-AnswersDescription told program source answer = (answer.status ≡ 0) × told program source answer.text
+AnswersDescription relation program source answer = (answer.status ≡ 0) × relation program source answer.text
 
--- a run whose journal is printed is answered with that, and with the status that tells how it ended
+-- a run whose journal is printed is answered with that, and with the status for how it ended
 abbrev pub AnswersRecord : Execution → Answer → Type 0
-AnswersRecord x answer = (t : Tree LocalState) × IsJournalOf x t answer.text × (answer.status ≡ status_of_outcome (read_off x t).outcome)
+AnswersRecord x answer = (t : Tree LocalState) × IsRecordOf x t answer.text × (answer.status ≡ status_of_outcome (read_off x t).outcome)
 
 -- Entries of a journal are answered with the report of the tree to which they lead, where they are a run of the execution that ends there, and else with the line of the first that isn't done.
 abbrev pub AnswersEntries : Execution → List Entry → Answer → Type 0
@@ -72,7 +72,7 @@ AnswersReplay source input journal answer =
     ((b : ℕ) × (es : List Entry) × IsOnlyJournal journal b es × AnswersEntries (execution_within source input b) es answer)
     ⊎ ((n : ℕ) × IsNoJournal journal n × (answer ≡ journal_refused (malformed_line n)))
 
--- Runs of one source on each of these inputs, of which there is one for each of these names, are answered with what they come to: the greatest of the statuses that tell how they ended, and their reports in order.
+-- Runs of one source on each of these inputs, of which there is one for each of these names, are answered with what they come to: the greatest of the statuses for how they ended, and their reports in order.
 abbrev pub AnswersEach : List (List ℕ) → Execution → List (List ℕ) → Answer → Type 0
 AnswersEach names x inputs answer =
     (length inputs ≡ length names) × (es : List Ended) × AllZip (IsEnd InSomeOrder) (on_each x inputs) es
@@ -81,7 +81,7 @@ AnswersEach names x inputs answer =
 -- an accepted program is answered with what is done with it: with what is read off its run, with a description of it, with the journal of its run, as a journal is, or with what is read off its runs on each input
 abbrev pub AnswersProgram : SourceAction → Program → Execution → Answer → Type 0
 AnswersProgram (runs course shown) program x answer = AnswersRun course shown x answer
-AnswersProgram (describes told) program x answer = AnswersDescription told program x.source answer
+AnswersProgram (describes relation) program x answer = AnswersDescription relation program x.source answer
 AnswersProgram records program x answer = AnswersRecord x answer
 AnswersProgram (replays journal) program x answer = AnswersReplay x.source x.input journal answer
 AnswersProgram (runs_each names inputs) program x answer = AnswersEach names x inputs answer

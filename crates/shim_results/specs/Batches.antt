@@ -1,4 +1,4 @@
--- Runs of one source, one on each of several inputs, and what is told of them.
+-- Runs of one source, one on each of several inputs, and what is printed of them.
 use Rattle.std.specs.Prelude.{ℕ, max, List, [], ◌∷◌, ◌++◌, codes, map}
 use Rattle.shim_front_end.specs.Source.{Source}
 use Rattle.shim_local.specs.declared.Ended.{Ended}
@@ -13,7 +13,7 @@ greatest (s ∷ ss) = max s (greatest ss)
 abbrev pub on_each : Execution → List (List ℕ) → List Execution
 on_each x inputs = map (λ input. record x { input = input }) inputs
 
--- the statuses that tell how runs ended
+-- the statuses for how runs ended
 abbrev pub statuses_of : List Ended → List ℕ
 statuses_of es = map (λ e. status_of_outcome e.outcome) es
 

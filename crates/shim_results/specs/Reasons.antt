@@ -1,4 +1,4 @@
--- What is told of a meaning and, where that is blocked, of who waits for whom.
+-- What is printed of a meaning and, where that is blocked, of who waits for whom.
 use Rattle.std.specs.Prelude.{ℕ, List, [], ◌++◌}
 use Rattle.shim_local.specs.declared.Ended.{Ended}
 use Rattle.shim_local.specs.declared.Outcome.{Outcome}

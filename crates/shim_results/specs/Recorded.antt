@@ -1,10 +1,11 @@
--- Runs whose journal is told, and runs that go as a journal tells.
+-- Runs whose journal is printed, and runs that go as a journal says.
 use Rattle.std.specs.Prelude.{ℕ, ◌≡◌, ◌⊎◌, List, ◌++◌, codes, decimal}
 use Rattle.shim_process.specs.Forks.{root}
 use Rattle.shim_process.specs.LocalState.{LocalState}
 use Rattle.shim_process.specs.Ops.{process_ops}
 use Rattle.shim_semantics.specs.Trees.{Tree}
 use Rattle.shim_laws_replay.specs.Journals.{Entry}
+use Rattle.shim_laws_replay.specs.Nets.{NamesNoQuietStep}
 use Rattle.shim_laws_journals.specs.Accepting.{IsAcceptedJournal, IsRefusedJournal, JournalRefusal, OverBudget, NotEnabled, Unfinished}
 use Rattle.shim_replay.specs.JournalTexts.{IsFaultyLine, IsJournalText}
 use Rattle.shim_front_end.specs.Source.{Source}
@@ -17,6 +18,10 @@ IsRunTo x es t = IsAcceptedJournal process_ops (root x.source x.input) x.budget 
 -- the text is the journal of such a run
 abbrev pub IsJournalOf : Execution → Tree LocalState → List ℕ → Type 0
 IsJournalOf x t text = (es : List Entry) × IsJournalText text x.budget es × IsRunTo x es t
+
+-- The text is such a journal, in which no entry of one event is a quiet step: quiet steps stand in entries with a count.
+abbrev pub IsRecordOf : Execution → Tree LocalState → List ℕ → Type 0
+IsRecordOf x t text = (es : List Entry) × IsJournalText text x.budget es × IsRunTo x es t × NamesNoQuietStep process_ops (root x.source x.input) es
 
 -- the text is the journal of this budget and these entries, and of no others
 pub record IsOnlyJournal (text : List ℕ) (budget : ℕ) (es : List Entry) : Type 0 where

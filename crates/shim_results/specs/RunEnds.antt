@@ -51,11 +51,11 @@ status_of_outcome Trapped = 1
 status_of_outcome Blocked = 3
 status_of_outcome Spent = 4
 
--- the status that tells how the meaning ended
+-- the status for how the meaning ended
 abbrev pub status_of : Execution → ℕ
 status_of x = status_of_outcome (end_of x).outcome
 
--- a status that tells how runs ended: below those of what was never run, and not that of words that ask for nothing
+-- a status for how runs ended: below those of what was never run, and not that of words that ask for nothing
 abbrev pub IsEndStatus : ℕ → Type 0
 IsEndStatus status = (status < 5) × (status ≡ 2 → ⊥)
 
@@ -111,7 +111,7 @@ abbrev pub IsStoppedEnd : Course → Execution → Ended → Type 0
 IsStoppedEnd ByFirstEvents x e = e ≡ end_of x
 IsStoppedEnd InSomeOrder x e = (t : Tree LocalState) × IsStoppedAt x t × (e ≡ read_off x t)
 
--- What a run comes to: what the meaning comes to, whatever the order of its events, unless the meaning is stopped by the budget. Then this run is stopped, too, and told so.
+-- What a run comes to: what the meaning comes to, whatever the order of its events, unless the meaning is stopped by the budget. Then this run is stopped, too, and its status says so.
 pub data IsEnd (course : Course) (x : Execution) (e : Ended) : Type 0 where
   as_meant : status_of x ≢ 4 → e ≡ end_of x → IsEnd course x e
   stopped : status_of x ≡ 4 → IsStoppedEnd course x e → status_of_outcome e.outcome ≡ 4 → IsEnd course x e

@@ -6,13 +6,13 @@ use Rattle.shim_local.specs.declared.Ended.{Ended}
 use Rattle.shim_process.specs.LocalState.{LocalState}
 use Rattle.shim_semantics.specs.Trees.{Tree}
 use Rattle.shim_results.specs.RunEnds.{Execution, end_of, read_off, report_of, status_of, tree_of, IsReachedIn, IsStoppedAt, IsStoppedEnd}
-use Rattle.shim_results.specs.Recorded.{IsJournalOf, IsJournalRefused}
+use Rattle.shim_results.specs.Recorded.{IsJournalOf, IsJournalRefused, IsRecordOf}
 use Rattle.shim_results.specs.SourceActions.{SourceAction, runs, describes, records, replays, runs_each}
 
 -- The execution that is done, where this one is asked for: just that; and where a journal is replayed one of the same source on the same input, of which that is a journal, and so within the budget of the journal. A source that is run on each of several inputs has none that is the one: what is said below of an execution is never said of those (`Batches` has what is).
 abbrev pub IsRunBy : SourceAction → Execution → Execution → Type 0
 IsRunBy (runs course shown) asked x = x ≡ asked
-IsRunBy (describes told) asked x = x ≡ asked
+IsRunBy (describes relation) asked x = x ≡ asked
 IsRunBy records asked x = x ≡ asked
 IsRunBy (replays journal) asked x = (x.source ≡ asked.source) × (x.input ≡ asked.input) × (t : Tree LocalState) × IsJournalOf x t journal
 IsRunBy (runs_each names inputs) asked x = ⊥
@@ -20,55 +20,55 @@ IsRunBy (runs_each names inputs) asked x = ⊥
 -- a journal that is to be replayed is refused with this line
 abbrev pub IsRefusedBy : SourceAction → Execution → List ℕ → Type 0
 IsRefusedBy (runs course shown) asked line = ⊥
-IsRefusedBy (describes told) asked line = ⊥
+IsRefusedBy (describes relation) asked line = ⊥
 IsRefusedBy records asked line = ⊥
 IsRefusedBy (replays journal) asked line = IsJournalRefused asked.source asked.input journal line
 IsRefusedBy (runs_each names inputs) asked line = ⊥
 
--- The status that tells how the meaning ended; a source that isn't run has 0. Of a source that is run on several inputs it is asked of no execution, and the 0 tells nothing.
+-- The status for how the meaning ended; a source that isn't run has 0. Of a source that is run on several inputs it is asked of no execution, and the 0 says nothing.
 abbrev pub status_by : SourceAction → Execution → ℕ
 status_by (runs course shown) x = status_of x
-status_by (describes told) x = 0
+status_by (describes relation) x = 0
 status_by records x = status_of x
 status_by (replays journal) x = status_of x
 status_by (runs_each names inputs) x = 0
 
--- The text is that of a source with this program, whose meaning ended: it shows that, or is told of the source. A journal, whether it is told or replayed, is that of a run to the tree of the meaning.
+-- The text is that of a source with this program, whose meaning ended: it shows that, or describes the source. A journal, whether it is printed or replayed, is that of a run to the tree of the meaning.
 abbrev pub IsTextBy : SourceAction → Program → Execution → List ℕ → Type 0
 IsTextBy (runs course shown) program x text = text ≡ shown x (end_of x)
-IsTextBy (describes told) program x text = told program x.source text
-IsTextBy records program x text = IsJournalOf x (tree_of x) text
+IsTextBy (describes relation) program x text = relation program x.source text
+IsTextBy records program x text = IsRecordOf x (tree_of x) text
 IsTextBy (replays journal) program x text = IsJournalOf x (tree_of x) journal × (text ≡ report_of x.source (end_of x))
 IsTextBy (runs_each names inputs) program x text = ⊥
 
--- this may be read off a run that is stopped; nothing that is only told of a source is
+-- this may be read off a run that is stopped; no description of a source is
 abbrev pub IsStoppedBy : SourceAction → Execution → Ended → Type 0
 IsStoppedBy (runs course shown) x e = IsStoppedEnd course x e
-IsStoppedBy (describes told) x e = ⊥
+IsStoppedBy (describes relation) x e = ⊥
 IsStoppedBy records x e = IsStoppedEnd InSomeOrder x e
 IsStoppedBy (replays journal) x e = IsStoppedEnd InSomeOrder x e
 IsStoppedBy (runs_each names inputs) x e = ⊥
 
--- The text shows a run that was stopped at this tree: it is told of what was read off, or is the journal of a run to the tree; and where a journal was replayed that is one. Of a source that isn't run none does.
+-- The text shows a run that was stopped at this tree: it reports what was read off, or is the journal of a run to the tree; and where a journal was replayed that is one. Of a source that isn't run none does.
 abbrev pub IsShownAt : SourceAction → Execution → Tree LocalState → List ℕ → Type 0
 IsShownAt (runs course shown) x t text = text ≡ shown x (read_off x t)
-IsShownAt (describes told) x t text = ⊥
-IsShownAt records x t text = IsJournalOf x t text
+IsShownAt (describes relation) x t text = ⊥
+IsShownAt records x t text = IsRecordOf x t text
 IsShownAt (replays journal) x t text = IsJournalOf x t journal × (text ≡ report_of x.source (read_off x t))
 IsShownAt (runs_each names inputs) x t text = ⊥
 
 -- the text shows a run that was stopped, of which this was read off
 abbrev pub IsShown : SourceAction → Execution → Ended → List ℕ → Type 0
 IsShown (runs course shown) x e text = text ≡ shown x e
-IsShown (describes told) x e text = ⊥
-IsShown records x e text = (t : Tree LocalState) × IsStoppedAt x t × (e ≡ read_off x t) × IsJournalOf x t text
+IsShown (describes relation) x e text = ⊥
+IsShown records x e text = (t : Tree LocalState) × IsStoppedAt x t × (e ≡ read_off x t) × IsRecordOf x t text
 IsShown (replays journal) x e text = (t : Tree LocalState) × IsStoppedAt x t × (e ≡ read_off x t) × IsJournalOf x t journal × (text ≡ report_of x.source e)
 IsShown (runs_each names inputs) x e text = ⊥
 
 -- The meaning ends for this cause; of a source that isn't run, that comes with 0. A source that is run on several inputs has no one execution: nothing is said of it here.
 abbrev pub EndsBy : ℕ → (Execution → Type 0) → SourceAction → Execution → Type 0
 EndsBy status Cause (runs course shown) x = Cause x
-EndsBy status Cause (describes told) x = status ≡ 0
+EndsBy status Cause (describes relation) x = status ≡ 0
 EndsBy status Cause records x = Cause x
 EndsBy status Cause (replays journal) x = Cause x
 EndsBy status Cause (runs_each names inputs) x = ⊥
@@ -80,7 +80,7 @@ IsReachedWithin x = (n : ℕ) × (n ≤ x.budget) × IsReachedIn n x
 -- So it is of a source that is run once. A source that is run on several inputs has no one execution: nothing is said of it here.
 abbrev pub IsReached : SourceAction → Execution → Type 0
 IsReached (runs course shown) x = IsReachedWithin x
-IsReached (describes told) x = Unit {0}
+IsReached (describes relation) x = Unit {0}
 IsReached records x = IsReachedWithin x
 IsReached (replays journal) x = IsReachedWithin x
 IsReached (runs_each names inputs) x = ⊥

@@ -1,4 +1,4 @@
--- What is done with a source that is accepted, and what is told of it.
+-- What is done with a source that is accepted, and what is printed of it.
 use Rattle.std.specs.Prelude.{ℕ, ◌+◌, ◌≡◌, List, [], ◌∷◌, ◌++◌, if◌then◌else◌, nat_eq, codes, decimal}
 use Rattle.shim_command.specs.declared.job.Job.{Job}
 use Rattle.shim_command.specs.declared.mode.Course.{Course}
@@ -40,14 +40,14 @@ pub data SourceAction : Type 1 where
   runs : Course → (Execution → Ended → List ℕ) → SourceAction
   -- nothing is run, and the text has this relation to its program and its units
   describes : (Program → Source → List ℕ → Type 0) → SourceAction
-  -- it is run by workers, and its journal is told
+  -- it is run by workers, and its journal is printed
   records : SourceAction
-  -- it is run as the journal in this text tells, and the report of that is told
+  -- it is run as the journal in this text says, and the report of that is printed
   replays : List ℕ → SourceAction
-  -- it is run once on each of these inputs, which have these names, and the reports of that are told in order
+  -- it is run once on each of these inputs, which have these names, and the reports of that are printed in order
   runs_each : List (List ℕ) → List (List ℕ) → SourceAction
 
--- what is told of a run of a job's source
+-- what is printed of a run of a job's source
 abbrev pub showing_of : Showing → Job → Source → Ended → List ℕ
 showing_of Report job = report_of
 showing_of Summary job = summary_of job

@@ -1,7 +1,7 @@
 -- Answers that were made, as the definitions name them.
-use Rattle.shim_results.specs.declared.answer.Answer.{Answer as Made}
+use Rattle.shim_results.specs.declared.answer.Answer.{Answer as CodeAnswer}
 use Rattle.shim_results.specs.AnswerView.{exit_code}
 use Rattle.shim_results.specs.Answer.{Answer}
 
-abbrev pub answer_view : Made → Answer
+abbrev pub answer_view : CodeAnswer → Answer
 answer_view made = record { status = exit_code made.status; text = made.text }

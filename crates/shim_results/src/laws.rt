@@ -23,7 +23,7 @@ pub fn stopped_runs_begin_alike()
     ensures { (x y : Execution) (t u : Tree LocalState) → x.source ≡ y.source → x.input ≡ y.input → IsBeginning x t → IsBeginning y u → BeginAlike t u }
 {}
 
-/// What the greatest status of several executions tells, as a batch ends with it: 0 exactly where the meaning
+/// What the greatest status of several executions says, as a batch ends with it: 0 exactly where the meaning
 /// of each is done, 4 exactly where that of one is stopped by its budget, 3 exactly where none is stopped and
 /// one is blocked, and 1 exactly where none is stopped or blocked and one failed. It is asked that each source
 /// uses slots of its own, as all sources do that are accepted.

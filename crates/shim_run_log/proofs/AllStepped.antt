@@ -1,4 +1,4 @@
--- Counts that are told by entries have none of a process that did no step.
+-- Counts that are read off entries have none of a process that did no step.
 use Rattle.std.proofs.Common.{◌≡◌, ℕ, zero, suc, List, [], ◌∷◌, refl, ap, ◌∙◌}
 use Rattle.std.specs.FinMap.{FinMap}
 use Rattle.shim_base.specs.Paths.{Path, path_order}

@@ -17,7 +17,7 @@ use Rattle.shim_semantics.specs.Endings.{history_of}
 use Rattle.shim_semantics.specs.Trees.{Met}
 use Rattle.shim_run_log.specs.Maps.{IsNumbered, history_channel, histories_of, met_at}
 use Rattle.shim_run_log.proofs.Mapped.{entries_of}
-use Rattle.shim_run_log.proofs.Numbered.{kept_at, told, within}
+use Rattle.shim_run_log.proofs.Numbered.{kept_at, history_is, within}
 
 -- the order of the keys
 abbrev named_order : NamedChannel → NamedChannel → Ordering
@@ -53,14 +53,14 @@ history_at kept i = unwrap_or (slice_get kept i) (record { chan = record { chann
 pub history_there : (kept : List History) (i : ℕ) (h : History) → slice_get kept i ≡ Some h → history_at kept i ≡ h
 history_there kept i h e = ap (λ o. unwrap_or o (record { chan = record { channel = record { home = []; serial = 0 }; name = 0 }; values = [] })) e
 
-told_there : (kept : List History) (k : NamedChannel) (i : ℕ) → history_channel kept i ≡ Some k.channel → history_of (k.channel, met_at kept i) ≡ history_at kept i
-told_there kept k i at =
+history_of_met : (kept : List History) (k : NamedChannel) (i : ℕ) → history_channel kept i ≡ Some k.channel → history_of (k.channel, met_at kept i) ≡ history_at kept i
+history_of_met kept k i at =
     let h = kept_at kept i k.channel at in
-    sym (told kept i h.0 k.channel h.1 at) ∙ sym (history_there kept i h.0 h.1)
+    sym (history_is kept i h.0 k.channel h.1 at) ∙ sym (history_there kept i h.0 h.1)
 
-pub told_each : (kept : List History) (es : List (NamedChannel × ℕ)) → EachLeads kept es → map history_of (map (met_by kept) es) ≡ map (history_at kept) (values_of es)
-told_each kept [] h = refl
-told_each kept (e ∷ es) h = λ i. told_there kept e.0 e.1 (h zero e.0 e.1 refl) i ∷ told_each kept es (λ place. h (suc place)) i
+pub histories_of_each : (kept : List History) (es : List (NamedChannel × ℕ)) → EachLeads kept es → map history_of (map (met_by kept) es) ≡ map (history_at kept) (values_of es)
+histories_of_each kept [] h = refl
+histories_of_each kept (e ∷ es) h = λ i. history_of_met kept e.0 e.1 (h zero e.0 e.1 refl) i ∷ histories_of_each kept es (λ place. h (suc place)) i
 
 -- there is a history of each of these numbers
 abbrev pub EachWithin : List History → List ℕ → Type 0

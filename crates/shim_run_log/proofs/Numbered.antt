@@ -35,8 +35,8 @@ not_both : (c d : Channel) → same c d ≡ false → c ≢ d
 not_both c d f e = true≢false (sym (same_self c) ∙ ap (same c) e ∙ f)
 
 -- what a list has at a number where an element was changed or added
-put_here : {A : Type 0} (xs : List A) (i : ℕ) (x y : A) → slice_get xs i ≡ Some x → slice_get (slice_set xs i y) i ≡ Some y
-put_here xs i x y e =
+get_set : {A : Type 0} (xs : List A) (i : ℕ) (x y : A) → slice_get xs i ≡ Some x → slice_get (slice_set xs i y) i ≡ Some y
+get_set xs i x y e =
     let below = slice_get_within xs i x e in
     slice_get-get_or (slice_set xs i y) i y (omega (arith, below, length-set xs i y)) ∙ ap Some (get_or-set_same xs i y y below)
 
@@ -63,7 +63,7 @@ either_end [] x (suc i) y e = absurd (none-some y e)
 either_end (z ∷ xs) x zero y e = inl e
 either_end (z ∷ xs) x (suc i) y e = elim (either_end xs x i y e) [ inl h ↦ inl h | inr h ↦ inr (ap suc h.0, h.1) ]
 
--- A number at which a channel stands has a history.
+-- A number at which a channel is has a history.
 some_of : {A B : Type 0} (f : A → B) (o : Option A) (y : B) → option_map f o ≡ Some y → (x : A) × (o ≡ Some x) × (f x ≡ y)
 some_of f None y e = absurd (none-some y e)
 some_of f (Some x) y e = (x, refl, same_Some (f x) y e)
@@ -77,12 +77,12 @@ within kept i c e = let h = kept_at kept i c e in slice_get_within kept i h.0 h.
 pub met_there : (kept : List History) (i : ℕ) (h : History) → slice_get kept i ≡ Some h → met_at kept i ≡ met_of h
 met_there kept i h e = ap (λ o. unwrap_or (option_map met_of o) (record { name = 0; values = [] })) e
 
-pub told : (kept : List History) (i : ℕ) (h : History) (c : Channel) → slice_get kept i ≡ Some h → history_channel kept i ≡ Some c → h ≡ history_of (c, met_at kept i)
-told kept i h c e at =
+pub history_is : (kept : List History) (i : ℕ) (h : History) (c : Channel) → slice_get kept i ≡ Some h → history_channel kept i ≡ Some c → h ≡ history_of (c, met_at kept i)
+history_is kept i h c e at =
     let is : h.chan.channel ≡ c = same_Some h.chan.channel c (sym (ap (option_map (λ (h : History). h.chan.channel)) e) ∙ at) in
     λ k. history_of (is k, sym (met_there kept i h e) k)
 
--- An entry for each number, whatever it stands for.
+-- An entry for each number, whatever its channel.
 mapped : {A B : Type 0} (f : A → B) (b : Bool) (x : A) (o : Option A) → option_map f (cond b (Some x) o) ≡ cond b (Some (f x)) (option_map f o)
 mapped f true x o = refl
 mapped f false x o = refl
@@ -107,7 +107,7 @@ module _ (numbers : BTreeMap NamedChannel ℕ) (kept : List History) (numbered :
   pub put_met : (b : Bool) (q : Channel) (o : Option ℕ) → same q c ≡ b → number_in numbers q ≡ o → option_map (met_at (slice_set kept i new)) o ≡ cond b (Some (met_of new)) (option_map (met_at kept) o)
   put_met true q o t is =
       ap (option_map (met_at (slice_set kept i new))) (sym is ∙ ap (number_in numbers) (exact_same q c t) ∙ at)
-      ∙ ap Some (met_there (slice_set kept i new) i new (put_here kept i h new there))
+      ∙ ap Some (met_there (slice_set kept i new) i new (get_set kept i h new there))
   put_met false q None f is = refl
   put_met false q (Some j) f is =
       let other : j ≢ i = λ e. not_both q c f (same_Some q c (sym ((numbered q j).0 is) ∙ ap (history_channel kept) e ∙ (numbered c i).0 at)) in
@@ -126,7 +126,7 @@ module _ (numbers : BTreeMap NamedChannel ℕ) (kept : List History) (numbered :
   same_channel_at : h.chan ≡ new.chan → (j : ℕ) → history_channel (slice_set kept i new) j ≡ history_channel kept j
   same_channel_at chan j = elim (eqb_tells j i) [
     | inl e ↦ ap (history_channel (slice_set kept i new)) e.1
-        ∙ ap (option_map (λ (h : History). h.chan.channel)) (put_here kept i h new there)
+        ∙ ap (option_map (λ (h : History). h.chan.channel)) (get_set kept i h new there)
         ∙ ap (λ k. Some k.channel) (sym chan)
         ∙ sym (ap (option_map (λ (h : History). h.chan.channel)) there)
         ∙ sym (ap (history_channel kept) e.1)
@@ -155,12 +155,12 @@ module _ (numbers after : BTreeMap NamedChannel ℕ) (kept : List History) (numb
       ∙ ap (λ b. cond b (Some (met_of first)) (get (histories_of numbers kept) q)) (same_both_ways first.chan.channel q)
       ∙ sym (get-insert channel_order_total (histories_of numbers kept) first.chan.channel (met_of first) q))
 
-  stands : (b : Bool) (q : Channel) (j : ℕ) → same first.chan.channel q ≡ b → cond b (Some (length kept)) (number_in numbers q) ≡ Some j → history_channel (kept ++ first ∷ []) j ≡ Some q
-  stands true q j t e =
+  place_is : (b : Bool) (q : Channel) (j : ℕ) → same first.chan.channel q ≡ b → cond b (Some (length kept)) (number_in numbers q) ≡ Some j → history_channel (kept ++ first ∷ []) j ≡ Some q
+  place_is true q j t e =
       ap (history_channel (kept ++ first ∷ [])) (sym (same_Some (length kept) j e))
       ∙ ap (option_map (λ (h : History). h.chan.channel)) (at_end kept first)
       ∙ ap Some (exact_same first.chan.channel q t)
-  stands false q j f e =
+  place_is false q j f e =
       let h = kept_at kept j q ((numbered q j).0 e) in
       ap (option_map (λ (h : History). h.chan.channel)) (before_end kept first j h.0 h.1) ∙ ap Some h.2
 
@@ -173,7 +173,7 @@ module _ (numbers after : BTreeMap NamedChannel ℕ) (kept : List History) (numb
 
   pub numbered_added : IsNumbered after (kept ++ first ∷ [])
   numbered_added q j = (
-    λ e. stands _ q j refl (sym (updated q) ∙ e),
+    λ e. place_is _ q j refl (sym (updated q) ∙ e),
     λ e. let h = kept_at (kept ++ first ∷ []) j q e in
         updated q ∙ listed _ q j h.0 refl h.2 (either_end kept first j h.0 h.1),
   )

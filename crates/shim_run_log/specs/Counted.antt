@@ -1,4 +1,4 @@
--- How many steps of its own each process did, told by entries in any order.
+-- How many steps of its own each process did, read off entries in any order.
 use Rattle.std.specs.Prelude.{◌≡◌, ℕ, ◌+◌, List, [], ◌∷◌, ◌++◌, slice_get, slice_set, Some}
 use Rattle.std.specs.FinMap as finite
 use Rattle.shim_base.specs.Paths.{Path, path_order}
@@ -15,9 +15,9 @@ counted [] = finite.empty
 counted (e ∷ es) = steps_taken (counted es) e.path e.count
 
 pub record StepCountsFollow : Type 0 where
-  -- a process of which an entry tells does so many steps more
+  -- a process that an entry names does so many steps more
   pub more : (es : List StepCount) (i : ℕ) (p : Path) (c n : ℕ) → slice_get es i ≡ Some (record { path = p; count = c }) → counted (slice_set es i (record { path = p; count = c + n })) ≡ steps_taken (counted es) p n
   -- the order of the entries is free
   pub swapped : (es fs : List StepCount) → counted (es ++ fs) ≡ counted (fs ++ es)
-  -- an entry without steps tells nothing
+  -- an entry without steps counts nothing
   pub none : (es fs : List StepCount) (p : Path) → counted (es ++ record { path = p; count = 0 } ∷ fs) ≡ counted (es ++ fs)

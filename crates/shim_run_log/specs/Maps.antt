@@ -24,7 +24,7 @@ met_at kept i = unwrap_or (option_map met_of (slice_get kept i)) (record { name 
 abbrev pub history_channel : List History → ℕ → Option Channel
 history_channel kept i = option_map (λ h. h.chan.channel) (slice_get kept i)
 
--- the number that stands at the channel
+-- the number that is at the channel
 abbrev pub number_in : BTreeMap NamedChannel ℕ → Channel → Option ℕ
 number_in numbers c = get_by (λ k. channel_order c k.channel) numbers
 

@@ -1,7 +1,7 @@
 // What can happen next in a tree.
 use shim_base::{Chan, Path};
 
-/// One event of a tree. A channel is told by its home and serial alone.
+/// One event of a tree. A channel is named by its home and serial alone.
 #[derive(Drop)]
 pub enum Event {
     /// The process of this path does a step of its own.

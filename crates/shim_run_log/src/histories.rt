@@ -14,7 +14,7 @@ use std::collections::BTreeMap;
 use std::marker::Model;
 use std::sync::Arc;
 
-/// For each channel that had a meeting, the name by which it is printed and the values, in order. A meeting
+/// For each channel that had a rendezvous, the name by which it is printed and the values, in order. A rendezvous
 /// finds them by the table of recent channels, and the map is asked only where that doesn't have the channel.
 #[derive(Drop)]
 pub struct Histories {
@@ -72,8 +72,8 @@ impl Histories {
         }
     }
 
-    /// Adds a value behind those of a channel that had a meeting. `false`, and nothing is added, where it had
-    /// none: that one's name is wanted first.
+    /// Adds a value behind those of a channel that had a rendezvous. `false`, and nothing is added, where it had
+    /// none: that one needs a name first.
     pub fn record_value(&mut self, chan: &Chan, value: i64) -> Result<bool, NoMemory>
         ensures known { IfOk result (λ known. known ≡ true → (name : ℕ) → self.new ≡ recorded self.old chan.now.channel name value) }
         ensures first { IfOk result (λ known. known ≡ false → (self.new ≡ self.old) × (finite.get self.old chan.now.channel ≡ None)) }
@@ -89,7 +89,7 @@ impl Histories {
         }
     }
 
-    /// The values of the channel, if it had a meeting. It takes no memory.
+    /// The values of the channel, if it had a rendezvous. It takes no memory.
     pub fn get(&self, chan: &Chan) -> Option<&[i64]>
         ensures values { option_copied result ≡ values_in (finite.get self.now chan.now.channel) }
         ensures filled { AllHaveValues self.now }

@@ -1,4 +1,4 @@
-//! What a run tells, beside how its processes stand: its events and the entries of its journal, the values that
+//! What a run leaves, beside how its processes stand: its events and the entries of its journal, the values that
 //! meetings gave, what was logged, who waits, and how many steps of its own each process did.
 #![tactic(auto)]
 
@@ -8,7 +8,7 @@ mod histories;
 mod logs;
 mod recent;
 mod waits;
-/// What is proved of entries that tell how many steps processes did.
+/// What is proved of entries that say how many steps processes did.
 pub mod laws;
 mod step_counts;
 

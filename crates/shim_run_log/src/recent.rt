@@ -60,7 +60,7 @@ impl Recent {
     }
 }
 
-// A number whose lower bits tell most paths apart.
+// A number whose lower bits distinguish most paths.
 fn spread(pairs: &[(u32, u32)]) -> u64 {
     let mut word = 0u64;
     for (fork, branch) in pairs {

@@ -57,7 +57,7 @@ impl StepCounts {
         Ok(())
     }
 
-    /// Gives each of these processes its count. Want of memory may leave some of them without.
+    /// Gives each of these processes its count. Running out of memory may leave some of them without.
     pub fn reserve_all<L: Local>(&mut self, processes: &[L]) -> Result<(), NoMemory>
         ensures ok { OnOk result (AllOf (λ (l : L). HasCount self.new (L.ops.path l)) processes.now) }
         ensures keeps { KeepsCounts self.old self.new }

@@ -10,7 +10,7 @@ use std::alloc::Global;
 use std::collections::BTreeMap;
 use std::marker::Model;
 
-/// For each process that waits, the channel at which it stands.
+/// For each process that waits, the channel at which it is.
 #[derive(Drop)]
 pub struct Waits {
     kept: BTreeMap<Path, Chan, Global>,

@@ -9,7 +9,7 @@ use Rattle.shim_semantics.specs.Nodes.{Node, Live, state}
 use Rattle.shim_semantics.specs.Places.{at, at_route, route, branches, StandsAt}
 use Rattle.shim_semantics.specs.Trees.{Tree, steps}
 use Rattle.shim_semantics.specs.Quiets.{Advances}
-use Rattle.shim_laws_table.specs.Seen.{lives, place}
+use Rattle.shim_laws_table.specs.NodeStatus.{lives, place}
 use Rattle.shim_laws_table.proofs.SameTrees.{seen_live}
 use Rattle.shim_laws_replay.specs.Grants.{IsGrantable}
 use Rattle.shim_laws_replay.proofs.Entries.{pieces_are_entries}
@@ -18,23 +18,23 @@ use Rattle.shim_laws_table_events.specs.keeping.Moves.{PerformsQuiet}
 use Rattle.shim_semantics.specs.Advancing.{with_state_at, steps_taken}
 use Rattle.shim_semantics.proofs.Advances.{moved_on, advanced}
 use Rattle.shim_run_state.specs.RunStates.{RunStateView, tree_in, IsQuietAt}
-use Rattle.shim_run_state.proofs.Events.{root_is, told, counts_in}
+use Rattle.shim_run_state.proofs.Events.{root_is, tree_with, counts_in}
 
 -- from a root with the root's path
 pub route_from_root : (rp p : Path) → rp ≡ [] → route rp p ≡ Some (branches p)
 route_from_root rp p e = ap (λ z. route z p) e
 
 module _ {S : Type 0} (o : Ops S) (law : LocalLaws o) where
-  -- a live process with a record stands in the tree
-  pub stands_there : (v : TableView S) (root : Node S) (i f : ℕ) (l : S) → TableInvariant o [] v root → HasProcessState v i f l lives → StandsAt o root (o.path l) (Live l)
-  stands_there v root i f l kept has = record {
+  -- a live process with a record is in the tree
+  pub live_node_there : (v : TableView S) (root : Node S) (i f : ℕ) (l : S) → TableInvariant o [] v root → HasProcessState v i f l lives → StandsAt o root (o.path l) (Live l)
+  live_node_there v root i f l kept has = record {
     there = ap (at_route root) (route_from_root (o.path (state root)) (o.path l) kept.represents.root_path) ∙ seen_live (at (place o [] l) root) l (kept.represents.agrees.shown i f l lives has);
     is_its = refl;
   }
 
-  -- so one that stands before a quiet step may be granted
+  -- so one that is before a quiet step may be granted
   pub grantable : (v : RunStateView S) (i : ℕ) (l : S) → TableInvariant o [] v.table (tree_in o v).root → IsQuietAt o v.table i l → IsGrantable o (tree_in o v) l
-  grantable v i l kept q = record { stands = stands_there v.table (tree_in o v).root i q.first l kept q.has; stop = q.stands }
+  grantable v i l kept q = record { in_tree = live_node_there v.table (tree_in o v).root i q.first l kept q.has; stop = q.stop_is }
 
   -- what so many quiet steps of it leave
   pub record Advanced (before behind : RunStateView S) (n : ℕ) (l last : S) : Type 0 where
@@ -57,8 +57,8 @@ module _ {S : Type 0} (o : Ops S) (law : LocalLaws o) where
       let is : m.0 ≡ there = some_same m.0 there (sym (subst (λ p. Advances o p n t m.0) (sym comes.1) m.1) ∙ goes) in
       let root = root_is o behind m.0.root m.2 in
       let all : tree_in o behind ≡ m.0 =
-      (λ j. told o (root j) (output j) (histories j) (logs j) (counts j) (events j))
-      ∙ ((λ j. told o (is j).root t.output t.histories t.logs (steps_taken t.counts (sym comes.1 j) n) t.events) ∙ sym is) in
+      (λ j. tree_with o (root j) (output j) (histories j) (logs j) (counts j) (events j))
+      ∙ ((λ j. tree_with o (is j).root t.output t.histories t.logs (steps_taken t.counts (sym comes.1 j) n) t.events) ∙ sym is) in
       let leads : Advances o (o.path l) n t (tree_in o behind) = m.1 ∙ ap Some (sym all) in
       record {
         leads = leads;

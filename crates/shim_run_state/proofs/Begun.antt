@@ -9,7 +9,7 @@ use Rattle.shim_local.specs.Laws.{LocalLaws}
 use Rattle.shim_semantics.specs.Nodes.{Live}
 use Rattle.shim_semantics.specs.Trees.{start, steps}
 use Rattle.shim_semantics.proofs.Counting.{none_counted}
-use Rattle.shim_laws_table.specs.Seen.{ProcessStatus}
+use Rattle.shim_laws_table.specs.NodeStatus.{ProcessStatus}
 use Rattle.shim_laws_table_events.specs.keeping.Tables.{HasProcessState, TableInvariant}
 use Rattle.shim_laws_table_events.specs.queues.EventQueue.{is_listed}
 use Rattle.shim_laws_table_events.proofs.queues.EventQueue.{queue_stays_complete}
@@ -17,7 +17,7 @@ use Rattle.shim_process_table.specs.Lookups.{IsForAll}
 use Rattle.shim_run_log.specs.Counted.{counted}
 use Rattle.shim_run_state.specs.ProcessLists.{ProcessListsView}
 use Rattle.shim_run_state.specs.RunStates.{RunStateView, tree_in, path_at, entry, counts_from, RunStateInvariant}
-use Rattle.shim_run_state.proofs.Events.{root_is, told}
+use Rattle.shim_run_state.proofs.Events.{root_is, tree_with}
 
 -- one item has the number 0
 only_one : {A : Type 0} (x y : A) (i : ℕ) → slice_get (x ∷ []) i ≡ Some y → i ≡ 0
@@ -46,7 +46,7 @@ module _ {S : Type 0} (o : Ops S) (law : LocalLaws o) (v : RunStateView S) (root
   counts = (λ t. counted (counts_from (path_at o v.table) (own t) ++ past t)) ∙ no_entry (path_at o v.table 0)
 
   pub is_start : tree_in o v ≡ start root
-  is_start = λ t. told o (root_is o v (Live root) represents t) (output t) (histories t) (logs t) (counts t) (events t)
+  is_start = λ t. tree_with o (root_is o v (Live root) represents t) (output t) (histories t) (logs t) (counts t) (events t)
 
   number : (i f : ℕ) (s : S) (k : ProcessStatus) → HasProcessState v.table i f s k → i ≡ 0
   number i f s k h = only_one root s i (subst (λ z. slice_get z i ≡ Some s) states h.state_is)

@@ -5,16 +5,16 @@ use Rattle.shim_semantics.proofs.HowMany.{clash}
 use Rattle.shim_local.specs.Process.{Ops}
 use Rattle.shim_semantics.specs.Nodes.{Live}
 use Rattle.shim_semantics.specs.Places.{at, at_route, branches}
-use Rattle.shim_laws_table.specs.Seen.{lives}
+use Rattle.shim_laws_table.specs.NodeStatus.{lives}
 use Rattle.shim_laws_table.proofs.OneTree.{covered}
 use Rattle.shim_laws_table.proofs.SameTrees.{same_or_not}
 use Rattle.shim_laws_replay.specs.Grants.{IsGrantable}
-use Rattle.shim_laws_table_events.specs.keeping.Tables.{HasProcessState, stands}
+use Rattle.shim_laws_table_events.specs.keeping.Tables.{HasProcessState, views}
 use Rattle.shim_laws_table_events.specs.queues.EventQueue.{is_listed}
 use Rattle.shim_run_state.specs.ProcessLists.{ProcessListsView}
 use Rattle.shim_run_state.specs.RunStates.{RunStateView, tree_in, IsQuietAt, RunStateInvariant}
 use Rattle.shim_run_state.specs.CheckingOut.{IsHomeAt, IsNextQuiet, ChecksOut}
-use Rattle.shim_run_state.specs.Enqueueing.{KeepsQuietListed, IsFirstHome}
+use Rattle.shim_run_state.specs.Enqueueing.{KeepsQuietListed, IsListedHome}
 use Rattle.shim_run_state.proofs.Advanced.{route_from_root}
 use Rattle.shim_run_state.proofs.Flags.{far_flag, flag_put}
 
@@ -47,13 +47,13 @@ module _ {S : Type 0} (o : Ops S) (v : RunStateView S) (kept : RunStateInvariant
   has_number l w =
       let t = tree_in o v in
       let represents = kept.represents.represents in
-      let there : at (branches (o.path l)) t.root ≡ Some (Live l) = sym (ap (at_route t.root) (route_from_root _ (o.path l) represents.root_path)) ∙ w.stands.there in
-      let c = covered o [] v.table.states (stands v.table) represents.rooted t.root represents.agrees (branches (o.path l)) (Live l) there in
+      let there : at (branches (o.path l)) t.root ≡ Some (Live l) = sym (ap (at_route t.root) (route_from_root _ (o.path l) represents.root_path)) ∙ w.in_tree.there in
+      let c = covered o [] v.table.states (views v.table) represents.rooted t.root represents.agrees (branches (o.path l)) (Live l) there in
       let is = some_same (c.state_is, c.status_is) (l, lives) c.is_seen in
       let has : HasProcessState v.table c.number c.first l lives = subst (λ z. HasProcessState v.table c.number c.first z.0 z.1) is c.has in
-      (c.number, record { first = c.first; has = has; stands = w.stop })
+      (c.number, record { first = c.first; has = has; stop_is = w.stop })
 
-  pub next_is : (flags : List Bool) (r : Option ℕ) → KeepsQuietListed o v.table v.process_lists.checked_out v.process_lists.ready_queue flags → IsFirstHome o v.table v.process_lists.checked_out flags r → IsNextQuiet o v (with_quiet v flags) r
+  pub next_is : (flags : List Bool) (r : Option ℕ) → KeepsQuietListed o v.table v.process_lists.checked_out v.process_lists.ready_queue flags → IsListedHome o v.table v.process_lists.checked_out flags r → IsNextQuiet o v (with_quiet v flags) r
   next_is flags None still none = (
     record { tree = refl; table = refl; checked_out = refl },
     λ l w.

@@ -6,11 +6,11 @@ use Rattle.shim_local.specs.Laws.{LocalLaws}
 use Rattle.shim_semantics.specs.Nodes.{state}
 use Rattle.shim_semantics.specs.Acts.{Effects}
 use Rattle.shim_semantics.specs.Trees.{Close, steps, with_logs}
-use Rattle.shim_laws_table.specs.Seen.{ProcessStatus, lives, forks}
+use Rattle.shim_laws_table.specs.NodeStatus.{ProcessStatus, lives, forks}
 use Rattle.shim_laws_table.proofs.OneChange.{one_state}
 use Rattle.shim_laws_table.proofs.SameTrees.{same_or_not}
 use Rattle.shim_laws_replay.specs.Grants.{IsNoQuietStep}
-use Rattle.shim_laws_table_events.specs.keeping.Tables.{TableView, HasProcessState, stands}
+use Rattle.shim_laws_table_events.specs.keeping.Tables.{TableView, HasProcessState, views}
 use Rattle.shim_laws_table_events.specs.queues.EventQueue.{is_listed}
 use Rattle.shim_run_log.specs.Counted.{StepCount, counted}
 use Rattle.shim_process_table.specs.Closing.{ClosesAt, close_effects}
@@ -53,7 +53,7 @@ module _ {S : Type 0} (o : Ops S) (m number : ℕ) (outcome : CloseOutcome) (bef
   pub closed_room : (s : ProcessListsView) → Serves before s → Serves behind s
   closed_room s all = still_for_all before behind s.own s.own was_used refl all
 
--- what is told of it, beside the process and lists of numbers
+-- its effects, beside the process and lists of numbers
 pub record OneClose {S : Type 0} (o : Ops S) (m number : ℕ) (outcome : CloseOutcome) (before behind : RunStateView S) (h : ClosesAt o m number outcome before.table behind.table) : Type 0 where
   pub output : behind.output ≡ before.output
   pub histories : behind.histories ≡ before.histories
@@ -80,7 +80,7 @@ module _ {S : Type 0} (o : Ops S) (law : LocalLaws o) (before behind : RunStateV
     | inr far ↦ path_of o behind.table i u.first u.process u.status_is (h.becomes.others i u.first u.process u.status_is far out u.has)
     | inl e ↦
         let mine = subst (λ z. HasProcessState before.table z u.first u.process u.status_is) e u.has in
-        let same : h.process ≡ u.process = one_state before.table.states (stands before.table) number h.first u.first h.process u.process (forks h.many) u.status_is h.forked mine in
+        let same : h.process ≡ u.process = one_state before.table.states (views before.table) number h.first u.first h.process u.process (forks h.many) u.status_is h.forked mine in
         ap (path_at o behind.table) e ∙ (path_of o behind.table number h.becomes.first (state h.left.node) _ h.becomes.parent ∙ ap Some (h.path ∙ ap o.path same))
   ]
 
@@ -98,9 +98,9 @@ module _ {S : Type 0} (o : Ops S) (law : LocalLaws o) (before behind : RunStateV
 
   happened : events.Happened o before behind kept.represents (Close (o.path h.process))
   happened =
-      let bytes : before.output ++ h.left.effects.bytes ≡ before.output = ap (λ z. before.output ++ z) (ap (λ (z : Effects). z.bytes) h.told ∙ no_bytes outcome) ∙ append-nil before.output in
+      let bytes : before.output ++ h.left.effects.bytes ≡ before.output = ap (λ z. before.output ++ z) (ap (λ (z : Effects). z.bytes) h.effects_are ∙ no_bytes outcome) ∙ append-nil before.output in
       events.close o before behind kept.represents number h.first h.many h.process h.left h.forked h.does h.moves (one.output ∙ sym bytes) one.histories
-      (one.logs ∙ ap (λ (z : Effects). with_logs before.logs (o.path h.process) z.logs) (sym h.told)) counts one.events
+      (one.logs ∙ ap (λ (z : Effects). with_logs before.logs (o.path h.process) z.logs) (sym h.effects_are)) counts one.events
 
   no_step : IsNoQuietStep o (tree_in o before) (Close (o.path h.process))
   no_step q e s = absurd cc
@@ -121,7 +121,7 @@ module _ {S : Type 0} (o : Ops S) (law : LocalLaws o) (before behind : RunStateV
     quiet_listed : (i : ℕ) (l : S) → IsQuietAt o behind.table i l → (is_listed behind.process_lists.ready_queue i ≡ true) ⊎ IsQuietAt o before.table i l
     quiet_listed i l q = elim (h.becomes.only i q.first l lives q.has) [
       | inl w ↦ inl (ap (is_listed behind.process_lists.ready_queue) w.0 ∙ one.again.ready_queue.mine l (subst (λ z. IsQuietAt o behind.table z l) w.0 q))
-      | inr w ↦ inr (record { first = q.first; has = w.2; stands = q.stands })
+      | inr w ↦ inr (record { first = q.first; has = w.2; stop_is = q.stop_is })
     ]
 
     used_before : (i : ℕ) → IsInUse behind.table i → IsInUse before.table i

@@ -1,4 +1,4 @@
--- What is to be looked at again, where not all of it is listed: what isn't tells of nothing but a quiet step.
+-- What is to be looked at again, where not all of it is listed: at what isn't nothing is due but a quiet step.
 use Rattle.std.proofs.Common.{◌≡◌, ◌⊎◌, ◌<◌, ◌+◌, inl, inr, ℕ, zero, suc, Bool, true, Some, List, [], ◌∷◌, length, slice_set, refl, sym, ap, subst, ◌∙◌}
 use Rattle.std.specs.Prelude.{slice_get}
 use Rattle.std.proofs.lemmas.List.{length-set}
@@ -7,7 +7,7 @@ use Rattle.shim_base.proofs.Facts.{some_same, none_some, true_or_false}
 use Rattle.shim_local.specs.Process.{Ops}
 use Rattle.shim_semantics.specs.Nodes.{Node}
 use Rattle.shim_semantics.proofs.HowMany.{clash}
-use Rattle.shim_laws_table.specs.Seen.{ProcessStatus, ends}
+use Rattle.shim_laws_table.specs.NodeStatus.{ProcessStatus, ends}
 use Rattle.shim_laws_table.proofs.SameTrees.{same_or_not}
 use Rattle.shim_records.specs.Members.{IsAmong}
 use Rattle.shim_records.specs.Pairs.{up_in}
@@ -57,18 +57,18 @@ module _ {S : Type 0} (o : Ops S) (v : TableView S) (number : ℕ) where
   }
 
   pub quiet_listed : (queue : Queue) (event_queue ready_queue event_queues ready_queues : List Bool) → QueueIs o v number queue → IsPutIn queue number event_queue ready_queue event_queues ready_queues → number < length ready_queue → ListsInReadyQueue o v number ready_queue ready_queues
-  quiet_listed code.Neither event_queue ready_queue event_queues ready_queues is put within = record { kept = λ i e. ap (λ z. is_listed z i) put.1 ∙ e; mine = λ l q. absurd (is.1 q.first l q.has q.stands); only = λ i e. inl (ap (λ z. is_listed z i) (sym put.1) ∙ e); as_many = ap length put.1 }
+  quiet_listed code.Neither event_queue ready_queue event_queues ready_queues is put within = record { kept = λ i e. ap (λ z. is_listed z i) put.1 ∙ e; mine = λ l q. absurd (is.1 q.first l q.has q.stop_is); only = λ i e. inl (ap (λ z. is_listed z i) (sym put.1) ∙ e); as_many = ap length put.1 }
   quiet_listed code.Ready event_queue ready_queue event_queues ready_queues is put within = record {
     kept = still_listed ready_queue ready_queues number put.1;
     mine = λ l q. now_listed ready_queue ready_queues number put.1 within;
     only = only_listed ready_queue ready_queues number put.1;
     as_many = as_long ready_queue ready_queues number put.1;
   }
-  quiet_listed code.Event event_queue ready_queue event_queues ready_queues is put within = record { kept = λ i e. ap (λ z. is_listed z i) put.1 ∙ e; mine = λ l q. absurd (is q.first l q.has q.stands); only = λ i e. inl (ap (λ z. is_listed z i) (sym put.1) ∙ e); as_many = ap length put.1 }
+  quiet_listed code.Event event_queue ready_queue event_queues ready_queues is put within = record { kept = λ i e. ap (λ z. is_listed z i) put.1 ∙ e; mine = λ l q. absurd (is q.first l q.has q.stop_is); only = λ i e. inl (ap (λ z. is_listed z i) (sym put.1) ∙ e); as_many = ap length put.1 }
 
 -- one that has ended belongs in no list
 pub ended_nowhere : {S : Type 0} (o : Ops S) (v : TableView S) (i f : ℕ) (l : S) → HasProcessState v i f l ends → QueueIs o v i code.Neither
-ended_nowhere o v i f l has = (has_ended f l has, λ g m lived stop. absurd (let e = sym has.stands_so ∙ lived.stands_so in cc))
+ended_nowhere o v i f l has = (has_ended f l has, λ g m lived stop. absurd (let e = sym has.view_is ∙ lived.view_is in cc))
 
 -- as many flags are there as before
 pub put_long : (queue : Queue) (number : ℕ) (event_queue ready_queue event_queues ready_queues : List Bool) → IsPutIn queue number event_queue ready_queue event_queues ready_queues → length event_queues ≡ length event_queue
@@ -78,7 +78,7 @@ put_long code.Event number event_queue ready_queue event_queues ready_queues put
 
 -- ---- the numbers that are to be looked at again
 
--- each record in use is listed, or tells of no more than before
+-- each record in use is listed, or no more can happen by it than before
 abbrev pub Suffices : {S : Type 0} → Ops S → TableView S → TableView S → List Bool → Type 0
 Suffices {S} o before behind now = (i f : ℕ) (s : S) (k : ProcessStatus) → HasProcessState behind i f s k → (is_listed now i ≡ true) ⊎ AllowsNoMore o before behind i
 
@@ -86,7 +86,7 @@ module _ {S : Type 0} (o : Ops S) (rp : Path) (before behind : TableView S) (roo
   nothing_new : (i : ℕ) → HasNothingDue o behind i → AllowsNoMore o before behind i
   nothing_new i idle = (no_more_can_happen o).idle before behind i idle
 
-  -- so it is where some numbers are to be looked at again, and they are listed, unless they tell of nothing but a quiet step
+  -- so it is where some numbers are to be looked at again, and they are listed, unless nothing is due at them but a quiet step
   pub woken_suffices : (again now : List Bool) → CoversChanges before behind (is_listed again) → ((i : ℕ) → is_listed again i ≡ true → (is_listed now i ≡ true) ⊎ HasNothingDue o behind i) → Suffices o before behind now
   woken_suffices again now newly_ready to_look i f s k has = elim (true_or_false (is_listed again i)) [
     | inl e ↦ elim (to_look i e) [ inl y ↦ inl y | inr idle ↦ inr (nothing_new i idle) ]

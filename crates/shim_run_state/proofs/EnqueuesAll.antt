@@ -17,7 +17,7 @@ use Rattle.shim_run_state.specs.Several.{IsOneOrAbove, ListsEach, ListsEachQuiet
 use Rattle.shim_run_state.specs.Enqueueing.{ListsInEventQueue, ListsInReadyQueue}
 
 module _ {S : Type 0} (o : Ops S) (v : TableView S) (numbers : List ℕ) where
-  -- the numbers before this place are listed, unless they tell of nothing but a quiet step
+  -- the numbers before this place are listed, unless nothing is due at them but a quiet step
   pub record ListedSoFar (place : ℕ) (old now : List Bool) : Type 0 where
     pub kept : (i : ℕ) → is_listed old i ≡ true → is_listed now i ≡ true
     pub mine : (at m : ℕ) → at < place → slice_get numbers at ≡ Some m → (is_listed now m ≡ true) ⊎ HasNothingDue o v m

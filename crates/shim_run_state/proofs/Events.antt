@@ -1,4 +1,4 @@
--- What an event leaves of a tree that is kept as records, with what was told of it, is the tree after the event.
+-- What an event leaves of a tree that is kept as records, with its effects, is the tree after the event.
 use Rattle.std.proofs.Common.{◌≡◌, ℕ, ◌+◌, Some, List, [], ◌++◌, sym, ap, subst, ◌∙◌}
 use Rattle.std.specs.Prelude.{unwrap_or}
 use Rattle.std.specs.FinMap as finite
@@ -9,12 +9,12 @@ use Rattle.shim_semantics.specs.Nodes.{Node, source, value_of, first_name}
 use Rattle.shim_semantics.specs.Acts.{Acted, act_live, closed}
 use Rattle.shim_semantics.specs.Trees.{Tree, Met, Event, Own, Meet, Poison, Close, End, after, steps, with_step_counted, with_logs, recorded}
 use Rattle.shim_semantics.proofs.Counting.{event_counts}
-use Rattle.shim_laws_table.specs.Seen.{lives, forks}
+use Rattle.shim_laws_table.specs.NodeStatus.{lives, forks}
 use Rattle.shim_laws_table.specs.Changes.{segment, prevailing_among}
 use Rattle.shim_laws_table.specs.EventEffects.{with_event_effects}
-use Rattle.shim_laws_table.proofs.Tells.{effects_of_events}
+use Rattle.shim_laws_table.proofs.EventEffects.{effects_of_events}
 use Rattle.shim_laws_table.proofs.RepresentedTree.{tree_is_computed}
-use Rattle.shim_laws_table_events.specs.keeping.Tables.{HasProcessState, TableInvariant, stands}
+use Rattle.shim_laws_table_events.specs.keeping.Tables.{HasProcessState, TableInvariant, views}
 use Rattle.shim_laws_table_events.specs.keeping.Moves.{Performs}
 use Rattle.shim_run_log.specs.Counted.{counted}
 use Rattle.shim_run_state.specs.RunStates.{RunStateView, tree_in, path_at, counts_from, or_begun}
@@ -22,14 +22,14 @@ use Rattle.shim_run_state.specs.RunStates.{RunStateView, tree_in, path_at, count
 module _ {S : Type 0} (o : Ops S) where
   -- the root is that of the tree that the records show
   pub root_is : (v : RunStateView S) (root : Node S) → TableInvariant o [] v.table root → (tree_in o v).root ≡ root
-  root_is v root k = ap (or_begun v.begun) (tree_is_computed o [] v.table.states (stands v.table) root k.represents)
+  root_is v root k = ap (or_begun v.begun) (tree_is_computed o [] v.table.states (views v.table) root k.represents)
 
   abbrev pub counts_in : RunStateView S → finite.FinMap path_order ℕ
   counts_in v = counted (counts_from (path_at o v.table) v.process_lists.own ++ v.past)
 
-  -- the tree with another root, and what is told beside it
-  abbrev pub told : Node S → List ℕ → finite.FinMap channel_order Met → finite.FinMap path_order (List LogWhat) → finite.FinMap path_order ℕ → ℕ → Tree S
-  told root output histories logs counts events = record { root = root; output = output; histories = histories; logs = logs; counts = counts; events = events }
+  -- the tree with another root and other effects
+  abbrev pub tree_with : Node S → List ℕ → finite.FinMap channel_order Met → finite.FinMap path_order (List LogWhat) → finite.FinMap path_order ℕ → ℕ → Tree S
+  tree_with root output histories logs counts events = record { root = root; output = output; histories = histories; logs = logs; counts = counts; events = events }
 
   module _ (before behind : RunStateView S) (kept : TableInvariant o [] before.table (tree_in o before).root) where
     -- the event happened, the records show the tree behind it, and it is one step
@@ -47,15 +47,15 @@ module _ {S : Type 0} (o : Ops S) where
           counts = event_counts o e (tree_in o before) (tree_in o behind) there;
         }
 
-    -- a step of its own that a live process did, which told this
+    -- a step of its own that a live process did, with these effects
     pub own : (i f : ℕ) (l : S) (a : Acted S) → HasProcessState before.table i f l lives → act_live o l (o.stop l) ≡ Some a → Performs o (Own (o.path l)) before.table behind.table
         → behind.output ≡ before.output ++ a.effects.bytes → behind.histories ≡ before.histories → behind.logs ≡ with_logs before.logs (o.path l) a.effects.logs
         → counts_in behind ≡ with_step_counted (counts_in before) (o.path l) → behind.events ≡ before.events → Happened (Own (o.path l))
     own i f l a has act moves output histories logs counts events =
         let m = moves [] (tree_in o before) kept in
-        let is = (effects_of_events o).own [] before.table.states (stands before.table) (tree_in o before) m.0 i f l a kept.represents has act m.1 in
+        let is = (effects_of_events o).own [] before.table.states (views before.table) (tree_in o before) m.0 i f l a kept.represents has act m.1 in
         let root = root_is behind m.0.root m.2 in
-        happened (Own (o.path l)) m.0 m.1 m.2 (is ∙ sym (λ t. told (root t) (output t) (histories t) (logs t) (counts t) (events t)))
+        happened (Own (o.path l)) m.0 m.1 m.2 (is ∙ sym (λ t. tree_with (root t) (output t) (histories t) (logs t) (counts t) (events t)))
 
     -- its end
     pub end : (i f : ℕ) (l : S) (a : Acted S) → HasProcessState before.table i f l lives → act_live o l (o.stop l) ≡ Some a → Performs o (End (o.path l)) before.table behind.table
@@ -63,20 +63,20 @@ module _ {S : Type 0} (o : Ops S) where
         → counts_in behind ≡ counts_in before → behind.events ≡ before.events + 1 → Happened (End (o.path l))
     end i f l a has act moves output histories logs counts events =
         let m = moves [] (tree_in o before) kept in
-        let is = (effects_of_events o).end [] before.table.states (stands before.table) (tree_in o before) m.0 i f l a kept.represents has act m.1 in
+        let is = (effects_of_events o).end [] before.table.states (views before.table) (tree_in o before) m.0 i f l a kept.represents has act m.1 in
         let root = root_is behind m.0.root m.2 in
-        happened (End (o.path l)) m.0 m.1 m.2 (is ∙ sym (λ t. told (root t) (output t) (histories t) (logs t) (counts t) (events t)))
+        happened (End (o.path l)) m.0 m.1 m.2 (is ∙ sym (λ t. tree_with (root t) (output t) (histories t) (logs t) (counts t) (events t)))
 
     -- the close of its fork into n children, from the number g on
-    pub close : (i g n : ℕ) (l : S) (a : Acted S) → HasProcessState before.table i g l (forks n) → a ≡ closed o l (segment g n before.table.states) (prevailing_among (segment g n (stands before.table)))
+    pub close : (i g n : ℕ) (l : S) (a : Acted S) → HasProcessState before.table i g l (forks n) → a ≡ closed o l (segment g n before.table.states) (prevailing_among (segment g n (views before.table)))
         → Performs o (Close (o.path l)) before.table behind.table
         → behind.output ≡ before.output ++ a.effects.bytes → behind.histories ≡ before.histories → behind.logs ≡ with_logs before.logs (o.path l) a.effects.logs
         → counts_in behind ≡ counts_in before → behind.events ≡ before.events + 1 → Happened (Close (o.path l))
     close i g n l a has did moves output histories logs counts events =
         let m = moves [] (tree_in o before) kept in
-        let is = (effects_of_events o).close [] before.table.states (stands before.table) (tree_in o before) m.0 i g n l kept.represents has m.1 in
+        let is = (effects_of_events o).close [] before.table.states (views before.table) (tree_in o before) m.0 i g n l kept.represents has m.1 in
         let root = root_is behind m.0.root m.2 in
-        happened (Close (o.path l)) m.0 m.1 m.2 (is ∙ (ap (λ (z : Acted S). with_event_effects (tree_in o before) m.0.root (o.path l) z.effects) (sym did) ∙ sym (λ t. told (root t) (output t) (histories t) (logs t) (counts t) (events t))))
+        happened (Close (o.path l)) m.0 m.1 m.2 (is ∙ (ap (λ (z : Acted S). with_event_effects (tree_in o before) m.0.root (o.path l) z.effects) (sym did) ∙ sym (λ t. tree_with (root t) (output t) (histories t) (logs t) (counts t) (events t))))
 
     -- a meeting, which gave the value of the channel's source, under the name that its first one brings
     pub meet : (c : Channel) → Performs o (Meet c) before.table behind.table → behind.output ≡ before.output
@@ -86,7 +86,7 @@ module _ {S : Type 0} (o : Ops S) where
         let m = moves [] (tree_in o before) kept in
         let is = (effects_of_events o).meet (tree_in o before) m.0 c m.1 in
         let root = root_is behind m.0.root m.2 in
-        happened (Meet c) m.0 m.1 m.2 (is ∙ sym (λ t. told (root t) (output t) (histories t) (logs t) (counts t) (events t)))
+        happened (Meet c) m.0 m.1 m.2 (is ∙ sym (λ t. tree_with (root t) (output t) (histories t) (logs t) (counts t) (events t)))
 
     -- a poison
     pub poison : (p : Path) (c : Channel) → Performs o (Poison p c) before.table behind.table → behind.output ≡ before.output → behind.histories ≡ before.histories → behind.logs ≡ before.logs
@@ -95,4 +95,4 @@ module _ {S : Type 0} (o : Ops S) where
         let m = moves [] (tree_in o before) kept in
         let is = (effects_of_events o).poison (tree_in o before) m.0 p c m.1 in
         let root = root_is behind m.0.root m.2 in
-        happened (Poison p c) m.0 m.1 m.2 (is ∙ sym (λ t. told (root t) (output t) (histories t) (logs t) (counts t) (events t)))
+        happened (Poison p c) m.0 m.1 m.2 (is ∙ sym (λ t. tree_with (root t) (output t) (histories t) (logs t) (counts t) (events t)))

@@ -60,7 +60,7 @@ module _ {S : Type 0} (o : Ops S) (v : TableView S) (checked_out old : List Bool
   all_listed = record { kept = λ h. h; as_many = refl }
 
   module _ (now : List Bool) (still : KeepsQuietListed o v checked_out old now) (n : ℕ) (was : slice_get now n ≡ Some true) where
-    -- a number is dropped whose process doesn't stand before a quiet step, or is checked out
+    -- a number is dropped whose process isn't before a quiet step, or is checked out
     pub dropped : (next : List Bool) → next ≡ slice_set now n false → ((l : S) → IsQuietAt o v n l → is_listed checked_out n ≡ true) → KeepsQuietListed o v checked_out old next
     dropped next e out = record {
       kept = λ h i l q. elim (same_or_not i n) [

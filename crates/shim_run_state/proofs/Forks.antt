@@ -11,10 +11,10 @@ use Rattle.shim_semantics.specs.Nodes.{Live}
 use Rattle.shim_semantics.specs.Acts.{Acted, nothing, parted, act_live}
 use Rattle.shim_semantics.specs.Trees.{Own, steps, with_step_counted}
 use Rattle.shim_semantics.proofs.Replaced.{sound_at, state_sound}
-use Rattle.shim_laws_table.specs.Seen.{ProcessStatus, lives, place}
+use Rattle.shim_laws_table.specs.NodeStatus.{ProcessStatus, lives, place}
 use Rattle.shim_laws_table.proofs.OneChange.{one_state}
 use Rattle.shim_laws_table.proofs.SameTrees.{same_or_not}
-use Rattle.shim_laws_table_events.specs.keeping.Tables.{TableView, HasProcessState, stands}
+use Rattle.shim_laws_table_events.specs.keeping.Tables.{TableView, HasProcessState, views}
 use Rattle.shim_laws_table_events.proofs.meetings.AtHome.{node_at}
 use Rattle.shim_laws_table_events.specs.queues.EventQueue.{is_listed}
 use Rattle.shim_run_log.specs.Counted.{counted}
@@ -68,7 +68,7 @@ pub is_sound : {S : Type 0} (o : Ops S) (v : RunStateView S) → RunStateInvaria
 is_sound o v kept i f l k has =
     let root = (tree_in o v).root in
     let represents = kept.represents.represents in
-    let n = node_at o [] v.table.states (stands v.table) root represents i f l k has in
+    let n = node_at o [] v.table.states (views v.table) root represents i f l k has in
     subst (λ z. o.sound z) n.2 (state_sound o n.0 (sound_at o (place o [] l) root n.0 represents.sound.below n.1))
 
 module _ {S : Type 0} (o : Ops S) (law : LocalLaws o) (before : RunStateView S) (kept : RunStateInvariant o before) (now : TableView S) (m number first count : ℕ) (h : HasForkedHere o m number first count before.table now) where
@@ -77,7 +77,7 @@ module _ {S : Type 0} (o : Ops S) (law : LocalLaws o) (before : RunStateView S) 
 
   -- the last child has a record
   some : (n : ℕ) → count ≡ n → first + count ≤ length now.records
-  some zero e = absurd (law.fork_some h.was h.is h.born sound (h.stood, h.forked) (no_items h.born (h.many ∙ e)))
+  some zero e = absurd (law.fork_some h.was h.is h.born sound (h.stop_was, h.forked) (no_items h.born (h.many ∙ e)))
   some (suc n) e =
       let k = there_is h.born n (let m = h.many in omega (arith, m, e)) in
       let b = h.becomes.born n k.0 k.1 in
@@ -93,7 +93,7 @@ module _ {S : Type 0} (o : Ops S) (law : LocalLaws o) (before behind : RunStateV
   checked_out = again.checked_out ∙ new.checked_out
 
   path_is : o.path h.is ≡ o.path h.was
-  path_is = law.moved_path h.was h.is (is_sound o before kept number h.was_first h.was lives h.lived) (by_fork h.born h.stood h.forked)
+  path_is = law.moved_path h.was h.is (is_sound o before kept number h.was_first h.was lives h.lived) (by_fork h.born h.stop_was h.forked)
 
   none_there : (i b : ℕ) → b < count → i ≡ first + b → path_at o before.table i ≡ None
   none_there i b less e = elim (in_use_or_not o before.table i) [
@@ -106,7 +106,7 @@ module _ {S : Type 0} (o : Ops S) (law : LocalLaws o) (before behind : RunStateV
     | inr far ↦ path_of o behind.table i u.first u.process u.status_is (h.becomes.others i u.first u.process u.status_is far u.has)
     | inl e ↦
         let mine = subst (λ z. HasProcessState before.table z u.first u.process u.status_is) e u.has in
-        let same : h.was ≡ u.process = one_state before.table.states (stands before.table) number h.was_first u.first h.was u.process lives u.status_is h.lived mine in
+        let same : h.was ≡ u.process = one_state before.table.states (views before.table) number h.was_first u.first h.was u.process lives u.status_is h.lived mine in
         ap (path_at o behind.table) e ∙ (path_of o behind.table number first h.is _ h.becomes.parent ∙ ap Some (path_is ∙ ap o.path same))
   ]
 
@@ -144,24 +144,24 @@ module _ {S : Type 0} (o : Ops S) (law : LocalLaws o) (before behind : RunStateV
   acted = record { node = parted (Parted h.is h.born); effects = nothing }
 
   does : act_live o h.was (o.stop h.was) ≡ Some acted
-  does = ap (act_live o h.was) h.stood ∙ ap (λ z. Some (record { node = parted z; effects = nothing })) h.forked
+  does = ap (act_live o h.was) h.stop_was ∙ ap (λ z. Some (record { node = parted z; effects = nothing })) h.forked
 
   happened : events.Happened o before behind kept.represents (Own (o.path h.was))
   happened = events.own o before behind kept.represents number h.was_first h.was acted h.lived does h.moves (one.output ∙ sym (append-nil before.output)) one.histories one.logs counts one.events
 
   not_quiet : o.stop h.was ≢ AtQuiet
-  not_quiet e = absurd (let z = sym h.stood ∙ e in cc)
+  not_quiet e = absurd (let z = sym h.stop_was ∙ e in cc)
 
   flags : (i : ℕ) → is_listed behind.process_lists.checked_out i ≡ is_listed before.process_lists.checked_out i
   flags i = ap (λ z. is_listed z i) checked_out
 
   stay : (i : ℕ) (l : S) → IsQuietAt o before.table i l → is_listed before.process_lists.checked_out i ≡ true → IsQuietAt o behind.table i l
-  stay i l q flag = record { first = q.first; has = h.becomes.others i q.first l lives far q.has; stands = q.stands }
+  stay i l q flag = record { first = q.first; has = h.becomes.others i q.first l lives far q.has; stop_is = q.stop_is }
     where
       far : i ≢ number
       far e =
           let mine = subst (λ z. HasProcessState before.table z q.first l lives) e q.has in
-          not_quiet (ap o.stop (one_state before.table.states (stands before.table) number h.was_first q.first h.was l lives lives h.lived mine) ∙ q.stands)
+          not_quiet (ap o.stop (one_state before.table.states (views before.table) number h.was_first q.first h.was l lives lives h.lived mine) ∙ q.stop_is)
 
   event_queues : ListsBlock first count before.process_lists.event_queue s.event_queue
   event_queues = block_listed first count before.process_lists.event_queue s.event_queue new.listed new.event_queue
@@ -175,7 +175,7 @@ module _ {S : Type 0} (o : Ops S) (law : LocalLaws o) (before behind : RunStateV
       | inl w ↦ absurd (let e = w.2 in cc)
       | inr x ↦ elim x [
         | inl w ↦ inl (again.ready_queue.kept i (ap (is_listed s.ready_queue) w.2 ∙ ready_queues.mine w.0 (let b = slice_get_within h.born w.0 l w.1 in let m = h.many in omega (arith, b, m))))
-        | inr w ↦ inr (record { first = q.first; has = w.1; stands = q.stands })
+        | inr w ↦ inr (record { first = q.first; has = w.1; stop_is = q.stop_is })
       ]
     ]
 
@@ -209,7 +209,7 @@ module _ {S : Type 0} (o : Ops S) (m number : ℕ) (before behind : TableView S)
     first = h.first;
     process = h.was;
     has = h.lived;
-    stood = h.stood;
+    stop_was = h.stop_was;
     left = Live h.is;
     does = ap (λ z. Some (record { node = parted z; effects = nothing })) h.trapped;
     came = refl;
@@ -221,9 +221,9 @@ module _ {S : Type 0} (o : Ops S) (m number : ℕ) (before behind : TableView S)
       become : HasBecome number h.is lives before (record { states = slice_set before.states number h.is; records = before.records })
       become = record {
         first = h.first;
-        mine = record { state_is = set_there before.states number h.was h.is h.lived.state_is; stands_so = h.lived.stands_so };
-        others = λ j g t x far w. record { state_is = set_elsewhere before.states number j h.is far ∙ w.state_is; stands_so = w.stands_so };
-        only = λ j g t x far w. record { state_is = sym (set_elsewhere before.states number j h.is far) ∙ w.state_is; stands_so = w.stands_so };
+        mine = record { state_is = set_there before.states number h.was h.is h.lived.state_is; view_is = h.lived.view_is };
+        others = λ j g t x far w. record { state_is = set_elsewhere before.states number j h.is far ∙ w.state_is; view_is = w.view_is };
+        only = λ j g t x far w. record { state_is = sym (set_elsewhere before.states number j h.is far) ∙ w.state_is; view_is = w.view_is };
       }
 
 module _ {S : Type 0} (o : Ops S) (law : LocalLaws o) (before behind : RunStateView S) (kept : RunStateInvariant o before) (m number : ℕ) (h : HasTrappedHere o number before.table behind.table) (one : OneOwnStep before behind) (c : HasCounted number 1 before.process_lists.own behind.process_lists.own)
@@ -237,8 +237,8 @@ module _ {S : Type 0} (o : Ops S) (law : LocalLaws o) (before behind : RunStateV
   pub traps_go : Goes o before behind (Own (o.path h.was))
   unfolding acts traps_act
   traps_go =
-      let told : AddsEffects o law before behind kept (m + 1) number AtFork lives nothing acts = record { output = one.output ∙ sym (append-nil before.output); histories = one.histories; logs = one.logs; past = one.past } in
-      let w = own_done o law before behind kept (m + 1) number AtFork lives nothing acts refl other told c again one.events few in
+      let added : AddsEffects o law before behind kept (m + 1) number AtFork lives nothing acts = record { output = one.output ∙ sym (append-nil before.output); histories = one.histories; logs = one.logs; past = one.past } in
+      let w = own_done o law before behind kept (m + 1) number AtFork lives nothing acts refl other added c again one.events few in
       record { keeps = w.0; happens = w.1; steps_are = w.2 }
 
 -- ---- either way

@@ -37,11 +37,11 @@ module _ {S : Type 0} (o : Ops S) (law : LocalLaws o) where
     changed : IsChanged o numbers before.table now
     changed = changes [] root kept.represents
 
-    told : histories ≡ recorded before.histories c (unwrap_or (first_name o c root) 0) (value_of o c (source o c root))
-    told = recorded_is [] root kept.represents ∙ ap (recorded before.histories c (unwrap_or (first_name o c root) 0)) (value [] root kept.represents)
+    histories_are : histories ≡ recorded before.histories c (unwrap_or (first_name o c root) 0) (value_of o c (source o c root))
+    histories_are = recorded_is [] root kept.represents ∙ ap (recorded before.histories c (unwrap_or (first_name o c root) 0)) (value [] root kept.represents)
 
     happened : events.Happened o before behind kept.represents (Meet c)
-    happened = events.meet o before behind kept.represents c moves refl told refl (counts_stay o before behind numbers changed own refl) refl
+    happened = events.meet o before behind kept.represents c moves refl histories_are refl (counts_stay o before behind numbers changed own refl) refl
 
     keeps : RunStateInvariant o behind
     keeps = record {

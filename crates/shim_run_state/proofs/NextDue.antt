@@ -16,7 +16,7 @@ use Rattle.shim_laws_table_events.proofs.queues.EventQueue.{queue_stays_complete
 use Rattle.shim_run_state.specs.RunStates.{RunStateView, tree_in, RunStateInvariant}
 use Rattle.shim_run_state.specs.CheckingOut.{HappensIn, RestsIn}
 use Rattle.shim_run_state.specs.Settling.{KeepsEventsListed, StaysAs}
-use Rattle.shim_run_state.proofs.Advanced.{stands_there}
+use Rattle.shim_run_state.proofs.Advanced.{live_node_there}
 use Rattle.shim_run_state.proofs.Flags.{far_flag, flag_put, within_cleared}
 use Rattle.shim_run_state.proofs.CheckedOut.{with_process_lists}
 
@@ -65,7 +65,7 @@ module _ {S : Type 0} (o : Ops S) (law : LocalLaws o) (v : RunStateView S) (kept
       cannot e other can =
           let s = (queue_stays_complete o law).settled [] v.table (tree_in o v) flags e kept.represents (still.kept (tree_in o v) kept.represents kept.event_queue) none can in
           let q = s.1 in
-          other (o.path q.process) q.is (q.process, stands_there o law v.table (tree_in o v).root s.0 q.first q.process kept.represents q.has, q.stands)
+          other (o.path q.process) q.is (q.process, live_node_there o law v.table (tree_in o v).root s.0 q.first q.process kept.represents q.has, q.stop_is)
 
       on : (e : Event) → IsNoQuietStep o (tree_in o v) e → (x : Option (Tree S)) → after o e (tree_in o v) ≡ x → after o e (tree_in o v) ≡ None
       on e other None h = h

@@ -5,10 +5,10 @@ use Rattle.shim_local.specs.Process.{Ops, AtQuiet}
 use Rattle.shim_local.specs.Laws.{LocalLaws}
 use Rattle.shim_semantics.specs.Trees.{steps}
 use Rattle.shim_semantics.proofs.HowMany.{clash}
-use Rattle.shim_laws_table.specs.Seen.{ProcessStatus, lives}
+use Rattle.shim_laws_table.specs.NodeStatus.{ProcessStatus, lives}
 use Rattle.shim_laws_table.proofs.OneChange.{one_state}
 use Rattle.shim_laws_table.proofs.SameTrees.{same_or_not}
-use Rattle.shim_laws_table_events.specs.keeping.Tables.{TableView, HasProcessState, TableInvariant, stands}
+use Rattle.shim_laws_table_events.specs.keeping.Tables.{TableView, HasProcessState, TableInvariant, views}
 use Rattle.shim_laws_table_events.specs.queues.EventQueue.{is_listed}
 use Rattle.shim_laws_table_events.proofs.queues.EventQueue.{queue_stays_complete}
 use Rattle.shim_process_table.specs.Lookups.{IsInUse, IsForAll}
@@ -36,7 +36,7 @@ module _ {S : Type 0} (before behind : TableView S) (number f : ℕ) (l s : S) (
   for_all_behind xs h i u = h i (was_used i u)
 
 module _ {S : Type 0} (o : Ops S) (law : LocalLaws o) (before behind : RunStateView S) (kept : RunStateInvariant o before) where
-  -- Where the records show the tree behind, the list has all that is to be looked at again, and whoever stands before a quiet step is listed anew, or did so before.
+  -- Where the records show the tree behind, the list has all that is to be looked at again, and whoever is before a quiet step is listed anew, or did so before.
   pub record HasMoved : Type 0 where
     pub represents : TableInvariant o [] behind.table (tree_in o behind).root
     pub few : steps (tree_in o behind) ≤ 4000000
@@ -64,10 +64,10 @@ module _ {S : Type 0} (o : Ops S) (law : LocalLaws o) (before behind : RunStateV
     used_before = was_used before.table behind.table number f l s h k has becomes
 
     pub quiet_before : (i : ℕ) (t : S) → i ≢ number → IsQuietAt o behind.table i t → IsQuietAt o before.table i t
-    quiet_before i t far q = record { first = q.first; has = becomes.only i q.first t lives far q.has; stands = q.stands }
+    quiet_before i t far q = record { first = q.first; has = becomes.only i q.first t lives far q.has; stop_is = q.stop_is }
 
     pub quiet_behind : (i : ℕ) (t : S) → i ≢ number → IsQuietAt o before.table i t → IsQuietAt o behind.table i t
-    quiet_behind i t far q = record { first = q.first; has = becomes.others i q.first t lives far q.has; stands = q.stands }
+    quiet_behind i t far q = record { first = q.first; has = becomes.others i q.first t lives far q.has; stop_is = q.stop_is }
 
     -- who is checked out now is another one, and was checked out
     out_far : (i : ℕ) → is_listed behind.process_lists.checked_out i ≡ true → i ≢ number
@@ -118,11 +118,11 @@ module _ {S : Type 0} (o : Ops S) (law : LocalLaws o) (before behind : RunStateV
         serves = still_for_all before.table behind.table before.process_lists.own behind.process_lists.own used_before owns kept.serves;
       })
 
-  -- who stands at something else isn't checked out
+  -- who is at something else isn't checked out
   pub other_stop_free : (number f : ℕ) (l : S) → HasProcessState before.table number f l lives → o.stop l ≢ AtQuiet → is_listed before.process_lists.checked_out number ≡ false
   other_stop_free number f l has other = elim (true_or_false (is_listed before.process_lists.checked_out number)) [
     | inr e ↦ e
     | inl e ↦
         let w = kept.checked_out number e in
-        absurd (other (ap o.stop (one_state before.table.states (stands before.table) number f w.1.first l w.0 lives lives has w.1.has) ∙ w.1.stands))
+        absurd (other (ap o.stop (one_state before.table.states (views before.table) number f w.1.first l w.0 lives lives has w.1.has) ∙ w.1.stop_is))
   ]

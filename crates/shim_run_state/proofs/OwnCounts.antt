@@ -9,7 +9,7 @@ use Rattle.shim_base.specs.PathLaws.{path_order_total}
 use Rattle.shim_base.proofs.Facts.{some_same}
 use Rattle.shim_local.specs.Process.{Ops}
 use Rattle.shim_semantics.specs.Trees.{sum, steps, count_of, with_step_counted}
-use Rattle.shim_laws_table.specs.Seen.{ProcessStatus}
+use Rattle.shim_laws_table.specs.NodeStatus.{ProcessStatus}
 use Rattle.shim_laws_table_events.specs.keeping.Tables.{HasProcessState}
 use Rattle.shim_records.proofs.Stepping.{set_there}
 use Rattle.shim_run_log.proofs.Mapped.{count_below}
@@ -44,7 +44,7 @@ below_all m p = on (get m p) refl
     on None e = subst (λ (z : Option ℕ). unwrap_or z 0 ≤ sum (values m)) (sym e) (omega arith)
     on (Some n) e = subst (λ (z : Option ℕ). unwrap_or z 0 ≤ sum (values m)) (sym e) (count_below m p n e)
 
--- what is put back where it stood
+-- what is put back where it was
 set_back : {A : Type 0} (xs : List A) (i : ℕ) (x y : A) → slice_get xs i ≡ Some x → slice_set (slice_set xs i y) i x ≡ xs
 set_back [] i x y e = refl
 set_back (z ∷ xs) zero x y e = ap (λ w. w ∷ xs) (some_same x z (sym e))

@@ -5,7 +5,7 @@ use Rattle.shim_local.specs.Process.{Ops, AtQuiet}
 use Rattle.shim_local.specs.Laws.{LocalLaws, by_receive, by_call}
 use Rattle.shim_semantics.specs.Nodes.{Node}
 use Rattle.shim_semantics.specs.Trees.{steps}
-use Rattle.shim_laws_table.specs.Seen.{lives}
+use Rattle.shim_laws_table.specs.NodeStatus.{lives}
 use Rattle.shim_laws_table_events.specs.keeping.Tables.{TableView, TableInvariant}
 use Rattle.shim_laws_table_events.specs.meetings.Meetings.{ReceivesOne}
 use Rattle.shim_laws_table_events.proofs.meetings.Meets.{one_keeps}
@@ -16,7 +16,7 @@ use Rattle.shim_run_state.specs.ProcessLists.{ProcessListsView, Serves}
 use Rattle.shim_run_state.specs.RunStates.{RunStateView, tree_in, RunStateInvariant}
 use Rattle.shim_run_state.specs.Receiving.{with_table, PassesOn}
 use Rattle.shim_run_state.specs.Enqueueing.{Requeues}
-use Rattle.shim_run_state.proofs.Events.{root_is, told, counts_in}
+use Rattle.shim_run_state.proofs.Events.{root_is, tree_with, counts_in}
 use Rattle.shim_run_state.proofs.Forks.{is_sound}
 use Rattle.shim_run_state.proofs.OneMoved.{was_used, still_for_all, other_stop_free, one_moved}
 use Rattle.shim_run_state.proofs.OwnCounts.{counts_stay}
@@ -56,16 +56,16 @@ module _ {S : Type 0} (o : Ops S) where
       represents = subst (TableInvariant o [] u) (sym (root_is o behind next.0 next.1)) next.1
 
       path : o.path got ≡ o.path h.process
-      path = law.moved_path h.process got (is_sound o before kept i h.first h.process lives h.has) (by_call (by_receive h.chan x h.stood refl))
+      path = law.moved_path h.process got (is_sound o before kept i h.first h.process lives h.has) (by_call (by_receive h.chan x h.stop_was refl))
 
       counts : counts_in o behind ≡ counts_in o before
       counts = counts_stay o before behind i h.first h.process got lives lives h.has h.becomes path refl own
 
       few : steps (tree_in o behind) ≤ 4000000
-      few = subst (λ m. steps (told o (tree_in o behind).root w.output w.histories w.logs m w.events) ≤ 4000000) (sym counts) kept.few
+      few = subst (λ m. steps (tree_with o (tree_in o behind).root w.output w.histories w.logs m w.events) ≤ 4000000) (sym counts) kept.few
 
       not_quiet : o.stop h.process ≢ AtQuiet
-      not_quiet e = absurd (let z = sym h.stood ∙ e in cc)
+      not_quiet e = absurd (let z = sym h.stop_was ∙ e in cc)
 
       free : is_listed t.checked_out i ≡ false
       free = ap (λ z. is_listed z i) again.checked_out ∙ other_stop_free o law before behind kept i h.first h.process h.has not_quiet

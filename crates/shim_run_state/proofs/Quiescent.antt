@@ -10,7 +10,7 @@ use Rattle.shim_laws_table.specs.Enabled.{Can}
 use Rattle.shim_laws_table.proofs.CanHappen.{enabled_by_records}
 use Rattle.shim_records.specs.Members.{IsAmong}
 use Rattle.shim_records.specs.Waiting.{AreListedIn}
-use Rattle.shim_laws_table_events.specs.keeping.Tables.{TableView, stands}
+use Rattle.shim_laws_table_events.specs.keeping.Tables.{TableView, views}
 use Rattle.shim_laws_table_events.specs.queues.RecordDecisions.{HasNothingDue, CanHappenAt, IsQuietStepAt}
 use Rattle.shim_laws_table_events.specs.queues.EventQueue.{is_set, is_listed}
 use Rattle.shim_laws_table_events.proofs.queues.Idle.{record_decides}
@@ -55,9 +55,9 @@ module _ {S : Type 0} (o : Ops S) (law : LocalLaws o) where
     abbrev pub t : Tree S
     t = tree_in o v
 
-    -- where one stands before a quiet step, that can happen
+    -- where one is before a quiet step, that can happen
     pub one_quiet : (n : ℕ) → IsBeforeQuiet o n v.table true → IsQuiescent o t → ⊥
-    one_quiet n w rest = ((enabled_by_records o law).steps [] v.table.states (stands v.table) t n w.0 w.1 kept.represents.represents w.2).1 (ap own_action_at w.3) (rest (Own (o.path w.1)))
+    one_quiet n w rest = ((enabled_by_records o law).steps [] v.table.states (views v.table) t n w.0 w.1 kept.represents.represents w.2).1 (ap own_action_at w.3) (rest (Own (o.path w.1)))
 
     pub one_due : (n : ℕ) (e : Event) → CanHappenAt o v.table n e → IsQuiescent o t → ⊥
     one_due n e due rest = ((record_decides o law).can [] v.table t e n kept.represents due).0 (rest e)
@@ -66,9 +66,9 @@ module _ {S : Type 0} (o : Ops S) (law : LocalLaws o) where
     module _ (ready_queue event_queue : List ℕ) (ready_queues : AreListedIn ready_queue v.process_lists.ready_queue) (event_queues : AreListedIn event_queue v.process_lists.event_queue) (no_quiet : NoneQuiet o v.table ready_queue true) (no_due : NoneDue o v.table event_queue true) where
       no_step : (i : ℕ) (e : Event) → IsQuietStepAt o v.table i e → ⊥
       no_step i e s =
-          let q : IsQuietAt o v.table i s.process = record { first = s.first; has = s.has; stands = s.stands } in
+          let q : IsQuietAt o v.table i s.process = record { first = s.first; has = s.has; stop_is = s.stop_is } in
           elim (kept.ready_queue i s.process q) [
-            | inl h ↦ no_quiet i (ready_queues.all i (flag_there v.process_lists.ready_queue i h)) s.first s.process s.has s.stands
+            | inl h ↦ no_quiet i (ready_queues.all i (flag_there v.process_lists.ready_queue i h)) s.first s.process s.has s.stop_is
             | inr h ↦ none i s.process (record { at_quiet = q; flag = h })
           ]
 
@@ -87,15 +87,15 @@ module _ {S : Type 0} (o : Ops S) (law : LocalLaws o) where
           on (Some u) h = absurd (cannot e (λ n. none_some u (sym n ∙ h)))
 
 module _ {S : Type 0} (o : Ops S) (law : LocalLaws o) (v : RunStateView S) (kept : RunStateInvariant o v) (none : NoneCheckedOut o v) (ready_queue : List ℕ) where
-  -- what the code is told of the listed numbers tells whether anything can happen
-  pub told_some_quiet : (b : Bool) → b ≡ false → NoneQuiet o v.table ready_queue b → IsTrue false ↔ IsQuiescent o (tree_in o v)
-  told_some_quiet false e w = (λ h. absurd cc, λ rest. absurd (one_quiet o law v kept none w.0 w.1 rest))
-  told_some_quiet true e w = absurd cc
+  -- what the code reads at the listed numbers decides whether anything can happen
+  pub not_yet_quiescent : (b : Bool) → b ≡ false → NoneQuiet o v.table ready_queue b → IsTrue false ↔ IsQuiescent o (tree_in o v)
+  not_yet_quiescent false e w = (λ h. absurd cc, λ rest. absurd (one_quiet o law v kept none w.0 w.1 rest))
+  not_yet_quiescent true e w = absurd cc
 
-  pub told_rests : (b d : Bool) (event_queue : List ℕ) → AreListedIn ready_queue v.process_lists.ready_queue → AreListedIn event_queue v.process_lists.event_queue → b ≡ true → NoneQuiet o v.table ready_queue b → NoneDue o v.table event_queue d → IsTrue d ↔ IsQuiescent o (tree_in o v)
-  told_rests true true event_queue q a e w u = (λ h. rests o law v kept none ready_queue event_queue q a w u, λ rest. refl)
-  told_rests true false event_queue q a e w u = (λ h. absurd cc, λ rest. absurd (one_due o law v kept none u.0 u.1 u.2 rest))
-  told_rests false d event_queue q a e w u = absurd cc
+  pub quiescent_by_queues : (b d : Bool) (event_queue : List ℕ) → AreListedIn ready_queue v.process_lists.ready_queue → AreListedIn event_queue v.process_lists.event_queue → b ≡ true → NoneQuiet o v.table ready_queue b → NoneDue o v.table event_queue d → IsTrue d ↔ IsQuiescent o (tree_in o v)
+  quiescent_by_queues true true event_queue q a e w u = (λ h. rests o law v kept none ready_queue event_queue q a w u, λ rest. refl)
+  quiescent_by_queues true false event_queue q a e w u = (λ h. absurd cc, λ rest. absurd (one_due o law v kept none u.0 u.1 u.2 rest))
+  quiescent_by_queues false d event_queue q a e w u = absurd cc
 
 -- ---- a run over numbers
 

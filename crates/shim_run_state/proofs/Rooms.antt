@@ -5,10 +5,10 @@ use Rattle.std.proofs.lemmas.List.{append_assoc, append-nil, length-append}
 use Rattle.shim_base.specs.Paths.{Path}
 use Rattle.shim_local.specs.Process.{Ops}
 use Rattle.shim_semantics.specs.Trees.{Tree, Event, after, steps}
-use Rattle.shim_laws_table.specs.Seen.{lives}
+use Rattle.shim_laws_table.specs.NodeStatus.{lives}
 use Rattle.shim_laws_table.specs.Enabled.{Can}
 use Rattle.shim_laws_replay.specs.Grants.{IsNoQuietStep}
-use Rattle.shim_laws_table_events.specs.keeping.Tables.{HasProcessState, stands}
+use Rattle.shim_laws_table_events.specs.keeping.Tables.{HasProcessState, views}
 use Rattle.shim_laws_table.specs.RepresentedTree.{represented_tree}
 use Rattle.shim_laws_table_events.specs.queues.EventQueue.{is_listed}
 use Rattle.shim_run_log.specs.Counted.{StepCount, counted}
@@ -18,7 +18,7 @@ use Rattle.shim_run_state.specs.CheckingOut.{SameCheckedOut, HappensIn}
 use Rattle.shim_run_state.specs.Room.{IsLonger, IsRoomier, HasMoreRoom}
 use Rattle.shim_run_state.specs.Settling.{StaysAs}
 use Rattle.shim_run_state.proofs.Counts.{front}
-use Rattle.shim_run_state.proofs.Events.{told, counts_in}
+use Rattle.shim_run_state.proofs.Events.{tree_with, counts_in}
 use Rattle.shim_run_state.proofs.CheckedOut.{with_process_lists}
 
 -- ---- a list that was filled up
@@ -70,13 +70,13 @@ module _ {S : Type 0} (o : Ops S) where
   same_tree before behind m =
       let counts : counts_in o behind ≡ counts_in o before =
       (λ j. counted (counts_from (path_at o (m.table j)) (m.process_lists.own.1 j) ++ m.past j)) ∙ no_more_counted m.process_lists.own.0 (path_at o before.table) before.process_lists.own before.past in
-      (λ j. told o (or_begun (m.begun j) (represented_tree o (m.table j).states (stands (m.table j)))) (m.output j) (m.histories j) (m.logs j) (counts j) (m.events j))
+      (λ j. tree_with o (or_begun (m.begun j) (represented_tree o (m.table j).states (views (m.table j)))) (m.output j) (m.histories j) (m.logs j) (counts j) (m.events j))
 
   same_out : (before behind : RunStateView S) → HasMoreRoom before behind → SameCheckedOut o before behind
   same_out before behind m i l =
       let flag = as_listed before.process_lists.checked_out behind.process_lists.checked_out m.process_lists.checked_out i in (
-        λ h. record { at_quiet = record { first = h.at_quiet.first; has = subst (λ z. HasProcessState z i h.at_quiet.first l lives) (sym m.table) h.at_quiet.has; stands = h.at_quiet.stands }; flag = flag ∙ h.flag },
-        λ h. record { at_quiet = record { first = h.at_quiet.first; has = subst (λ z. HasProcessState z i h.at_quiet.first l lives) m.table h.at_quiet.has; stands = h.at_quiet.stands }; flag = sym flag ∙ h.flag },
+        λ h. record { at_quiet = record { first = h.at_quiet.first; has = subst (λ z. HasProcessState z i h.at_quiet.first l lives) (sym m.table) h.at_quiet.has; stop_is = h.at_quiet.stop_is }; flag = flag ∙ h.flag },
+        λ h. record { at_quiet = record { first = h.at_quiet.first; has = subst (λ z. HasProcessState z i h.at_quiet.first l lives) m.table h.at_quiet.has; stop_is = h.at_quiet.stop_is }; flag = sym flag ∙ h.flag },
       )
 
   pub stays_so : (before behind : RunStateView S) → HasMoreRoom before behind → StaysAs o before behind

@@ -3,7 +3,7 @@ use Rattle.std.proofs.Common.{◌≡◌, ◌<◌, ◌⊎◌, inl, inr, ℕ, true
 use Rattle.shim_local.specs.Process.{Ops}
 use Rattle.shim_local.specs.Laws.{LocalLaws}
 use Rattle.shim_semantics.specs.Trees.{Event, steps}
-use Rattle.shim_laws_table.specs.Seen.{lives}
+use Rattle.shim_laws_table.specs.NodeStatus.{lives}
 use Rattle.shim_laws_replay.specs.Grants.{IsNoQuietStep}
 use Rattle.shim_laws_table_events.specs.queues.EventQueue.{is_listed}
 use Rattle.shim_run_log.specs.Counted.{counted}
@@ -64,7 +64,7 @@ module _ {S : Type 0} (o : Ops S) (before behind : RunStateView S) (numbers : Li
     fresh : (i : ℕ) (l : S) → IsQuietAt o behind.table i l → (is_listed behind.process_lists.ready_queue i ≡ true) ⊎ IsQuietAt o before.table i l
     fresh i l q = elim (changed.living i q.first l q.has) [
       | inl g ↦ inl (again.ready_queue.mine i l g q)
-      | inr was ↦ inr (record { first = q.first; has = was; stands = q.stands })
+      | inr was ↦ inr (record { first = q.first; has = was; stop_is = q.stop_is })
     ]
 
     pub several_keep : steps (tree_in o before) < 4000000 → RunStateInvariant o behind

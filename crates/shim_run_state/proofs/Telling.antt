@@ -1,4 +1,4 @@
--- A poison happens, with what is told of it.
+-- A poison happens, with its effects.
 use Rattle.std.proofs.Common.{◌≡◌, ◌<◌, ◌+◌, ℕ, List}
 use Rattle.shim_base.specs.Paths.{Path, Channel}
 use Rattle.shim_local.specs.Process.{Ops}

@@ -19,7 +19,7 @@ SameCheckedOut {S} o before after = (i : ℕ) (l : S) → IsCheckedOut o before 
 abbrev pub NoneCheckedOut : {S : Type 0} → Ops S → RunStateView S → Type 0
 NoneCheckedOut {S} o v = (i : ℕ) (l : S) → IsCheckedOut o v i l → ⊥
 
--- the process with this number stands before a quiet step, and isn't checked out
+-- the process with this number is before a quiet step, and isn't checked out
 pub record IsHomeAt {S : Type 0} (o : Ops S) (v : RunStateView S) (i : ℕ) (l : S) : Type 0 where
   pub at_quiet : IsQuietAt o v.table i l
   pub free : is_listed v.process_lists.checked_out i ≡ false
@@ -30,7 +30,7 @@ pub record SameTree {S : Type 0} (o : Ops S) (before after : RunStateView S) : T
   pub table : after.table ≡ before.table
   pub checked_out : after.process_lists.checked_out ≡ before.process_lists.checked_out
 
--- Nothing but a queue has changed. Whoever stands before a quiet step is checked out; or the process with this number does, and isn't.
+-- Nothing but a queue has changed. Whoever is before a quiet step is checked out; or the process with this number does, and isn't.
 abbrev pub IsNextQuiet : {S : Type 0} → Ops S → RunStateView S → RunStateView S → Option ℕ → Type 0
 IsNextQuiet {S} o before after None = SameTree o before after × ((l : S) → IsGrantable o (tree_in o before) l → (i : ℕ) × IsCheckedOut o before i l)
 IsNextQuiet {S} o before after (Some number) = SameTree o before after × ((l : S) × IsHomeAt o before number l)

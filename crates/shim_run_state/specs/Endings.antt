@@ -7,11 +7,11 @@ use Rattle.shim_semantics.specs.Endings.{outcome_of_label}
 use Rattle.shim_laws_table.specs.RepresentedTree.{node_of}
 use Rattle.shim_records.specs.declared.record.Status.{Status}
 use Rattle.shim_records.specs.declared.record.Status.TheVariants as code
-use Rattle.shim_laws_table_events.specs.keeping.Tables.{TableView, stands}
+use Rattle.shim_laws_table_events.specs.keeping.Tables.{TableView, views}
 
 -- this is the node of the process 0, computed through so many forks
 pub record IsRoot {S : Type 0} (v : TableView S) (levels : ℕ) (root : Node S) : Type 0 where
-  pub is : node_of v.states (stands v) levels 0 ≡ Some root
+  pub is : node_of v.states (views v) levels 0 ≡ Some root
 
 -- the outcome of a tree in which nothing can happen, whose root's record has this status
 abbrev pub outcome_by : Status → Outcome

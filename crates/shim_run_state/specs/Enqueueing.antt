@@ -26,7 +26,7 @@ pub record ListsInEventQueue {S : Type 0} (o : Ops S) (v : TableView S) (n numbe
   pub only : (i : ℕ) → is_listed new i ≡ true → (is_listed old i ≡ true) ⊎ ((i ≡ number) ⊎ IsAbove (up_in v.records) n number i)
   pub as_many : length new ≡ length old
 
--- what was listed is, and so is this number, if its process stands before a quiet step, and nothing else
+-- what was listed is, and so is this number, if its process is before a quiet step, and nothing else
 pub record ListsInReadyQueue {S : Type 0} (o : Ops S) (v : TableView S) (number : ℕ) (old new : List Bool) : Type 0 where
   pub kept : (i : ℕ) → is_listed old i ≡ true → is_listed new i ≡ true
   pub mine : (l : S) → IsQuietAt o v number l → is_listed new number ≡ true
@@ -44,10 +44,10 @@ pub record KeepsQuietListed {S : Type 0} (o : Ops S) (v : TableView S) (checked_
   pub kept : QuietAreListed o v old checked_out → QuietAreListed o v new checked_out
   pub as_many : length new ≡ length old
 
--- the process with this number stands before a quiet step, and isn't checked out; or no number is listed
-abbrev pub IsFirstHome : {S : Type 0} → Ops S → TableView S → List Bool → List Bool → Option ℕ → Type 0
-IsFirstHome o v checked_out ready_queue None = (i : ℕ) → is_listed ready_queue i ≡ false
-IsFirstHome {S} o v checked_out ready_queue (Some number) = (l : S) × IsQuietAt o v number l × (is_listed checked_out number ≡ false)
+-- the process with this number is before a quiet step, and isn't checked out; or no number is listed
+abbrev pub IsListedHome : {S : Type 0} → Ops S → TableView S → List Bool → List Bool → Option ℕ → Type 0
+IsListedHome o v checked_out ready_queue None = (i : ℕ) → is_listed ready_queue i ≡ false
+IsListedHome {S} o v checked_out ready_queue (Some number) = (l : S) × IsQuietAt o v number l × (is_listed checked_out number ≡ false)
 
 -- ---- both queues together
 
@@ -58,7 +58,7 @@ pub record Requeues {S : Type 0} (o : Ops S) (v : TableView S) (n number : ℕ) 
   pub checked_out : behind.checked_out ≡ before.checked_out
   pub within : number < length behind.event_queue
 
--- the flag that tells whether the process with this number is checked out is this one, and nothing else has changed
+-- the flag that says whether the process with this number is checked out is this one, and nothing else has changed
 pub record SetsCheckedOut (number : ℕ) (flag : Bool) (before behind : ProcessListsView) : Type 0 where
   pub is : behind ≡ record { own = before.own; event_queue = before.event_queue; ready_queue = before.ready_queue; checked_out = slice_set before.checked_out number flag }
   pub within : number < length before.checked_out

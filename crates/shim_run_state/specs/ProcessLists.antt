@@ -7,7 +7,7 @@ use Rattle.shim_process_table.specs.Lookups.{IsForAll}
 pub record ProcessListsView : Type 0 where
   -- how many steps of its own the process did
   pub own : List ℕ
-  -- whether something but a quiet step may happen there, whether it may stand before a quiet step, and whether it is checked out
+  -- whether something but a quiet step may happen there, whether it may be before a quiet step, and whether it is checked out
   pub event_queue : List Bool
   pub ready_queue : List Bool
   pub checked_out : List Bool

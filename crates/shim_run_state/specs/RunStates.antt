@@ -6,10 +6,10 @@ use Rattle.shim_local.specs.Process.{Ops, AtQuiet}
 use Rattle.shim_local.specs.declared.LogWhat.{LogWhat}
 use Rattle.shim_semantics.specs.Nodes.{Node, Live}
 use Rattle.shim_semantics.specs.Trees.{Tree, Met, steps}
-use Rattle.shim_laws_table.specs.Seen.{lives}
+use Rattle.shim_laws_table.specs.NodeStatus.{lives}
 use Rattle.shim_laws_table.specs.RepresentedTree.{represented_tree}
 use Rattle.shim_laws_table.specs.Agrees.{RecordView, used}
-use Rattle.shim_laws_table_events.specs.keeping.Tables.{TableView, HasProcessState, TableInvariant, stands}
+use Rattle.shim_laws_table_events.specs.keeping.Tables.{TableView, HasProcessState, TableInvariant, views}
 use Rattle.shim_laws_table_events.specs.queues.EventQueue.{is_listed, AreListed}
 use Rattle.shim_run_log.specs.Counted.{StepCount, counted}
 use Rattle.shim_run_state.specs.ProcessLists.{ProcessListsView, Serves}
@@ -36,7 +36,7 @@ path_by o _ _ = None
 
 -- that of the record with a number
 abbrev pub path_at : {S : Type 0} → Ops S → TableView S → ℕ → Option Path
-path_at o v i = path_by o (slice_get v.states i) (slice_get (stands v) i)
+path_at o v i = path_by o (slice_get v.states i) (slice_get (views v) i)
 
 -- this count, if there is a path to count it for
 abbrev pub entry : Option Path → ℕ → List StepCount
@@ -55,24 +55,24 @@ or_begun l (Some n) = n
 
 -- the tree that it is
 abbrev pub tree_in : {S : Type 0} → Ops S → RunStateView S → Tree S
-tree_in o v = record { root = or_begun v.begun (represented_tree o v.table.states (stands v.table)); output = v.output; histories = v.histories; logs = v.logs; counts = counted (counts_from (path_at o v.table) v.process_lists.own ++ v.past); events = v.events }
+tree_in o v = record { root = or_begun v.begun (represented_tree o v.table.states (views v.table)); output = v.output; histories = v.histories; logs = v.logs; counts = counted (counts_from (path_at o v.table) v.process_lists.own ++ v.past); events = v.events }
 
--- the process with this number lives, and stands before a quiet step
+-- the process with this number lives, and is before a quiet step
 pub record IsQuietAt {S : Type 0} (o : Ops S) (v : TableView S) (i : ℕ) (l : S) : Type 0 where
   pub first : ℕ
   pub has : HasProcessState v i first l lives
-  pub stands : o.stop l ≡ AtQuiet
+  pub stop_is : o.stop l ≡ AtQuiet
 
 -- that process is checked out
 pub record IsCheckedOut {S : Type 0} (o : Ops S) (v : RunStateView S) (i : ℕ) (l : S) : Type 0 where
   pub at_quiet : IsQuietAt o v.table i l
   pub flag : is_listed v.process_lists.checked_out i ≡ true
 
--- whoever stands before a quiet step is listed or checked out
+-- whoever is before a quiet step is listed or checked out
 abbrev pub QuietAreListed : {S : Type 0} → Ops S → TableView S → List Bool → List Bool → Type 0
 QuietAreListed {S} o v ready_queue checked_out = (i : ℕ) (l : S) → IsQuietAt o v i l → (is_listed ready_queue i ≡ true) ⊎ (is_listed checked_out i ≡ true)
 
--- The records show the tree, and what may happen next is listed: whatever event is enabled is looked for at a number that is listed, and whoever stands before a quiet step is listed or checked out. Who is checked out stands before a quiet step.
+-- The records show the tree, and what may happen next is listed: whatever event is enabled is looked for at a number that is listed, and whoever is before a quiet step is listed or checked out. Who is checked out is before a quiet step.
 pub record RunStateInvariant {S : Type 0} (o : Ops S) (v : RunStateView S) : Type 0 where
   pub represents : TableInvariant o [] v.table (tree_in o v).root
   pub event_queue : AreListed o v.table (tree_in o v) v.process_lists.event_queue

@@ -22,7 +22,7 @@ pub record ListsEach {S : Type 0} (o : Ops S) (v : TableView S) (numbers : List 
   pub only : (i : ℕ) → is_listed new i ≡ true → (is_listed old i ≡ true) ⊎ IsOneOrAbove v numbers i
   pub as_many : length new ≡ length old
 
--- What was listed is, and so is each of these numbers whose process stands before a quiet step; nothing else is, but perhaps others of these numbers.
+-- What was listed is, and so is each of these numbers whose process is before a quiet step; nothing else is, but perhaps others of these numbers.
 pub record ListsEachQuiet {S : Type 0} (o : Ops S) (v : TableView S) (numbers : List ℕ) (old new : List Bool) : Type 0 where
   pub kept : (i : ℕ) → is_listed old i ≡ true → is_listed new i ≡ true
   pub mine : (m : ℕ) (l : S) → IsAmong m numbers → IsQuietAt o v m l → is_listed new m ≡ true

@@ -43,11 +43,11 @@ pub(crate) fn log_catch(logs: &mut Vec<Log>, path: Path, thrown: Thrown)
 }
 
 impl<L: Local> RunState<L> {
-    // The `put` at which the process stands. What may be refused comes first, since what is done can't be
+    // The `put` at which the process is. What may be refused comes first, since what is done can't be
     // taken back.
     pub(crate) fn put(&mut self, number: u32) -> Result<Event, NoMemory>
         requires few { steps (tree_in L.ops self.old) < 4000000 }
-        requires stands { LivesAt L.ops self.old.table number AtPut }
+        requires lives_at { LivesAt L.ops self.old.table number AtPut }
         ensures ok { IfOk result (λ e. HappensIn L.ops self.old self.new (event_of e)) }
         ensures err { OnErr result (StaysAs L.ops self.old self.new) }
     {
@@ -63,7 +63,7 @@ impl<L: Local> RunState<L> {
     // The exception of this label that the process throws.
     pub(crate) fn throw(&mut self, number: u32, label: u32) -> Result<Event, NoMemory>
         requires few { steps (tree_in L.ops self.old) < 4000000 }
-        requires stands { LivesAt L.ops self.old.table number (AtThrow label) }
+        requires lives_at { LivesAt L.ops self.old.table number (AtThrow label) }
         ensures ok { IfOk result (λ e. HappensIn L.ops self.old self.new (event_of e)) }
         ensures err { OnErr result (StaysAs L.ops self.old self.new) }
     {
@@ -77,10 +77,10 @@ impl<L: Local> RunState<L> {
         Ok(event)
     }
 
-    // The trap at which the process stands.
+    // The trap at which the process is.
     pub(crate) fn trap(&mut self, number: u32, kind: Trap, line: u32) -> Result<Event, NoMemory>
         requires few { steps (tree_in L.ops self.old) < 4000000 }
-        requires stands { LivesAt L.ops self.old.table number (AtTrap kind line) }
+        requires lives_at { LivesAt L.ops self.old.table number (AtTrap kind line) }
         ensures ok { IfOk result (λ e. HappensIn L.ops self.old self.new (event_of e)) }
         ensures err { OnErr result (StaysAs L.ops self.old self.new) }
     {
@@ -104,7 +104,7 @@ impl<L: Local> RunState<L> {
     // The end of a process that has nothing left to do.
     pub(crate) fn finish(&mut self, number: u32) -> Result<Event, NoMemory>
         requires few { steps (tree_in L.ops self.old) < 4000000 }
-        requires stands { LivesAt L.ops self.old.table number AtFinish }
+        requires lives_at { LivesAt L.ops self.old.table number AtFinish }
         ensures ok { IfOk result (λ e. HappensIn L.ops self.old self.new (event_of e)) }
         ensures err { OnErr result (StaysAs L.ops self.old self.new) }
     {

@@ -1,12 +1,12 @@
-// Processes that stand before a quiet step: which of them are checked out, and the steps that they do.
+// Processes that are before a quiet step: which of them are checked out, and the steps that they do.
 ghost use Rattle.std.specs.Prelude.{◌≡◌, ◌≤◌, ◌+◌, ℕ, true, false};
 ghost use Rattle.shim_semantics.specs.Trees.{steps};
-ghost use Rattle.shim_laws_table.specs.Seen.{ProcessStatus};
+ghost use Rattle.shim_laws_table.specs.NodeStatus.{ProcessStatus};
 ghost use Rattle.shim_laws_table_events.specs.keeping.Tables.{HasProcessState};
 ghost use Rattle.shim_laws_table_events.specs.queues.EventQueue.{is_listed};
 ghost use Rattle.shim_process_table.specs.Lookups.{IsInUse, IsForAll};
 ghost use Rattle.shim_run_state.specs.RunStates.{tree_in, IsQuietAt};
-ghost use Rattle.shim_run_state.specs.Enqueueing.{KeepsQuietListed, IsFirstHome};
+ghost use Rattle.shim_run_state.specs.Enqueueing.{KeepsQuietListed, IsListedHome};
 ghost use Rattle.shim_run_state.specs.CheckingOut.{IsHomeAt, IsNextQuiet, ChecksOut, CheckedOutReaches, ChecksIn, StepsIn};
 
 use crate::run_state::RunState;
@@ -15,7 +15,7 @@ use shim_local::{Local, Quiet};
 use shim_process_table::ProcessTable;
 use shim_records::Worklist;
 
-// Whether the process with this number stands before a quiet step, and isn't checked out.
+// Whether the process with this number is before a quiet step, and isn't checked out.
 fn is_at_home<L: Local>(table: &ProcessTable<L>, checked_out: &[bool], number: u32) -> bool
     requires { IsForAll table.now checked_out.now }
     ensures home { result ≡ true → (l : L) × IsQuietAt L.ops table.now number l × (is_listed checked_out.now number ≡ false) }
@@ -27,7 +27,7 @@ fn is_at_home<L: Local>(table: &ProcessTable<L>, checked_out: &[bool], number: u
     !checked_out[number as usize]
 }
 
-// A listed number of a process that stands before a quiet step and isn't checked out; it is looked for from the one
+// A listed number of a process that is before a quiet step and isn't checked out; it is looked for from the one
 // listed last on. Those that were looked at before it are listed no more.
 pub(crate) fn first_at_home<L: Local>(
     table: &ProcessTable<L>,
@@ -36,7 +36,7 @@ pub(crate) fn first_at_home<L: Local>(
 ) -> Option<u32>
     requires { IsForAll table.now checked_out.now }
     ensures still { KeepsQuietListed L.ops table.now checked_out.now ready_queue.old ready_queue.new }
-    ensures first { IsFirstHome L.ops table.now checked_out.now ready_queue.new result }
+    ensures first { IsListedHome L.ops table.now checked_out.now ready_queue.new result }
 {
     while let Some(number) = ready_queue.take() {
         if is_at_home(table, checked_out, number) {
@@ -48,7 +48,7 @@ pub(crate) fn first_at_home<L: Local>(
 }
 
 impl<L: Local> RunState<L> {
-    /// The number of a process that stands before a quiet step and isn't checked out; `None` exactly where each such
+    /// The number of a process that is before a quiet step and isn't checked out; `None` exactly where each such
     /// process is checked out. It takes no memory.
     pub fn next_quiet(&mut self) -> Option<u32>
         ensures { IsNextQuiet L.ops self.old self.new result }
@@ -72,7 +72,7 @@ impl<L: Local> RunState<L> {
         self.table.path(number)
     }
 
-    /// Checks out the process with this number, which stands before a quiet step and isn't checked out: until it is
+    /// Checks out the process with this number, which is before a quiet step and isn't checked out: until it is
     /// checked in, it stays as it is. It takes no memory.
     pub fn check_out(&mut self, number: u32)
         requires { (l : L) × IsHomeAt L.ops self.old number l }
@@ -95,8 +95,8 @@ impl<L: Local> RunState<L> {
         self.taken += taken;
     }
 
-    /// The process with this number, which stands before a quiet step and isn't checked out, does up to `most` quiet
-    /// steps in place. It does fewer only where it comes to another stop, or memory is wanted for one more.
+    /// The process with this number, which is before a quiet step and isn't checked out, does up to `most` quiet
+    /// steps in place. It does fewer only where it comes to another stop, or memory runs out.
     /// With `most` more the tree has at most 4,000,000 steps.
     pub fn step(&mut self, number: u32, most: u64) -> Quiet
         requires home { (l : L) × IsHomeAt L.ops self.old number l }

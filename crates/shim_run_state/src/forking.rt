@@ -2,7 +2,7 @@
 ghost use Rattle.std.specs.Prelude.{◌≡◌, ◌≤◌, ◌<◌, ◌+◌, ℕ, true, false, length, replicate, vec_len, OnOk, OnErr, IfOk};
 ghost use Rattle.shim_local.specs.Process.{AtFork};
 ghost use Rattle.shim_semantics.specs.Trees.{steps, Own};
-ghost use Rattle.shim_laws_table.specs.Seen.{lives};
+ghost use Rattle.shim_laws_table.specs.NodeStatus.{lives};
 ghost use Rattle.shim_records.specs.Blocks.{with_block};
 ghost use Rattle.shim_laws_table_events.specs.keeping.Tables.{HasProcessState};
 ghost use Rattle.shim_run_log.specs.Events.{event_of};
@@ -76,11 +76,11 @@ fn children_of(outcome: ForkOutcome) -> (u32, u32)
 }
 
 impl<L: Local> RunState<L> {
-    // The fork at which the process stands. What may be refused comes first, since what is done can't be taken
+    // The fork at which the process is. What may be refused comes first, since what is done can't be taken
     // back.
     pub(crate) fn fork(&mut self, number: u32) -> Result<Event, NoMemory>
         requires few { steps (tree_in L.ops self.old) < 4000000 }
-        requires stands { LivesAt L.ops self.old.table number AtFork }
+        requires lives_at { LivesAt L.ops self.old.table number AtFork }
         ensures ok { IfOk result (λ e. HappensIn L.ops self.old self.new (event_of e)) }
         ensures err { OnErr result (StaysAs L.ops self.old self.new) }
     {

@@ -20,7 +20,7 @@ use shim_local::{Local, Stop};
 use shim_process_table::{ProcessTable, Sharers};
 use shim_run_log::{Event, Histories};
 
-// The channel at which the process stands, if it stands at one.
+// The channel at which the process is, if it is at one.
 fn awaited<L: Local>(process: &L) -> Option<&Chan>
     ensures { option_copied result ≡ next_channel (L.ops.stop process.now) }
 {
@@ -60,7 +60,7 @@ fn record<L: Local>(
     histories.record(c, name, value)
 }
 
-// Each of these that lives and stands at the channel receives the value, one after the other, and is put in the
+// Each of these that lives and is at the channel receives the value, one after the other, and is put in the
 // queue in which it then belongs; of the forks above it those are looked at again at which more may be due.
 fn receive_each<L: Local>(
     table: &mut ProcessTable<L>,
@@ -78,7 +78,7 @@ fn receive_each<L: Local>(
     }
 }
 
-// The process with this number receives so, if it lives and stands at the channel.
+// The process with this number receives so, if it lives and is at the channel.
 fn receive_one<L: Local>(
     table: &mut ProcessTable<L>,
     c: &Chan,
@@ -97,7 +97,7 @@ fn receive_one<L: Local>(
 }
 
 impl<L: Local> RunState<L> {
-    // The meeting of the channel at which the process stands, which declared it.
+    // The meeting of the channel at which the process is, which declared it.
     pub(crate) fn meet_alone(&mut self, number: u32) -> Result<Event, NoMemory>
         requires few { steps (tree_in L.ops self.old) < 4000000 }
         requires alone { MeetsAlone L.ops self.old.table number }

@@ -7,7 +7,7 @@ ghost use Rattle.shim_run_state.specs.ProcessLists.{Serves};
 ghost use Rattle.shim_run_state.specs.Room.{IsRoomier, HasNewChildren, HasRoomFor};
 ghost use Rattle.shim_run_state.specs.Settling.{KeepsEventsListed, IsNextDue};
 ghost use Rattle.shim_run_state.specs.Several.{RequeuesEach};
-ghost use Rattle.shim_run_state.specs.Enqueueing.{KeepsQuietListed, IsFirstHome, HasCounted, Requeues, SetsCheckedOut, IsButEventQueue, IsButReadyQueue};
+ghost use Rattle.shim_run_state.specs.Enqueueing.{KeepsQuietListed, IsListedHome, HasCounted, Requeues, SetsCheckedOut, IsButEventQueue, IsButReadyQueue};
 
 use crate::checking_out::first_at_home;
 use crate::enqueueing::{count_steps, enqueue_as};
@@ -29,7 +29,7 @@ pub(crate) struct ProcessLists {
     own: Vec<u64>,
     /// The numbers at which something but a quiet step may happen.
     event_queue: Worklist,
-    /// The numbers of processes that may stand before a quiet step.
+    /// The numbers of processes that may be before a quiet step.
     ready_queue: Worklist,
     checked_out: Vec<bool>,
 }
@@ -67,7 +67,7 @@ impl ProcessLists {
         })
     }
 
-    /// Room for all numbers below this one. Want of memory leaves all that is counted, listed and checked out.
+    /// Room for all numbers below this one. Running out of memory leaves all that is counted, listed and checked out.
     pub(crate) fn grow_to(&mut self, end: usize) -> Result<(), NoMemory>
         ensures same { IsRoomier self.old self.new }
         ensures ok { OnOk result (HasRoomFor end self.new) }
@@ -162,12 +162,12 @@ impl ProcessLists {
         self.checked_out[number as usize] = checked_out;
     }
 
-    /// The number, among those that are listed, of a process that stands before a quiet step and isn't checked out; it is
+    /// The number, among those that are listed, of a process that is before a quiet step and isn't checked out; it is
     /// looked for from the one listed last on. Those that were looked at before it are listed no more.
     pub(crate) fn next_at_home<L: Local>(&mut self, table: &ProcessTable<L>) -> Option<u32>
         requires { Serves table.now self.old }
         ensures still { KeepsQuietListed L.ops table.now self.old.checked_out self.old.ready_queue self.new.ready_queue }
-        ensures first { IsFirstHome L.ops table.now self.old.checked_out self.new.ready_queue result }
+        ensures first { IsListedHome L.ops table.now self.old.checked_out self.new.ready_queue result }
         ensures rest { IsButReadyQueue self.old self.new }
     {
         first_at_home(table, self.checked_out.as_slice(), &mut self.ready_queue)
@@ -197,7 +197,7 @@ impl ProcessLists {
         self.event_queue.numbers()
     }
 
-    /// The numbers of processes that may stand before a quiet step.
+    /// The numbers of processes that may be before a quiet step.
     pub(crate) fn ready_queue(&self) -> &[u32]
         ensures { AreListedIn result.now self.now.ready_queue }
     {

@@ -10,7 +10,7 @@ use crate::settling::is_something;
 use shim_local::Local;
 use shim_process_table::ProcessTable;
 
-// Whether none of the processes with these numbers stands before a quiet step.
+// Whether none of the processes with these numbers is before a quiet step.
 fn none_quiet<L: Local>(table: &ProcessTable<L>, numbers: &[u32]) -> bool
     ensures { NoneQuiet L.ops table.now numbers.now result }
 {

@@ -24,7 +24,7 @@ pub(crate) struct PastSteps {
 }
 
 /// A tree of processes, as `shim_tree::Tree` is one, kept as states and records. What can happen next is
-/// listed by the numbers of processes, and a process that stands before a quiet step can be checked out: it then
+/// listed by the numbers of processes, and a process that is before a quiet step can be checked out: it then
 /// does nothing until it is checked in. Contracts see the tree (`tree_in`) and who is checked out.
 #[derive(Drop)]
 pub struct RunState<L: Local> {
@@ -84,7 +84,7 @@ impl<L: Local> RunState<L> {
         })
     }
 
-    /// How many events led to the tree. Its clauses tell, too, what its type keeps.
+    /// How many events led to the tree. Its clauses say, too, what its type keeps.
     pub fn steps(&self) -> u64
         ensures steps { result ≡ trees.steps (tree_in L.ops self.now) }
         ensures keeps { RunStateInvariant L.ops self.now }
@@ -92,7 +92,7 @@ impl<L: Local> RunState<L> {
         self.taken
     }
 
-    /// The values that the meetings on the channel gave, if it had one; it lends no empty list.
+    /// The values that the rendezvous on the channel gave, if it had one; it lends no empty list.
     pub fn history(&self, c: &Chan) -> Option<&[i64]>
         ensures values { option_copied result ≡ endings.history_at c.now.channel (tree_in L.ops self.now) }
         ensures none { (option_copied result ≡ None) ↔ (endings.values_on c.now.channel (tree_in L.ops self.now) ≡ []) }

@@ -44,7 +44,7 @@ pub(crate) fn first_due<L: Local>(
 
 impl<L: Local> RunState<L> {
     /// Does an enabled event that is no quiet step, and answers which; `None` exactly where there is none.
-    /// Which of several it does is free. Who is checked out stays so. Want of memory leaves the tree as it was.
+    /// Which of several it does is free. Who is checked out stays so. Running out of memory leaves the tree as it was.
     /// The tree has to have fewer than 4,000,000 steps.
     pub fn settle_one(&mut self) -> Result<Option<Event>, NoMemory>
         requires few { steps (tree_in L.ops self.old) < 4000000 }

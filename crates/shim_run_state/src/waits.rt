@@ -11,7 +11,7 @@ use shim_process_table::ProcessTable;
 use shim_records::Status;
 use shim_run_log::Waits;
 
-// Adds this live process, if it stands at a channel.
+// Adds this live process, if it is at a channel.
 fn gather_live<L: Local>(process: &L, waits: &mut Waits) -> Result<(), NoMemory>
     ensures { OnOk result (waits.new ≡ with_waits waits.old (wait_of (L.ops.path process.now) (next_channel (L.ops.stop process.now)))) }
 {
@@ -26,7 +26,7 @@ fn gather_live<L: Local>(process: &L, waits: &mut Waits) -> Result<(), NoMemory>
     }
 }
 
-/// Adds each live process at and below this number that stands at a channel, in the order of the tree,
+/// Adds each live process at and below this number that waits at a channel, in the order of the tree,
 /// through so many forks.
 pub(crate) fn gather<L: Local>(
     table: &ProcessTable<L>,

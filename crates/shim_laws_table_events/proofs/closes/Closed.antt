@@ -15,7 +15,7 @@ use Rattle.shim_semantics.proofs.Follows.{Keeps as NodeKeeps}
 use Rattle.shim_semantics.proofs.Leading.{route_rest}
 use Rattle.shim_semantics.proofs.Replaced.{sound_at}
 use Rattle.shim_semantics.proofs.SoundEvents.{here_keeps}
-use Rattle.shim_laws_table.specs.Seen.{ProcessStatus, forks, process_status, is_leaf, place, how_many_nodes}
+use Rattle.shim_laws_table.specs.NodeStatus.{ProcessStatus, forks, process_status, is_leaf, place, how_many_nodes}
 use Rattle.shim_laws_table.specs.Agrees.{RecordView, Has, Represents}
 use Rattle.shim_laws_table.specs.Places.{IsReplaced, HasActed}
 use Rattle.shim_laws_table.specs.Changes.{HasClosed, segment, prevailing_among}
@@ -32,13 +32,13 @@ use Rattle.shim_laws_table.proofs.LabelsBegun.{labels_begin}
 use Rattle.shim_laws_table.proofs.Linked.{links_follow}
 use Rattle.shim_laws_table.proofs.SameTrees.{same_or_not, no_fork, seen_fork}
 use Rattle.shim_laws_table.proofs.Shown.{events_preserve}
-use Rattle.shim_records.specs.Pairs.{stands_of, up_at, up_in, counts_in, min_labels_in, chans_of, IsOrdered, AreOrdered}
+use Rattle.shim_records.specs.Pairs.{record_view, up_at, up_in, counts_in, min_labels_in, chans_of, IsOrdered, AreOrdered}
 use Rattle.shim_records.specs.declared.record.Record.{Record}
 use Rattle.shim_records.proofs.Representing.{blocks_are_events}
 use Rattle.shim_records.proofs.Stepping.{set_there, set_elsewhere}
 use Rattle.shim_laws_table_events.specs.keeping.Tables.{IsFit, TableInvariant}
 use Rattle.shim_laws_table_events.specs.closes.Closing.{RecordWithoutStatus, without_status, AreFreed, HasCome}
-use Rattle.shim_laws_table_events.proofs.closes.Saying.{map_length, from_map, said_alike, part, same_counts_at, same_labels_at, same_parent_at, said, said_stands, said_ups, said_counts, said_labels, said_order}
+use Rattle.shim_laws_table_events.proofs.closes.Saying.{map_length, from_map, said_alike, part, same_counts_at, same_labels_at, same_parent_at, record_body, views_alike, said_ups, said_counts, said_labels, said_order}
 
 some_of : {A : Type 0} (x : Option A) → x ≢ None → (y : A) × (x ≡ Some y)
 some_of None h = absurd (h refl)
@@ -57,32 +57,32 @@ closed_leaf o l ks (Some d) = thrown_leaf o (o.join l ks false) d
 
 -- Records that show the tree behind, where counts and labels above a place are still those of the tree before.
 pub record Begins {S : Type 0} (o : Ops S) (rp : Path) (states : List S) (old new : Node S) (q : List ℕ) (i : ℕ) (s : S) (k : ProcessStatus) (rs : List Record) : Type 0 where
-  pub shown : Represents o rp states (map stands_of rs) new
-  pub linked : AreLinked states (map stands_of rs) (up_in rs)
-  pub few : AreAtMost 4294967295 states (map stands_of rs)
+  pub shown : Represents o rp states (map record_view rs) new
+  pub linked : AreLinked states (map record_view rs) (up_in rs)
+  pub few : AreAtMost 4294967295 states (map record_view rs)
   pub ordered : AreOrdered rs
   pub first : ℕ
-  pub has : Has states (map stands_of rs) i first s k
-  pub there : (c : Channel) → HaveCounts o rp states (map stands_of rs) c (counts_in c rs) new
-  pub counts : (c : Channel) → OnTheWay o rp states (map stands_of rs) c (counts_in c rs) old new q
-  pub labels : (c : Channel) → LabelsOnTheWay o rp states (map stands_of rs) c (counts_in c rs) (min_labels_in c rs) old new q
+  pub has : Has states (map record_view rs) i first s k
+  pub there : (c : Channel) → HaveCounts o rp states (map record_view rs) c (counts_in c rs) new
+  pub counts : (c : Channel) → OnTheWay o rp states (map record_view rs) c (counts_in c rs) old new q
+  pub labels : (c : Channel) → LabelsOnTheWay o rp states (map record_view rs) c (counts_in c rs) (min_labels_in c rs) old new q
 
 -- so do records that say the same
-pub begins_too : {S : Type 0} (o : Ops S) (rp : Path) (states : List S) (old new : Node S) (q : List ℕ) (i : ℕ) (s : S) (k : ProcessStatus) (rs left : List Record) → map said left ≡ map said rs → Begins o rp states old new q i s k rs → Begins o rp states old new q i s k left
+pub begins_too : {S : Type 0} (o : Ops S) (rp : Path) (states : List S) (old new : Node S) (q : List ℕ) (i : ℕ) (s : S) (k : ProcessStatus) (rs left : List Record) → map record_body left ≡ map record_body rs → Begins o rp states old new q i s k rs → Begins o rp states old new q i s k left
 begins_too o rp states old new q i s k rs left h b =
-    let st = sym (said_stands rs left h) in
+    let st = sym (views_alike rs left h) in
     let counts = λ (c : Channel). sym (said_counts rs left h c) in
     record {
       shown = subst (λ z. Represents o rp states z new) st b.shown;
-      linked = subst (λ z. AreLinked states (map stands_of left) z) (sym (said_ups rs left h)) (subst (λ z. AreLinked states z (up_in rs)) st b.linked);
+      linked = subst (λ z. AreLinked states (map record_view left) z) (sym (said_ups rs left h)) (subst (λ z. AreLinked states z (up_in rs)) st b.linked);
       few = subst (AreAtMost 4294967295 states) st b.few;
       ordered = said_order rs left h b.ordered;
       first = b.first;
       has = subst (λ z. Has states z i b.first s k) st b.has;
-      there = λ c. subst (λ z. HaveCounts o rp states (map stands_of left) c z new) (counts c) (subst (λ z. HaveCounts o rp states z c (counts_in c rs) new) st (b.there c));
-      counts = λ c. subst (λ z. OnTheWay o rp states (map stands_of left) c z old new q) (counts c) (subst (λ z. OnTheWay o rp states z c (counts_in c rs) old new q) st (b.counts c));
-      labels = λ c. subst (λ z. LabelsOnTheWay o rp states (map stands_of left) c (counts_in c left) z old new q) (sym (said_labels rs left h c))
-          (subst (λ z. LabelsOnTheWay o rp states (map stands_of left) c z (min_labels_in c rs) old new q) (counts c)
+      there = λ c. subst (λ z. HaveCounts o rp states (map record_view left) c z new) (counts c) (subst (λ z. HaveCounts o rp states z c (counts_in c rs) new) st (b.there c));
+      counts = λ c. subst (λ z. OnTheWay o rp states (map record_view left) c z old new q) (counts c) (subst (λ z. OnTheWay o rp states z c (counts_in c rs) old new q) st (b.counts c));
+      labels = λ c. subst (λ z. LabelsOnTheWay o rp states (map record_view left) c (counts_in c left) z old new q) (sym (said_labels rs left h c))
+          (subst (λ z. LabelsOnTheWay o rp states (map record_view left) c z (min_labels_in c rs) old new q) (counts c)
           (subst (λ z. LabelsOnTheWay o rp states z c (counts_in c rs) (min_labels_in c rs) old new q) st (b.labels c)));
     }
 
@@ -92,12 +92,12 @@ pub record Behind {S : Type 0} (o : Ops S) (rp : Path) (t : Tree S) (states : Li
   pub enabled : after o (Close (o.path l)) t ≡ Some tree
   pub children : Nodes S
   pub done : all_done children ≡ true
-  pub prevails : prevailing_death children ≡ prevailing_among (segment g n (map stands_of rs))
+  pub prevails : prevailing_death children ≡ prevailing_among (segment g n (map record_view rs))
   pub acts : act_here o (Forked l children) ≡ Some a
   pub replaced : IsReplaced (place o rp (state a.node)) (Forked l children) a.node t.root tree.root
   pub leaf : is_leaf a.node ≡ true
   pub same_place : place o rp (state a.node) ≡ place o rp l
-  pub closes : HasClosed states (slice_set states i (state a.node)) (map stands_of rs) (map stands_of now) i g n (state a.node) (process_status a.node)
+  pub closes : HasClosed states (slice_set states i (state a.node)) (map record_view rs) (map record_view now) i g n (state a.node) (process_status a.node)
   pub begins : Begins o rp (slice_set states i (state a.node)) t.root tree.root (place o rp (state a.node)) i (state a.node) (process_status a.node) now
   pub near : length (place o rp (state a.node)) ≤ 4294967295
   -- of its record, of another one, and of all
@@ -107,10 +107,10 @@ pub record Behind {S : Type 0} (o : Ops S) (rp : Path) (t : Tree S) (states : Li
   pub long : length now ≡ length rs
 
 module _ {S : Type 0} (o : Ops S) (law : LocalLaws o) (rp : Path) (t : Tree S) (states : List S) (rs : List Record) (i g n : ℕ) (l : S) (q : Record) (a : Acted S)
-    (kept : TableInvariant o rp (record { states = states; records = rs }) t.root) (has : Has states (map stands_of rs) i g l (forks n)) (at_q : slice_get rs i ≡ Some q) (none : q.running_children ≡ 0)
-    (is : a ≡ closed o l (segment g n states) (prevailing_among (segment g n (map stands_of rs)))) where
-  abbrev stood : List RecordView
-  stood = map stands_of rs
+    (kept : TableInvariant o rp (record { states = states; records = rs }) t.root) (has : Has states (map record_view rs) i g l (forks n)) (at_q : slice_get rs i ≡ Some q) (none : q.running_children ≡ 0)
+    (is : a ≡ closed o l (segment g n states) (prevailing_among (segment g n (map record_view rs)))) where
+  abbrev old_views : List RecordView
+  old_views = map record_view rs
 
   abbrev states' : List S
   states' = slice_set states i (state a.node)
@@ -127,13 +127,13 @@ module _ {S : Type 0} (o : Ops S) (law : LocalLaws o) (rp : Path) (t : Tree S) (
   none_go = sym (kept.running_children i g n l l fork.0 q has at_q fork.1) ∙ none
 
   next : (u : Tree S) × (after o (Close (o.path l)) t ≡ Some u)
-  next = some_of (after o (Close (o.path l)) t) (((enabled_by_records o law).closes rp states stood t i g n l fork.0 kept.represents has fork.1).1 none_go)
+  next = some_of (after o (Close (o.path l)) t) (((enabled_by_records o law).closes rp states old_views t i g n l fork.0 kept.represents has fork.1).1 none_go)
 
   abbrev new : Node S
   new = next.0.root
 
-  told : (how_many_nodes fork.0 ≡ n) × (states_of fork.0 ≡ segment g n states) × (prevailing_death fork.0 ≡ prevailing_among (segment g n stood))
-  told = children_are_represented o rp states stood t.root i g n l fork.0 kept.represents.agrees has fork.1
+  children_say : (how_many_nodes fork.0 ≡ n) × (states_of fork.0 ≡ segment g n states) × (prevailing_death fork.0 ≡ prevailing_among (segment g n old_views))
+  children_say = children_are_represented o rp states old_views t.root i g n l fork.0 kept.represents.agrees has fork.1
 
   acted : HasActed o (o.path l) t.root new
   acted = (events_show o law).alone t next.0 (o.path l) (Close (o.path l)) refl next.1
@@ -148,7 +148,7 @@ module _ {S : Type 0} (o : Ops S) (law : LocalLaws o) (rp : Path) (t : Tree S) (
   does = ap (act_here o) (sym its_node) ∙ acted.acts
 
   is_acted : acted.acted ≡ a
-  is_acted = sym (cond_some (all_done fork.0) (closed o l (states_of fork.0) (prevailing_death fork.0)) acted.acted does).1 ∙ ((λ j. closed o l (told.1 j) (told.2 j)) ∙ sym is)
+  is_acted = sym (cond_some (all_done fork.0) (closed o l (states_of fork.0) (prevailing_death fork.0)) acted.acted does).1 ∙ ((λ j. closed o l (children_say.1 j) (children_say.2 j)) ∙ sym is)
 
   done : all_done fork.0 ≡ true
   done = (cond_some (all_done fork.0) (closed o l (states_of fork.0) (prevailing_death fork.0)) acted.acted does).0
@@ -164,7 +164,7 @@ module _ {S : Type 0} (o : Ops S) (law : LocalLaws o) (rp : Path) (t : Tree S) (
   })
 
   leaf : is_leaf a.node ≡ true
-  leaf = ap (λ (z : Acted S). is_leaf z.node) is ∙ closed_leaf o l (segment g n states) (prevailing_among (segment g n stood))
+  leaf = ap (λ (z : Acted S). is_leaf z.node) is ∙ closed_leaf o l (segment g n states) (prevailing_among (segment g n old_views))
 
   keeps : NodeKeeps o m a.node
   keeps = here_keeps o law m a (sound_at o (place o rp l) t.root m kept.represents.sound.below fork.1) acts
@@ -188,14 +188,14 @@ module _ {S : Type 0} (o : Ops S) (law : LocalLaws o) (rp : Path) (t : Tree S) (
     abbrev now : List Record
     now = slice_set freed i r
 
-    abbrev stands : List RecordView
-    stands = map stands_of now
+    abbrev views : List RecordView
+    views = map record_view now
 
-    closes : HasClosed states states' stood stands i g n (state a.node) (process_status a.node)
-    closes = (blocks_are_events o).close rp states rs freed t.root i g n come.first l (state a.node) (process_status a.node) r kept.represents.agrees has free.freed come.stands_so
+    closes : HasClosed states states' old_views views i g n (state a.node) (process_status a.node)
+    closes = (blocks_are_events o).close rp states rs freed t.root i g n come.first l (state a.node) (process_status a.node) r kept.represents.agrees has free.freed come.view_is
 
     -- a fork was one before
-    was_fork : (j d w : ℕ) (s : S) → Has states' stands j d s (forks w) → (j ≢ i) × Has states stood j d s (forks w)
+    was_fork : (j d w : ℕ) (s : S) → Has states' views j d s (forks w) → (j ≢ i) × Has states old_views j d s (forks w)
     was_fork j d w s h = elim (closes.only j d s (forks w) h) [
       | inl x ↦ no_fork a.node w leaf (sym x.2)
       | inr x ↦ (x.0, x.2)
@@ -225,8 +225,8 @@ module _ {S : Type 0} (o : Ops S) (law : LocalLaws o) (rp : Path) (t : Tree S) (
     ups : up_in now ≡ up_in rs
     ups = λ w j. parent_is j w
 
-    begun : (c : Channel) → OnTheWay o rp states' stands c (counts_in c now) t.root new (place o rp l) × HaveCounts o rp states' stands c (counts_in c now) new
-    begun c = (counts_begin o).closed rp states states' stood stands c t.root new i g n l fork.0 a.node (counts_in c rs) (counts_in c now) replaced leaf given closes (counts_other c) (kept.right c).counts (kept.right c).there
+    begun : (c : Channel) → OnTheWay o rp states' views c (counts_in c now) t.root new (place o rp l) × HaveCounts o rp states' views c (counts_in c now) new
+    begun c = (counts_begin o).closed rp states states' old_views views c t.root new i g n l fork.0 a.node (counts_in c rs) (counts_in c now) replaced leaf given closes (counts_other c) (kept.right c).counts (kept.right c).there
 
     ordered_at : (j : ℕ) (w : Record) → slice_get now j ≡ Some w → IsOrdered (chans_of w.pairs.items)
     ordered_at j w e = elim (same_or_not j i) [
@@ -240,15 +240,15 @@ module _ {S : Type 0} (o : Ops S) (law : LocalLaws o) (rp : Path) (t : Tree S) (
 
     begins : Begins o rp states' t.root new (place o rp l) i (state a.node) (process_status a.node) now
     begins = record {
-      shown = (events_preserve o law).closed rp states states' stood stands t next.0 i g n l a kept.represents has next.1 is closes;
-      linked = subst (AreLinked states' stands) (sym ups) ((links_follow o).closed states states' stood stands i g n a.node (up_in rs) leaf closes kept.linked);
+      shown = (events_preserve o law).closed rp states states' old_views views t next.0 i g n l a kept.represents has next.1 is closes;
+      linked = subst (AreLinked states' views) (sym ups) ((links_follow o).closed states states' old_views views i g n a.node (up_in rs) leaf closes kept.linked);
       few = λ j d w s h. kept.few j d w s (was_fork j d w s h).1;
       ordered = ordered_at;
       first = closes.first;
       has = closes.parent;
       there = λ c. (begun c).1;
       counts = λ c. (begun c).0;
-      labels = λ c. (labels_begin o).closed rp states states' stood stands c t.root new i g n l fork.0 a.node (counts_in c rs) (counts_in c now) (min_labels_in c rs) (min_labels_in c now) replaced leaf closes (counts_other c) (labels_other c) (kept.right c).labels;
+      labels = λ c. (labels_begin o).closed rp states states' old_views views c t.root new i g n l fork.0 a.node (counts_in c rs) (counts_in c now) (min_labels_in c rs) (min_labels_in c now) replaced leaf closes (counts_other c) (labels_other c) (kept.right c).labels;
     }
 
     -- what came of it still fits
@@ -267,7 +267,7 @@ module _ {S : Type 0} (o : Ops S) (law : LocalLaws o) (rp : Path) (t : Tree S) (
       enabled = next.1;
       children = fork.0;
       done = done;
-      prevails = told.2;
+      prevails = children_say.2;
       acts = acts;
       replaced = subst (λ z. IsReplaced z m a.node t.root new) (sym same_place) replaced;
       leaf = leaf;

@@ -5,10 +5,10 @@ use Rattle.shim_base.specs.Paths.{Path}
 use Rattle.shim_base.proofs.Facts.{none_some}
 use Rattle.shim_local.specs.Process.{Ops}
 use Rattle.shim_semantics.specs.Nodes.{Node}
-use Rattle.shim_laws_table.specs.Seen.{ProcessStatus}
+use Rattle.shim_laws_table.specs.NodeStatus.{ProcessStatus}
 use Rattle.shim_laws_table.specs.Agrees.{RecordView, free, used, Has}
 use Rattle.shim_laws_table.specs.Changes.{HasClosed}
-use Rattle.shim_records.specs.Pairs.{stands_of, up_at, counts_at, min_label_at, known_at}
+use Rattle.shim_records.specs.Pairs.{record_view, up_at, counts_at, min_label_at, known_at}
 use Rattle.shim_records.specs.declared.record.Record.{Record}
 use Rattle.shim_records.proofs.Representing.{map_get}
 use Rattle.shim_laws_table_events.specs.keeping.Tables.{TableInvariant}
@@ -53,38 +53,38 @@ same_lengths (x ∷ xs) (y ∷ ys) (suc m) e = ap suc (same_lengths xs ys m (one
 not_free : {B : Type 0} (f : ℕ) (k : ProcessStatus) → free ≡ used f k → B
 not_free f k e = absurd cc
 
-module _ {S : Type 0} (states : List S) (rs : List Record) (m : ℕ) (unused : (i : ℕ) (r : Record) → m ≤ i → slice_get rs i ≡ Some r → stands_of r ≡ free) where
-  abbrev stood : List RecordView
-  stood = map stands_of rs
+module _ {S : Type 0} (states : List S) (rs : List Record) (m : ℕ) (unused : (i : ℕ) (r : Record) → m ≤ i → slice_get rs i ≡ Some r → record_view r ≡ free) where
+  abbrev old_views : List RecordView
+  old_views = map record_view rs
 
-  abbrev stands : List RecordView
-  stands = map stands_of (take m rs)
+  abbrev views : List RecordView
+  views = map record_view (take m rs)
 
-  -- a record in use stands before the cut
-  before : (i f : ℕ) (s : S) (k : ProcessStatus) → Has states stood i f s k → i < m
+  -- a record in use is before the cut
+  before : (i f : ℕ) (s : S) (k : ProcessStatus) → Has states old_views i f s k → i < m
   before i f s k h = elim (less_or_not i m) [
     | inl w ↦ w
-    | inr w ↦ let r = from_map stands_of (slice_get rs i) (used f k) (sym (map_get stands_of rs i) ∙ h.stands_so) in not_free f k (sym (unused i r.0 w r.1) ∙ r.2)
+    | inr w ↦ let r = from_map record_view (slice_get rs i) (used f k) (sym (map_get record_view rs i) ∙ h.view_is) in not_free f k (sym (unused i r.0 w r.1) ∙ r.2)
   ]
 
-  has_now : (i f : ℕ) (s : S) (k : ProcessStatus) → Has states stood i f s k → Has (take m states) stands i f s k
+  has_now : (i f : ℕ) (s : S) (k : ProcessStatus) → Has states old_views i f s k → Has (take m states) views i f s k
   has_now i f s k h = record {
     state_is = taken states m i (before i f s k h) ∙ h.state_is;
-    stands_so = ap (λ z. slice_get z i) (map_take stands_of rs m) ∙ (taken stood m i (before i f s k h) ∙ h.stands_so);
+    view_is = ap (λ z. slice_get z i) (map_take record_view rs m) ∙ (taken old_views m i (before i f s k h) ∙ h.view_is);
   }
 
-  had : (i f : ℕ) (s : S) (k : ProcessStatus) → Has (take m states) stands i f s k → Has states stood i f s k
+  had : (i f : ℕ) (s : S) (k : ProcessStatus) → Has (take m states) views i f s k → Has states old_views i f s k
   had i f s k h = record {
     state_is = (inside states m i s h.state_is).1;
-    stands_so = (inside stood m i (used f k) (ap (λ z. slice_get z i) (sym (map_take stands_of rs m)) ∙ h.stands_so)).1;
+    view_is = (inside old_views m i (used f k) (ap (λ z. slice_get z i) (sym (map_take record_view rs m)) ∙ h.view_is)).1;
   }
 
-  -- what it says stands as before
-  still : (i f : ℕ) (s : S) (k : ProcessStatus) → Has states stood i f s k → slice_get (take m rs) i ≡ slice_get rs i
+  -- what it says is as before
+  still : (i f : ℕ) (s : S) (k : ProcessStatus) → Has states old_views i f s k → slice_get (take m rs) i ≡ slice_get rs i
   still i f s k h = taken rs m i (before i f s k h)
 
-  -- what came of a closed fork stands as before
-  pub closed_cut : (first : List S) (given : List RecordView) (i g n : ℕ) (s : S) (k : ProcessStatus) → HasClosed first states given stood i g n s k → HasClosed first (take m states) given stands i g n s k
+  -- what came of a closed fork is as before
+  pub closed_cut : (first : List S) (given : List RecordView) (i g n : ℕ) (s : S) (k : ProcessStatus) → HasClosed first states given old_views i g n s k → HasClosed first (take m states) given views i g n s k
   closed_cut first given i g n s k h = record {
     first = h.first;
     parent = has_now i h.first s k h.parent;
@@ -93,7 +93,7 @@ module _ {S : Type 0} (states : List S) (rs : List Record) (m : ℕ) (unused : (
   }
 
 module _ {S : Type 0} (o : Ops S) (rp : Path) (root : Node S) (states : List S) (rs : List Record) (m : ℕ) (kept : TableInvariant o rp (record { states = states; records = rs }) root)
-    (unused : (i : ℕ) (r : Record) → m ≤ i → slice_get rs i ≡ Some r → stands_of r ≡ free) where
+    (unused : (i : ℕ) (r : Record) → m ≤ i → slice_get rs i ≡ Some r → record_view r ≡ free) where
   pub cut : TableInvariant o rp (record { states = take m states; records = take m rs }) root
   cut = record {
     represents = record {

@@ -7,7 +7,7 @@ use Rattle.shim_semantics.specs.Nodes.{Node, Nodes, Forked, goes}
 use Rattle.shim_semantics.specs.Places.{at, child_at}
 use Rattle.shim_semantics.proofs.HowMany.{clash}
 use Rattle.shim_semantics.proofs.ReplacedNodes.{put, put_child}
-use Rattle.shim_laws_table.specs.Seen.{ProcessStatus, forks, seen, is_leaf, place, how_many_nodes, IsAside}
+use Rattle.shim_laws_table.specs.NodeStatus.{ProcessStatus, forks, seen, is_leaf, place, how_many_nodes, IsAside}
 use Rattle.shim_laws_table.specs.Agrees.{RecordView, Has, Represents}
 use Rattle.shim_laws_table.specs.Places.{IsReplaced}
 use Rattle.shim_laws_table.specs.Counts.{bit, running_of}
@@ -18,8 +18,8 @@ use Rattle.shim_laws_table.proofs.Begun.{fork_parts}
 use Rattle.shim_laws_table.proofs.Hanging.{tied}
 use Rattle.shim_laws_table.proofs.Linked.{running_follow}
 use Rattle.shim_laws_table.proofs.OneChange.{one_state}
-use Rattle.shim_laws_table.proofs.SameTrees.{aside_or_further, is_put, seen_sort, fork_count, child_counted}
-use Rattle.shim_laws_table.proofs.Way.{way_from, fork_above, with_split, untouched, leaf_no_fork, above_its_own}
+use Rattle.shim_laws_table.proofs.SameTrees.{aside_or_further, is_put, seen_status, fork_count, child_counted}
+use Rattle.shim_laws_table.proofs.PlacesAbove.{way_from, fork_above, with_split, untouched, leaf_no_fork, above_its_own}
 
 no_channel : Channel
 no_channel = record { home = []; serial = 0 }
@@ -34,8 +34,8 @@ too_long r b d e t h =
     longer : (r t x y : ℕ) → x ≡ r + suc (suc t) → y ≡ r + 1 → x ≡ y → ⊥
     longer r t x y e f g = omega (arith, e, f, g)
 
-module _ {S : Type 0} (o : Ops S) (rp : Path) (states : List S) (stood : List RecordView) (up : ℕ → Option ℕ) (old new m a : Node S) (i f : ℕ) (l : S) (k : ProcessStatus) (shown : Represents o rp states stood old) (linked : AreLinked states stood up)
-    (has : Has states stood i f l k) (rep : IsReplaced (place o rp l) m a old new) (leaf : is_leaf a ≡ true) (went : goes m ≡ true) (stays : goes a ≡ false) where
+module _ {S : Type 0} (o : Ops S) (rp : Path) (states : List S) (old_views : List RecordView) (up : ℕ → Option ℕ) (old new m a : Node S) (i f : ℕ) (l : S) (k : ProcessStatus) (shown : Represents o rp states old_views old) (linked : AreLinked states old_views up)
+    (has : Has states old_views i f l k) (rep : IsReplaced (place o rp l) m a old new) (leaf : is_leaf a ≡ true) (went : goes m ≡ true) (stays : goes a ≡ false) where
   abbrev q : List ℕ
   q = place o rp l
 
@@ -46,16 +46,16 @@ module _ {S : Type 0} (o : Ops S) (rp : Path) (states : List S) (stood : List Re
     pub so_many : ((up i ≡ Some j) × (running_of ks + 1 ≡ running_of children)) ⊎ ((up i ≢ Some j) × (running_of ks ≡ running_of children))
 
   -- the place of its parent
-  from_parent : (j d w : ℕ) (s : S) → Has states stood j d s (forks w) → up i ≡ Some j → (b : ℕ) × (q ≡ place o rp s ++ b ∷ [])
+  from_parent : (j d w : ℕ) (s : S) → Has states old_views j d s (forks w) → up i ≡ Some j → (b : ℕ) × (q ≡ place o rp s ++ b ∷ [])
   from_parent j d w s fork e =
-      let y = tied o rp states stood old shown up linked i f j l k has e in
+      let y = tied o rp states old_views old shown up linked i f j l k has e in
       let b = y.0 in
-      let same : b.parent ≡ s = one_state states stood j b.first d b.parent s (forks b.many) (forks w) (subst (λ z. Has states stood z b.first b.parent (forks b.many)) y.1 b.has) fork in
+      let same : b.parent ≡ s = one_state states old_views j b.first d b.parent s (forks b.many) (forks w) (subst (λ z. Has states old_views z b.first b.parent (forks b.many)) y.1 b.has) fork in
       (b.branch, b.is ∙ ap (λ z. place o rp z ++ b.branch ∷ []) same)
 
-  is_parent : (j d w b : ℕ) (s u : S) (ks : Nodes S) → Has states stood j d s (forks w) → at (place o rp s) old ≡ Some (Forked u ks) → b < how_many_nodes ks → q ≡ place o rp s ++ b ∷ [] → up i ≡ Some j
+  is_parent : (j d w b : ℕ) (s u : S) (ks : Nodes S) → Has states old_views j d s (forks w) → at (place o rp s) old ≡ Some (Forked u ks) → b < how_many_nodes ks → q ≡ place o rp s ++ b ∷ [] → up i ≡ Some j
   is_parent j d w b s u ks fork there less e =
-      let many : how_many_nodes ks ≡ w = fork_count (how_many_nodes ks) w (seen_sort (Forked u ks) s (forks w) (ap seen (sym there) ∙ shown.agrees.shown j d s (forks w) fork)) in
+      let many : how_many_nodes ks ≡ w = fork_count (how_many_nodes ks) w (seen_status (Forked u ks) s (forks w) (ap seen (sym there) ∙ shown.agrees.shown j d s (forks w) fork)) in
       let within : b < w = subst (λ z. b < z) many less in
       let z = shown.agrees.below j d w s fork b within in
       let same : d + b ≡ i = shown.agrees.apart (d + b) i z.0 f z.1 l z.2 k z.3 has (z.4 ∙ sym e) in
@@ -66,7 +66,7 @@ module _ {S : Type 0} (o : Ops S) (rp : Path) (states : List S) (stood : List Re
   one_more x y true false e h w = omega (arith, w)
   one_more x y false h e f w = absurd cc
 
-  pub still_go : (j d w : ℕ) (s u : S) (ks : Nodes S) → Has states stood j d s (forks w) → at (place o rp s) new ≡ Some (Forked u ks) → Goes j s u ks
+  pub still_go : (j d w : ℕ) (s u : S) (ks : Nodes S) → Has states old_views j d s (forks w) → at (place o rp s) new ≡ Some (Forked u ks) → Goes j s u ks
   still_go j d w s u ks fork there = elim (aside_or_further q (place o rp s)) [
     | inr x ↦ leaf_no_fork x.0 a u ks leaf (sym (at_split q x.0 new a rep.is) ∙ (ap (λ z. at z new) (sym x.1) ∙ there))
     | inl far ↦ on far (is_above (place o rp s) q) refl

@@ -1,4 +1,4 @@
--- What records say of a tree, told by a part of what stands in them.
+-- What records say of a tree, by a part of what is in them.
 use Rattle.std.proofs.Common.{◌≡◌, ◌≢◌, ◌-◌, ℕ, suc, Option, Some, None, List, [], ◌∷◌, map, length, refl, sym, ap, subst, ◌∙◌}
 use Rattle.std.specs.Prelude.{slice_get}
 use Rattle.std.specs.Option.{option_map}
@@ -6,10 +6,10 @@ use Rattle.shim_base.specs.Paths.{Path, Channel}
 use Rattle.shim_base.proofs.Facts.{some_same, none_some}
 use Rattle.shim_laws_table.specs.Agrees.{RecordView}
 use Rattle.shim_laws_table.specs.Counts.{Tally}
-use Rattle.shim_laws_table.specs.Seen.{ProcessStatus, lives, forks, ends, dies}
+use Rattle.shim_laws_table.specs.NodeStatus.{ProcessStatus, lives, forks, ends, dies}
 use Rattle.shim_laws_table_events.specs.closes.Closing.{CountsOffIfOver}
 use Rattle.shim_records.specs.CountingOff.{HasCountedOff, alone, lost, below}
-use Rattle.shim_records.specs.Pairs.{stands_of, up_at, up_in, counts_at, counts_in, min_label_at, min_labels_in, tally_for, min_label_of, pair_of, chans_of, IsOrdered, AreOrdered}
+use Rattle.shim_records.specs.Pairs.{record_view, up_at, up_in, counts_at, counts_in, min_label_at, min_labels_in, tally_for, min_label_of, pair_of, chans_of, IsOrdered, AreOrdered}
 use Rattle.shim_records.specs.declared.pair.Pair.{Pair}
 use Rattle.shim_records.specs.declared.record.Record.{Record}
 use Rattle.shim_records.proofs.Representing.{map_get}
@@ -31,17 +31,17 @@ said_alike f before behind h i = sym (map_get f behind i) ∙ (ap (λ z. slice_g
 pub was_item : {A B : Type 0} (f : A → B) (before behind : List A) → map f behind ≡ map f before → (i : ℕ) (r : A) → slice_get behind i ≡ Some r → (q : A) × (slice_get before i ≡ Some q) × (f q ≡ f r)
 was_item f before behind h i r e = from_map f (slice_get before i) (f r) (sym (said_alike f before behind h i) ∙ ap (option_map f) e)
 
--- what a record says but for how many children go on
-pub record Said : Type 0 where
-  pub stands : RecordView
+-- a record without the count of its running children
+pub record RecordBody : Type 0 where
+  pub view : RecordView
   pub parent : Option ℕ
   pub path : Path
   pub pairs : List Pair
 
-abbrev pub said : Record → Said
-said r = record { stands = stands_of r; parent = r.parent; path = r.path; pairs = r.pairs.items }
+abbrev pub record_body : Record → RecordBody
+record_body r = record { view = record_view r; parent = r.parent; path = r.path; pairs = r.pairs.items }
 
--- ---- counts, labels and parents told by that
+-- ---- counts, labels and parents that follow from that
 
 abbrev pub counts_of : Channel → Option (List Pair) → Option Tally
 counts_of c None = None
@@ -54,21 +54,21 @@ labels_of c (Some ps) = min_label_of (pair_of c ps)
 abbrev pub pairs_in : Record → List Pair
 pairs_in r = r.pairs.items
 
-pub counts_told : (c : Channel) (x : Option Record) → counts_at c x ≡ counts_of c (option_map pairs_in x)
-counts_told c None = refl
-counts_told c (Some r) = refl
+pub counts_of_pairs : (c : Channel) (x : Option Record) → counts_at c x ≡ counts_of c (option_map pairs_in x)
+counts_of_pairs c None = refl
+counts_of_pairs c (Some r) = refl
 
-pub labels_told : (c : Channel) (x : Option Record) → min_label_at c x ≡ labels_of c (option_map pairs_in x)
-labels_told c None = refl
-labels_told c (Some r) = refl
+pub labels_of_pairs : (c : Channel) (x : Option Record) → min_label_at c x ≡ labels_of c (option_map pairs_in x)
+labels_of_pairs c None = refl
+labels_of_pairs c (Some r) = refl
 
 abbrev parent_of : Option (Option ℕ) → Option ℕ
 parent_of None = None
 parent_of (Some p) = p
 
-pub parent_told : (x : Option Record) → up_at x ≡ parent_of (option_map (λ r. r.parent) x)
-parent_told None = refl
-parent_told (Some r) = refl
+pub parent_of_body : (x : Option Record) → up_at x ≡ parent_of (option_map (λ r. r.parent) x)
+parent_of_body None = refl
+parent_of_body (Some r) = refl
 
 both_parts : {A B C : Type 0} (f : A → B) (h : B → C) (x : Option A) → option_map h (option_map f x) ≡ option_map (λ z. h (f z)) x
 both_parts f h None = refl
@@ -79,44 +79,44 @@ pub part : {A B C : Type 0} (f : A → B) (h : B → C) (x y : Option A) → opt
 part f h x y e = sym (both_parts f h x) ∙ (ap (option_map h) e ∙ both_parts f h y)
 
 pub same_counts_at : (c : Channel) (x y : Option Record) → option_map pairs_in x ≡ option_map pairs_in y → counts_at c x ≡ counts_at c y
-same_counts_at c x y e = counts_told c x ∙ (ap (counts_of c) e ∙ sym (counts_told c y))
+same_counts_at c x y e = counts_of_pairs c x ∙ (ap (counts_of c) e ∙ sym (counts_of_pairs c y))
 
 pub same_labels_at : (c : Channel) (x y : Option Record) → option_map pairs_in x ≡ option_map pairs_in y → min_label_at c x ≡ min_label_at c y
-same_labels_at c x y e = labels_told c x ∙ (ap (labels_of c) e ∙ sym (labels_told c y))
+same_labels_at c x y e = labels_of_pairs c x ∙ (ap (labels_of c) e ∙ sym (labels_of_pairs c y))
 
 pub same_parent_at : (x y : Option Record) → option_map (λ r. r.parent) x ≡ option_map (λ r. r.parent) y → up_at x ≡ up_at y
-same_parent_at x y e = parent_told x ∙ (ap parent_of e ∙ sym (parent_told y))
+same_parent_at x y e = parent_of_body x ∙ (ap parent_of e ∙ sym (parent_of_body y))
 
-stands_said : (rs : List Record) → map (λ (z : Said). z.stands) (map said rs) ≡ map stands_of rs
-stands_said [] = refl
-stands_said (r ∷ rs) = ap (λ z. stands_of r ∷ z) (stands_said rs)
+views_as_body : (rs : List Record) → map (λ (z : RecordBody). z.view) (map record_body rs) ≡ map record_view rs
+views_as_body [] = refl
+views_as_body (r ∷ rs) = ap (λ z. record_view r ∷ z) (views_as_body rs)
 
-module _ (before behind : List Record) (h : map said behind ≡ map said before) where
-  pub said_stands : map stands_of behind ≡ map stands_of before
-  said_stands = sym (stands_said behind) ∙ (ap (map (λ (z : Said). z.stands)) h ∙ stands_said before)
+module _ (before behind : List Record) (h : map record_body behind ≡ map record_body before) where
+  pub views_alike : map record_view behind ≡ map record_view before
+  views_alike = sym (views_as_body behind) ∙ (ap (map (λ (z : RecordBody). z.view)) h ∙ views_as_body before)
 
   pub said_ups : up_in behind ≡ up_in before
-  said_ups = λ t i. same_parent_at (slice_get behind i) (slice_get before i) (part said (λ (z : Said). z.parent) (slice_get behind i) (slice_get before i) (said_alike said before behind h i)) t
+  said_ups = λ t i. same_parent_at (slice_get behind i) (slice_get before i) (part record_body (λ (z : RecordBody). z.parent) (slice_get behind i) (slice_get before i) (said_alike record_body before behind h i)) t
 
   pub said_counts : (c : Channel) → counts_in c behind ≡ counts_in c before
-  said_counts c = λ t i. same_counts_at c (slice_get behind i) (slice_get before i) (part said (λ (z : Said). z.pairs) (slice_get behind i) (slice_get before i) (said_alike said before behind h i)) t
+  said_counts c = λ t i. same_counts_at c (slice_get behind i) (slice_get before i) (part record_body (λ (z : RecordBody). z.pairs) (slice_get behind i) (slice_get before i) (said_alike record_body before behind h i)) t
 
   pub said_labels : (c : Channel) → min_labels_in c behind ≡ min_labels_in c before
-  said_labels c = λ t i. same_labels_at c (slice_get behind i) (slice_get before i) (part said (λ (z : Said). z.pairs) (slice_get behind i) (slice_get before i) (said_alike said before behind h i)) t
+  said_labels c = λ t i. same_labels_at c (slice_get behind i) (slice_get before i) (part record_body (λ (z : RecordBody). z.pairs) (slice_get behind i) (slice_get before i) (said_alike record_body before behind h i)) t
 
   pub said_order : AreOrdered before → AreOrdered behind
-  said_order ordered i r e = let w = was_item said before behind h i r e in subst (λ z. IsOrdered (chans_of z)) (ap (λ (z : Said). z.pairs) w.2) (ordered i w.0 w.1)
+  said_order ordered i r e = let w = was_item record_body before behind h i r e in subst (λ z. IsOrdered (chans_of z)) (ap (λ (z : RecordBody). z.pairs) w.2) (ordered i w.0 w.1)
 
 -- ---- a child that goes on no more
 
-pub left_said : (x : ℕ) (before behind : List Record) → HasCountedOff x before behind → map said behind ≡ map said before
-left_said x before behind (alone e same) = ap (map said) same
-left_said x before behind (lost j up e same) = ap (map said) same
-left_said x before behind (below j r up e same) = ap (map said) same ∙ map_set said before j r (record { status = r.status; first = r.first; parent = r.parent; path = r.path; running_children = r.running_children - 1; pairs = r.pairs }) e refl
+pub left_said : (x : ℕ) (before behind : List Record) → HasCountedOff x before behind → map record_body behind ≡ map record_body before
+left_said x before behind (alone e same) = ap (map record_body) same
+left_said x before behind (lost j up e same) = ap (map record_body) same
+left_said x before behind (below j r up e same) = ap (map record_body) same ∙ map_set record_body before j r (record { status = r.status; first = r.first; parent = r.parent; path = r.path; running_children = r.running_children - 1; pairs = r.pairs }) e refl
 
-pub leaves_said : (k : ProcessStatus) (x : ℕ) (before behind : List Record) → CountsOffIfOver k x before behind → map said behind ≡ map said before
-leaves_said lives x before behind e = ap (map said) e
-leaves_said (forks n) x before behind e = ap (map said) e
+pub leaves_said : (k : ProcessStatus) (x : ℕ) (before behind : List Record) → CountsOffIfOver k x before behind → map record_body behind ≡ map record_body before
+leaves_said lives x before behind e = ap (map record_body) e
+leaves_said (forks n) x before behind e = ap (map record_body) e
 leaves_said ends x before behind e = left_said x before behind e
 leaves_said (dies d) x before behind e = left_said x before behind e
 

@@ -9,13 +9,13 @@ use Rattle.shim_local.specs.Laws.{LocalLaws, by_fork}
 use Rattle.shim_semantics.specs.Nodes.{Live, Forked, all_live}
 use Rattle.shim_semantics.specs.Acts.{nothing, act_live, parted}
 use Rattle.shim_semantics.specs.Trees.{Tree, Own, after}
-use Rattle.shim_laws_table.specs.Seen.{ProcessStatus, lives, place}
+use Rattle.shim_laws_table.specs.NodeStatus.{ProcessStatus, lives, place}
 use Rattle.shim_laws_table.specs.Agrees.{RecordView, Represents}
 use Rattle.shim_laws_table.specs.Places.{IsReplaced}
 use Rattle.shim_laws_table.specs.Changes.{HasForked}
 use Rattle.shim_laws_table.proofs.Forking.{there_is}
 use Rattle.shim_laws_table.proofs.Shown.{events_preserve}
-use Rattle.shim_records.specs.Pairs.{stands_of}
+use Rattle.shim_records.specs.Pairs.{record_view}
 use Rattle.shim_records.specs.Blocks.{with_block}
 use Rattle.shim_records.specs.Representing.{AllLive}
 use Rattle.shim_records.specs.declared.record.Record.{Record}
@@ -27,18 +27,18 @@ use Rattle.shim_laws_table_events.proofs.forks.OwnSteps.{is_sound, own_replaced}
 
 module _ {S : Type 0} (o : Ops S) (law : LocalLaws o) (rp : Path) (t : Tree S) (before behind : TableView S) (x g f : ℕ) (l p : S) (ks : List S)
     (kept : TableInvariant o rp before t.root) (has : HasProcessState before x f l lives) (forked : ForksAt o x g p ks before behind) where
-  abbrev pub stood : List RecordView
-  stood = map stands_of before.records
+  abbrev pub old_views : List RecordView
+  old_views = map record_view before.records
 
-  -- the states behind, and the records before the ways up were walked
+  -- the states behind, and the records before the counts above were updated
   abbrev pub states : List S
   states = with_block g ks (slice_set before.states x p)
 
   abbrev pub records : List Record
   records = with_block g forked.born (slice_set before.records x forked.is)
 
-  abbrev pub stands : List RecordView
-  stands = map stands_of records
+  abbrev pub views : List RecordView
+  views = map record_view records
 
   fits : g ≤ length (slice_set before.records x forked.is)
   fits = let a = length-set before.records x forked.is in let b = forked.inside in omega (arith, a, b)
@@ -76,13 +76,13 @@ module _ {S : Type 0} (o : Ops S) (law : LocalLaws o) (rp : Path) (t : Tree S) (
       let k = there_is ks b (omega (arith, a, less)) in
       (0, (forked.children.each b k.0 r k.1 e).lives_on)
 
-  pub has_forked : HasForked before.states states stood stands x g p ks
+  pub has_forked : HasForked before.states states old_views views x g p ks
   has_forked = (blocks_are_events o).fork before.states before.records forked.born x f g l p ks forked.is kept.beside forked.inside forked.children.as_many all_new has forked.unused forked.parent.forked
 
   -- ---- the tree
 
   pub sound : o.sound l
-  sound = is_sound o law rp before.states stood t x f l kept.represents has
+  sound = is_sound o law rp before.states old_views t x f l kept.represents has
 
   module _ (stop : o.stop l ≡ AtFork) (parts : o.fork l ≡ Parted p ks) where
     pub path : o.path p ≡ o.path l
@@ -92,10 +92,10 @@ module _ {S : Type 0} (o : Ops S) (law : LocalLaws o) (rp : Path) (t : Tree S) (
     given = law.moved_given l p sound (by_fork ks stop parts)
 
     module _ (u : Tree S) (happens : after o (Own (o.path l)) t ≡ Some u) where
-      pub shown : Represents o rp states stands u.root
-      shown = (events_preserve o law).forked rp before.states states stood stands t u x f g l p ks kept.represents has happens stop parts has_forked
+      pub shown : Represents o rp states views u.root
+      shown = (events_preserve o law).forked rp before.states states old_views views t u x f g l p ks kept.represents has happens stop parts has_forked
 
       pub replaced : IsReplaced (place o rp l) (Live l) (Forked p (all_live ks)) t.root u.root
       replaced =
-          own_replaced o law rp before.states stood t x f l kept.represents has u (record { node = Forked p (all_live ks); effects = nothing }) happens
+          own_replaced o law rp before.states old_views t x f l kept.represents has u (record { node = Forked p (all_live ks); effects = nothing }) happens
           (ap (act_live o l) stop ∙ ap (λ z. Some (record { node = parted z; effects = nothing })) parts)

@@ -1,4 +1,4 @@
--- Where a process has forked, and the ways up were walked for the channels on which it is ready, what records keep for each channel is right.
+-- Where a process has forked, and the counts above were updated for the channels on which it is ready, what records keep for each channel is right.
 use Rattle.std.proofs.Common.{◌≡◌, ◌≢◌, ◌⊎◌, ◌↔◌, ◌≤◌, ◌+◌, inl, inr, ℕ, suc, Bool, true, false, ◌&&◌, not, Option, Some, None, List, [], ◌∷◌, ◌++◌, map, cond, drop, length, refl, sym, ap, subst, ◌∙◌}
 use Rattle.std.specs.Prelude.{slice_get, eqb, if◌then◌else◌}
 use Rattle.std.proofs.lemmas.Bool.{eqb-true, eq-eqb}
@@ -8,7 +8,7 @@ use Rattle.shim_local.specs.Process.{Ops, AtFork, Parted}
 use Rattle.shim_local.specs.Laws.{LocalLaws, AllOf, AnyOf, IsGiven, AreChildren, how_many}
 use Rattle.shim_semantics.specs.Nodes.{Node, Live, Forked, all_live, is_next}
 use Rattle.shim_semantics.specs.Places.{at, branches}
-use Rattle.shim_laws_table.specs.Seen.{ProcessStatus, lives, forks, place}
+use Rattle.shim_laws_table.specs.NodeStatus.{ProcessStatus, lives, forks, place}
 use Rattle.shim_laws_table.specs.Agrees.{RecordView, Represents}
 use Rattle.shim_laws_table.specs.Places.{IsReplaced}
 use Rattle.shim_laws_table.specs.Changes.{HasForked}
@@ -19,7 +19,7 @@ use Rattle.shim_laws_table.specs.Beginning.{AreOf}
 use Rattle.shim_laws_table.specs.Dooms.{min_dead_label_among}
 use Rattle.shim_laws_table.specs.LoweredLabels.{Labelled, LabelsOnTheWay}
 use Rattle.shim_laws_table.proofs.SameTrees.{same_or_not}
-use Rattle.shim_laws_table.proofs.Way.{above_its_own}
+use Rattle.shim_laws_table.proofs.PlacesAbove.{above_its_own}
 use Rattle.shim_laws_table.proofs.Tallies.{counts_tell}
 use Rattle.shim_laws_table.proofs.Begun.{counts_begin}
 use Rattle.shim_laws_table.proofs.LabelsBegun.{labels_begin}
@@ -28,7 +28,7 @@ use Rattle.shim_laws_table.proofs.MinLabels.{min_labels_follow}
 use Rattle.shim_laws_table.proofs.Suffices.{below_or_not}
 use Rattle.shim_laws_table.proofs.Hanging.{tied, counts_share, none_above}
 use Rattle.shim_records.specs.Members.{IsAmong}
-use Rattle.shim_records.specs.Pairs.{tally, tally_for, pair_of, min_label_of, counts_at, counts_in, min_label_at, min_labels_in, up_in, stands_of}
+use Rattle.shim_records.specs.Pairs.{tally, tally_for, pair_of, min_label_of, counts_at, counts_in, min_label_at, min_labels_in, up_in, record_view}
 use Rattle.shim_records.specs.Fresh.{FreshPairs}
 use Rattle.shim_records.specs.declared.record.Record.{Record}
 use Rattle.shim_records.proofs.ManyPropagations.{others, its_way, among_or_not}
@@ -79,11 +79,11 @@ module _ {S : Type 0} (o : Ops S) (l : S) (c : Channel) where
 module _ {S : Type 0} (o : Ops S) (law : LocalLaws o) (rp : Path) (old new : Node S) (before : TableView S) (states : List S) (records : List Record) (x g f : ℕ) (l p : S) (ks : List S) (is : Record)
     (kept : TableInvariant o rp before old) (has : HasProcessState before x f l lives) (sound : o.sound l) (stop : o.stop l ≡ AtFork) (parts : o.fork l ≡ Parted p ks)
     (its_own : slice_get records x ≡ Some is) (as_before : (j d : ℕ) (s : S) (k : ProcessStatus) → HasProcessState before j d s k → j ≢ x → slice_get records j ≡ slice_get before.records j)
-    (forked : HasForked before.states states (map stands_of before.records) (map stands_of records) x g p ks) (shown : Represents o rp states (map stands_of records) new)
+    (forked : HasForked before.states states (map record_view before.records) (map record_view records) x g p ks) (shown : Represents o rp states (map record_view records) new)
     (rep : IsReplaced (place o rp l) (Live l) (Forked p (all_live ks)) old new) (path : o.path p ≡ o.path l) (given : o.given p ≡ o.given l) (pairs : FreshPairs o p ks is.pairs.items)
-    (linked : AreLinked states (map stands_of records) (up_in records)) (few : AreAtMost 4294967295 states (map stands_of records)) (near : length (place o rp p) ≤ 4294967295) (c : Channel) where
-  abbrev stands : List RecordView
-  stands = map stands_of records
+    (linked : AreLinked states (map record_view records) (up_in records)) (few : AreAtMost 4294967295 states (map record_view records)) (near : length (place o rp p) ≤ 4294967295) (c : Channel) where
+  abbrev views : List RecordView
+  views = map record_view records
 
   abbrev now : ℕ → Option Tally
   now = counts_in c records
@@ -118,21 +118,21 @@ module _ {S : Type 0} (o : Ops S) (law : LocalLaws o) (rp : Path) (old new : Nod
   none_dead : min_dead_label_among o c (all_live ks) ≡ None
   none_dead = sym begins.1 ∙ pairs.unlabelled c
 
-  begun : OnTheWay o rp states stands c now old new (place o rp l) × HaveCounts o rp states stands c now new
+  begun : OnTheWay o rp states views c now old new (place o rp l) × HaveCounts o rp states views c now new
   begun =
-      (counts_begin o).forked rp before.states states (map stands_of before.records) stands c old new x f g l p ks was now kept.represents.agrees has rep path given forked (was_elsewhere x (counts_in c before.records) now) mine
+      (counts_begin o).forked rp before.states states (map record_view before.records) views c old new x f g l p ks was now kept.represents.agrees has rep path given forked (was_elsewhere x (counts_in c before.records) now) mine
       (λ i d n s y m js h e there. (kept.right c).counts i d n s y m js h (sym (was_is i d s (forks n) h) ∙ e) there)
       (λ i d n s m js h there. let w = (kept.right c).there i d n s m js h there in ((λ e. w.0 (λ z. e (was_is i d s (forks n) h ∙ z))), (λ y z. w.1 y (sym (was_is i d s (forks n) h) ∙ z))))
 
-  labels_begun : LabelsOnTheWay o rp states stands c now say old new (place o rp l)
+  labels_begun : LabelsOnTheWay o rp states views c now say old new (place o rp l)
   labels_begun =
-      (labels_begin o).forked rp before.states states (map stands_of before.records) stands c old new x f g l p ks was now said say kept.represents.agrees has rep path forked
+      (labels_begin o).forked rp before.states states (map record_view before.records) views c old new x f g l p ks was now said say kept.represents.agrees has rep path forked
       (was_elsewhere x (counts_in c before.records) now) (was_elsewhere x (min_labels_in c before.records) say) (ap (min_label_at c) its_own ∙ pairs.unlabelled c)
       (λ i d n s m js h counted there. said_is i d s (forks n) h ∙ (kept.right c).labels i d n s m js h (λ z. counted (was_is i d s (forks n) h ∙ z)) there)
 
   -- ---- labels
 
-  pub labelled : (end : ℕ → Option Tally) → HaveCounts o rp states stands c end new → Labelled o rp states stands c end say new
+  pub labelled : (end : ℕ → Option Tally) → HaveCounts o rp states views c end new → Labelled o rp states views c end say new
   labelled end have j d n s m js fork counted there = on (is_above (place o rp s) (place o rp l)) refl
     where
       counted_now : now j ≢ None
@@ -148,13 +148,13 @@ module _ {S : Type 0} (o : Ops S) (law : LocalLaws o) (rp : Path) (old new : Nod
   -- ---- counts
 
   abbrev pub Both : (ℕ → Option Tally) → Type 0
-  Both counts = Tallied o rp states stands c counts new × HaveCounts o rp states stands c counts new
+  Both counts = Tallied o rp states views c counts new × HaveCounts o rp states views c counts new
 
   same_place : place o rp p ≡ place o rp l
   same_place = ap (λ z. branches (drop (length rp) z)) path
 
-  way : OnTheWay o rp states stands c now old new (place o rp p)
-  way = subst (OnTheWay o rp states stands c now old new) (sym same_place) begun.0
+  way : OnTheWay o rp states views c now old new (place o rp p)
+  way = subst (OnTheWay o rp states views c now old new) (sym same_place) begun.0
 
   there : IsReplaced (place o rp p) (Live l) (Forked p (all_live ks)) old new
   there = subst (λ z. IsReplaced z (Live l) (Forked p (all_live ks)) old new) (sym same_place) rep
@@ -170,16 +170,16 @@ module _ {S : Type 0} (o : Ops S) (law : LocalLaws o) (rp : Path) (old new : Nod
 
   -- of a channel of its own, or of one below, nothing is to be done
   own : (r : Path) → c.home ≡ o.path p ++ r → Both now
-  own r home = ((counts_follow o law).own rp states stands c old new x g p (forks (length ks)) r now shown forked.parent home begun.1 way, begun.1)
+  own r home = ((counts_follow o law).own rp states views c old new x g p (forks (length ks)) r now shown forked.parent home begun.1 way, begun.1)
 
-  uncounted : (counts : ℕ → Option Tally) → HaveCounts o rp states stands c counts new → (r : Path) → c.home ≡ o.path p ++ r → (j : ℕ) (y : Tally) → up_in records x ≡ Some j → counts j ≡ Some y → ⊥
+  uncounted : (counts : ℕ → Option Tally) → HaveCounts o rp states views c counts new → (r : Path) → c.home ≡ o.path p ++ r → (j : ℕ) (y : Tally) → up_in records x ≡ Some j → counts j ≡ Some y → ⊥
   uncounted counts have r home j y e at_j =
-      let w = tied o rp states stands new shown (up_in records) linked x g j p (forks (length ks)) forked.parent e in
+      let w = tied o rp states views new shown (up_in records) linked x g j p (forks (length ks)) forked.parent e in
       let b = w.0 in
-      none_above o rp states stands new shown c x g b.number b.first b.many p b.parent (forks (length ks)) r forked.parent home b.has (ap (is_above (place o rp b.parent)) b.is ∙ above_its_own (place o rp b.parent) b.branch)
-      (counts_share o rp states stands new shown c counts have b.number b.first b.many b.parent y b.has (ap counts w.1 ∙ at_j))
+      none_above o rp states views new shown c x g b.number b.first b.many p b.parent (forks (length ks)) r forked.parent home b.has (ap (is_above (place o rp b.parent)) b.is ∙ above_its_own (place o rp b.parent) b.branch)
+      (counts_share o rp states views new shown c counts have b.number b.first b.many b.parent y b.has (ap counts w.1 ∙ at_j))
 
-  nothing_done : {n : ℕ} {w v : Read} {start end : ℕ → Option Tally} → UpdatedAbove (up_in records) 4294967295 n start x w v end → HaveCounts o rp states stands c start new → (r : Path) → c.home ≡ o.path p ++ r → end ≡ start
+  nothing_done : {n : ℕ} {w v : Read} {start end : ℕ → Option Tally} → UpdatedAbove (up_in records) 4294967295 n start x w v end → HaveCounts o rp states views c start new → (r : Path) → c.home ≡ o.path p ++ r → end ≡ start
   nothing_done (too_far start x w v) have r home = refl
   nothing_done (at_top n start x w v e) have r home = refl
   nothing_done (no_counts n start x j w v e none) have r home = refl
@@ -205,7 +205,7 @@ module _ {S : Type 0} (o : Ops S) (law : LocalLaws o) (rp : Path) (old new : Nod
   updated end h walked = let r = ready_shares h in elim (below_or_not (o.path p) c.home) [
     | inl e ↦ subst Both (sym (nothing_done walked begun.1 e.0 e.1)) (own e.0 e.1)
     | inr out ↦
-        (counts_follow o law).updated rp states stands (up_in records) c old new (Live l) (Forked p (all_live ks)) 4294967295 4294967295 x g p (forks (length ks)) (alive false c) (alive true c) now end shown linked few forked.parent there
+        (counts_follow o law).updated rp states views (up_in records) c old new (Live l) (Forked p (all_live ks)) 4294967295 4294967295 x g p (forks (length ks)) (alive false c) (alive true c) now end shown linked few forked.parent there
         (λ i. let z : Read = record { alive = (sym shares_same ∙ r.0) i; ready_on = not_next i; dead_on = false } in z)
         (fork_read ∙ λ i. let z : Read = record { alive = r.0 i; ready_on = r.1 i; dead_on = false } in z) near r.0 begun.1 way walked
   ]
@@ -213,7 +213,7 @@ module _ {S : Type 0} (o : Ops S) (law : LocalLaws o) (rp : Path) (old new : Nod
   still : (IsAmong c (ready_chans is.pairs.items) → ⊥) → Both now
   still none = elim (below_or_not (o.path p) c.home) [
     | inl e ↦ own e.0 e.1
-    | inr out ↦ ((counts_follow o law).alike rp states stands c old new (Live l) (Forked p (all_live ks)) (place o rp l) now rep (alike out) begun.0, begun.1)
+    | inr out ↦ ((counts_follow o law).alike rp states views c old new (Live l) (Forked p (all_live ks)) (place o rp l) now rep (alike out) begun.0, begun.1)
   ]
     where
       alike : ((r : Path) → c.home ≢ o.path p ++ r) → child_status o c (Live l) ≡ child_status o c (Forked p (all_live ks))
@@ -221,7 +221,7 @@ module _ {S : Type 0} (o : Ops S) (law : LocalLaws o) (rp : Path) (old new : Nod
           let unready : tally_ready (fresh_tally o c ks) ≡ false = elim (true_or_false (tally_ready (fresh_tally o c ks))) [ inl e ↦ absurd (none (ready_among out e)) | inr e ↦ e ] in
           (λ i. let z : Read = record { alive = sym shares_same i; ready_on = (not_next ∙ sym unready) i; dead_on = false } in z) ∙ sym fork_read
 
-  -- so where the ways were walked all counts are right
+  -- so where they were updated all counts are right
   pub brought : (behind : List Record) → EachUpdatedAbove 4294967295 x (ready_chans is.pairs.items) records behind → Both (counts_in c behind)
   brought behind walked =
       let ways = all_ways 4294967295 x (ready_once is.pairs.items pairs.ordered) walked in

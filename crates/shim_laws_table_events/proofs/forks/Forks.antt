@@ -11,7 +11,7 @@ use Rattle.shim_semantics.specs.Nodes.{Nodes, Live, Forked, all_live}
 use Rattle.shim_semantics.specs.Acts.{act_live, parted, nothing}
 use Rattle.shim_semantics.specs.Places.{at, branches}
 use Rattle.shim_semantics.specs.Trees.{Tree, Own, after, own_action_at}
-use Rattle.shim_laws_table.specs.Seen.{ProcessStatus, lives, forks, place}
+use Rattle.shim_laws_table.specs.NodeStatus.{ProcessStatus, lives, forks, place}
 use Rattle.shim_laws_table.specs.Agrees.{Has, Represents}
 use Rattle.shim_laws_table.specs.Places.{IsReplaced}
 use Rattle.shim_laws_table.specs.Changes.{HasForked}
@@ -25,11 +25,11 @@ use Rattle.shim_laws_table.proofs.Begun.{fork_parts, lives_no_fork, none_there}
 use Rattle.shim_laws_table.proofs.Linked.{links_follow}
 use Rattle.shim_laws_table.proofs.Sources.{sources_by_records}
 use Rattle.shim_laws_table.proofs.Tallies.{counts_tell}
-use Rattle.shim_records.specs.Pairs.{UncountedRecord, rest_of, stands_of, up_at, up_in, counts_in, min_labels_in, known_at, known_in, AreOrdered}
+use Rattle.shim_records.specs.Pairs.{UncountedRecord, rest_of, record_view, up_at, up_in, counts_in, min_labels_in, known_at, known_in, AreOrdered}
 use Rattle.shim_records.specs.declared.pair.Sharing.{Sharing}
 use Rattle.shim_records.specs.declared.record.Record.{Record}
 use Rattle.shim_records.proofs.ManyPropagations.{rest_same}
-use Rattle.shim_records.proofs.ReadOff.{same_stands}
+use Rattle.shim_records.proofs.ReadOff.{same_views}
 use Rattle.shim_records.proofs.Representing.{map_get}
 use Rattle.shim_records.proofs.FullPropagation.{rest_ups, kept_order}
 use Rattle.shim_records.proofs.SharingFound.{rest_known}
@@ -88,7 +88,7 @@ module _ {S : Type 0} (o : Ops S) (law : LocalLaws o) (rp : Path) (t u : Tree S)
   born_at : (b : ℕ) (k : S) → slice_get ks b ≡ Some k → block.Born o law rp t before behind x g f l p ks kept has forked b k
   born_at = block.born_at o law rp t before behind x g f l p ks kept has forked
 
-  has_forked : HasForked before.states states (map stands_of before.records) (map stands_of records) x g p ks
+  has_forked : HasForked before.states states (map record_view before.records) (map record_view records) x g p ks
   has_forked = block.has_forked o law rp t before behind x g f l p ks kept has forked
 
   path : o.path p ≡ o.path l
@@ -97,7 +97,7 @@ module _ {S : Type 0} (o : Ops S) (law : LocalLaws o) (rp : Path) (t u : Tree S)
   given : o.given p ≡ o.given l
   given = block.given o law rp t before behind x g f l p ks kept has forked stop parts
 
-  shown : Represents o rp states (map stands_of records) u.root
+  shown : Represents o rp states (map record_view records) u.root
   shown = block.shown o law rp t before behind x g f l p ks kept has forked stop parts u happens
 
   replaced : IsReplaced (place o rp l) (Live l) (Forked p (all_live ks)) t.root u.root
@@ -114,9 +114,9 @@ module _ {S : Type 0} (o : Ops S) (law : LocalLaws o) (rp : Path) (t u : Tree S)
 
   -- ---- parents, and how many children
 
-  linked : AreLinked states (map stands_of records) (up_in records)
+  linked : AreLinked states (map record_view records) (up_in records)
   linked =
-      (links_follow o).forked rp before.states states (map stands_of before.records) (map stands_of records) t.root x f g l p ks (up_in before.records) (up_in records) kept.represents has has_forked
+      (links_follow o).forked rp before.states states (map record_view before.records) (map record_view records) t.root x f g l p ks (up_in before.records) (up_in records) kept.represents has has_forked
       (λ b less. let k = there_is ks b less in let r = born_at b k.0 k.1 in ap up_at r.there ∙ r.says.parent)
       (λ j d s k h. elim (same_or_not j x) [
         | inl w ↦ ap (up_in records) w ∙ (ap up_at its_own ∙ (forked.parent.parent ∙ (sym (ap up_at forked.had) ∙ ap (up_in before.records) (sym w))))
@@ -124,7 +124,7 @@ module _ {S : Type 0} (o : Ops S) (law : LocalLaws o) (rp : Path) (t u : Tree S)
       ])
       kept.linked
 
-  few : AreAtMost 4294967295 states (map stands_of records)
+  few : AreAtMost 4294967295 states (map record_view records)
   few j d n s h = elim (has_forked.only j d s (forks n) h) [
     | inl w ↦ subst (λ z. z ≤ 4294967295) (sym (fork_count n (length ks) w.2)) forked.few
     | inr (inl w) ↦ lives_no_fork o n (forks n) w.3 refl
@@ -141,21 +141,21 @@ module _ {S : Type 0} (o : Ops S) (law : LocalLaws o) (rp : Path) (t u : Tree S)
   rest : map rest_of behind.records ≡ map rest_of records
   rest = rest_same (alive false) (alive true) 4294967295 x (all_ways 4294967295 x (ready_once its.pairs.items forked.parent.pairs.ordered) forked.records)
 
-  same : map stands_of behind.records ≡ map stands_of records
-  same = same_stands records behind.records rest
+  same : map record_view behind.records ≡ map record_view records
+  same = same_views records behind.records rest
 
   -- the states and records behind say that it forked
-  says : HasForked before.states behind.states (map stands_of before.records) (map stands_of behind.records) x g p ks
-  says = subst (λ z. HasForked before.states z (map stands_of before.records) (map stands_of behind.records) x g p ks) (sym forked.states) (subst (λ z. HasForked before.states states (map stands_of before.records) z x g p ks) (sym same) has_forked)
+  says : HasForked before.states behind.states (map record_view before.records) (map record_view behind.records) x g p ks
+  says = subst (λ z. HasForked before.states z (map record_view before.records) (map record_view behind.records) x g p ks) (sym forked.states) (subst (λ z. HasForked before.states states (map record_view before.records) z x g p ks) (sym same) has_forked)
 
-  brought : (c : Channel) → Tallied o rp states (map stands_of records) c (counts_in c behind.records) u.root × HaveCounts o rp states (map stands_of records) c (counts_in c behind.records) u.root
+  brought : (c : Channel) → Tallied o rp states (map record_view records) c (counts_in c behind.records) u.root × HaveCounts o rp states (map record_view records) c (counts_in c behind.records) u.root
   brought c =
       counted.brought o law rp t.root u.root before states records x g f l p ks its kept has (block.sound o law rp t before behind x g f l p ks kept has forked) stop parts its_own as_before has_forked shown replaced path given forked.parent.pairs
       linked few near c behind.records forked.records
 
-  labelled : (c : Channel) → Labelled o rp states (map stands_of records) c (counts_in c behind.records) (min_labels_in c behind.records) u.root
+  labelled : (c : Channel) → Labelled o rp states (map record_view records) c (counts_in c behind.records) (min_labels_in c behind.records) u.root
   labelled c =
-      subst (λ z. Labelled o rp states (map stands_of records) c (counts_in c behind.records) z u.root) (sym (labels_same 4294967295 x c forked.records))
+      subst (λ z. Labelled o rp states (map record_view records) c (counts_in c behind.records) z u.root) (sym (labels_same 4294967295 x c forked.records))
       (counted.labelled o law rp t.root u.root before states records x g f l p ks its kept has (block.sound o law rp t before behind x g f l p ks kept has forked) stop parts its_own as_before has_forked shown replaced path given forked.parent.pairs
       linked few near c (counts_in c behind.records) (brought c).1)
 
@@ -163,7 +163,7 @@ module _ {S : Type 0} (o : Ops S) (law : LocalLaws o) (rp : Path) (t u : Tree S)
 
   fork_before : (j d n : ℕ) (s m : S) (js : Nodes S) (r : Record) → HasProcessState before j d s (forks n) → slice_get before.records j ≡ Some r → at (place o rp s) u.root ≡ Some (Forked m js) → r.running_children ≡ running_of js
   fork_before j d n s m js r h e there = elim (aside_or_further (place o rp l) (place o rp s)) [
-    | inr w ↦ none_there o rp before.states (map stands_of before.records) t.root l n j d s w.0 kept.represents.agrees h (live_there o law rp before.states (map stands_of before.records) t x f l kept.represents has) w.1
+    | inr w ↦ none_there o rp before.states (map record_view before.records) t.root l n j d s w.0 kept.represents.agrees h (live_there o law rp before.states (map record_view before.records) t x f l kept.represents has) w.1
     | inl far ↦ on far (is_above (place o rp s) (place o rp l)) refl
   ]
     where
@@ -173,7 +173,7 @@ module _ {S : Type 0} (o : Ops S) (law : LocalLaws o) (rp : Path) (t u : Tree S)
           kept.running_children j d n s m v.0 r h e v.1 ∙ sym (as_many_go o (place o rp l) (Live l) (Forked p (all_live ks)) t.root u.root replaced refl (place o rp s) m v.0 js w v.1 there)
       on far false w = kept.running_children j d n s m js r h e (sym (same_aside o (place o rp l) (Live l) (Forked p (all_live ks)) t.root u.root replaced (place o rp s) w far) ∙ there)
 
-  running_children : (j d n : ℕ) (s m : S) (js : Nodes S) (r : Record) → Has states (map stands_of records) j d s (forks n) → slice_get records j ≡ Some r → at (place o rp s) u.root ≡ Some (Forked m js) → r.running_children ≡ running_of js
+  running_children : (j d n : ℕ) (s m : S) (js : Nodes S) (r : Record) → Has states (map record_view records) j d s (forks n) → slice_get records j ≡ Some r → at (place o rp s) u.root ≡ Some (Forked m js) → r.running_children ≡ running_of js
   running_children j d n s m js r h e there = elim (has_forked.only j d s (forks n) h) [
     | inl w ↦
         let is : r ≡ its = some_same r its (sym e ∙ (ap (slice_get records) w.0 ∙ its_own)) in
@@ -185,7 +185,7 @@ module _ {S : Type 0} (o : Ops S) (law : LocalLaws o) (rp : Path) (t u : Tree S)
 
   -- ---- paths
 
-  fit : (j d : ℕ) (s : S) (k : ProcessStatus) (r : Record) → Has states (map stands_of records) j d s k → slice_get records j ≡ Some r → IsFit o rp s r
+  fit : (j d : ℕ) (s : S) (k : ProcessStatus) (r : Record) → Has states (map record_view records) j d s k → slice_get records j ≡ Some r → IsFit o rp s r
   fit j d s k r h e = elim (has_forked.only j d s k h) [
     | inl w ↦
         let is : its ≡ r = some_same its r (sym its_own ∙ (ap (slice_get records) (sym w.0) ∙ e)) in
@@ -206,13 +206,13 @@ module _ {S : Type 0} (o : Ops S) (law : LocalLaws o) (rp : Path) (t u : Tree S)
     | inr (inr w) ↦ kept.fit j d s k r w.1 (sym (as_before j d s k w.1 w.0) ∙ e)
   ]
 
-  fit_behind : (j d : ℕ) (s : S) (k : ProcessStatus) (r : Record) → Has states (map stands_of records) j d s k → slice_get behind.records j ≡ Some r → IsFit o rp s r
+  fit_behind : (j d : ℕ) (s : S) (k : ProcessStatus) (r : Record) → Has states (map record_view records) j d s k → slice_get behind.records j ≡ Some r → IsFit o rp s r
   fit_behind j d s k r h e =
       let q = was_record records behind.records j r rest e in
       let fit_was = fit j d s k q.0 h q.1 in
       record { path = sym (ap (λ (z : UncountedRecord). z.path) q.2) ∙ fit_was.path; near = fit_was.near; few = fit_was.few }
 
-  going_behind : (j d n : ℕ) (s m : S) (js : Nodes S) (r : Record) → Has states (map stands_of records) j d s (forks n) → slice_get behind.records j ≡ Some r → at (place o rp s) u.root ≡ Some (Forked m js) → r.running_children ≡ running_of js
+  going_behind : (j d n : ℕ) (s m : S) (js : Nodes S) (r : Record) → Has states (map record_view records) j d s (forks n) → slice_get behind.records j ≡ Some r → at (place o rp s) u.root ≡ Some (Forked m js) → r.running_children ≡ running_of js
   going_behind j d n s m js r h e there =
       let q = was_record records behind.records j r rest e in
       ap (λ (z : UncountedRecord). z.running_children) (sym q.2) ∙ running_children j d n s m js q.0 h q.1 there
@@ -223,17 +223,17 @@ module _ {S : Type 0} (o : Ops S) (law : LocalLaws o) (rp : Path) (t u : Tree S)
   one_carrier c b d s t e h has_s has_t =
       let i = has_forked.born b s e in
       let j = has_forked.born d t h in
-      same_behind g b d ((sources_by_records o).once rp states (map stands_of records) u.root c (g + b) (g + d) i.0 j.0 s t lives lives shown i.1 j.1 has_s has_t)
+      same_behind g b d ((sources_by_records o).once rp states (map record_view records) u.root c (g + b) (g + d) i.0 j.0 s t lives lives shown i.1 j.1 has_s has_t)
 
   known_before : (c : Channel) (j d n : ℕ) (s : S) (k : Sharing) (m : S) (js : Nodes S) → HasProcessState before j d s (forks n) → known_in c before.records j ≡ Some k → at (place o rp s) u.root ≡ Some (Forked m js) → Knows o c m js k
   known_before c j d n s k m js h e there = elim (aside_or_further (place o rp l) (place o rp s)) [
-    | inr w ↦ none_there o rp before.states (map stands_of before.records) t.root l n j d s w.0 kept.represents.agrees h (live_there o law rp before.states (map stands_of before.records) t x f l kept.represents has) w.1
+    | inr w ↦ none_there o rp before.states (map record_view before.records) t.root l n j d s w.0 kept.represents.agrees h (live_there o law rp before.states (map record_view before.records) t x f l kept.represents has) w.1
     | inl far ↦
         knows_aside o rp before t.root u.root kept x f l lives has (Live l) (Forked p (all_live ks)) replaced given c
         (λ out. acts_fewer o law (Live l) (record { node = Forked p (all_live ks); effects = nothing }) c (block.sound o law rp t before behind x g f l p ks kept has forked) (ap (act_live o l) stop ∙ ap (λ z. Some (record { node = parted z; effects = nothing })) parts) out) j d n s k m js h e far there
   ]
 
-  known : (c : Channel) → AreKnown o rp states (map stands_of records) c (known_in c behind.records) u.root
+  known : (c : Channel) → AreKnown o rp states (map record_view records) c (known_in c behind.records) u.root
   known c j d n s k m js h e there =
       let e' : known_in c records j ≡ Some k = sym (rest_known records behind.records rest c j) ∙ e in
       elim (has_forked.only j d s (forks n) h) [
@@ -254,7 +254,7 @@ module _ {S : Type 0} (o : Ops S) (law : LocalLaws o) (rp : Path) (t u : Tree S)
   pub keeps : TableInvariant o rp (record { states = states; records = behind.records }) u.root
   keeps = record {
     represents = subst (λ z. Represents o rp states z u.root) (sym same) shown;
-    linked = subst (λ z. AreLinked states z (up_in behind.records)) (sym same) (subst (AreLinked states (map stands_of records)) (sym (rest_ups records behind.records rest)) linked);
+    linked = subst (λ z. AreLinked states z (up_in behind.records)) (sym same) (subst (AreLinked states (map record_view records)) (sym (rest_ups records behind.records rest)) linked);
     few = subst (AreAtMost 4294967295 states) (sym same) few;
     ordered = kept_order records behind.records rest ordered;
     right = λ c. record {
@@ -270,7 +270,7 @@ module _ {S : Type 0} (o : Ops S) (law : LocalLaws o) (rp : Path) (t u : Tree S)
 
 pub fork_preserves : {S : Type 0} (o : Ops S) → LocalLaws o → ForkPreserves o
 fork_preserves o law x g f l p ks before behind has stop parts forked rp t kept =
-    let next = can_step o law rp before.states (map stands_of before.records) t x f l kept.represents has (ap own_action_at stop) in (
+    let next = can_step o law rp before.states (map record_view before.records) t x f l kept.represents has (ap own_action_at stop) in (
       next.0,
       next.1,
       subst (λ z. TableInvariant o rp (record { states = z; records = behind.records }) next.0.root) (sym forked.states) (keeps o law rp t next.0 before behind x g f l p ks kept has forked stop parts next.1),
@@ -278,7 +278,7 @@ fork_preserves o law x g f l p ks before behind has stop parts forked rp t kept 
 
 -- what the states and records behind say
 pub forks_say : {S : Type 0} (o : Ops S) → LocalLaws o → (x g f : ℕ) (l p : S) (ks : List S) (before behind : TableView S) → HasProcessState before x f l lives → o.stop l ≡ AtFork → o.fork l ≡ Parted p ks → ForksAt o x g p ks before behind
-    → (rp : Path) (t : Tree S) → TableInvariant o rp before t.root → HasForked before.states behind.states (map stands_of before.records) (map stands_of behind.records) x g p ks
+    → (rp : Path) (t : Tree S) → TableInvariant o rp before t.root → HasForked before.states behind.states (map record_view before.records) (map record_view behind.records) x g p ks
 forks_say o law x g f l p ks before behind has stop parts forked rp t kept =
-    let next = can_step o law rp before.states (map stands_of before.records) t x f l kept.represents has (ap own_action_at stop) in
+    let next = can_step o law rp before.states (map record_view before.records) t x f l kept.represents has (ap own_action_at stop) in
     says o law rp t next.0 before behind x g f l p ks kept has forked stop parts next.1

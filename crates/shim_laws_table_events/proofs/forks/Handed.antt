@@ -8,7 +8,7 @@ use Rattle.shim_local.specs.Laws.{LocalLaws, Forks, AllOf, IsGiven, how_many}
 use Rattle.shim_semantics.specs.Nodes.{Node, Live, all_live, state}
 use Rattle.shim_semantics.specs.Places.{child_at}
 use Rattle.shim_semantics.specs.Sound.{carriers}
-use Rattle.shim_laws_table.specs.Seen.{how_many_nodes}
+use Rattle.shim_laws_table.specs.NodeStatus.{how_many_nodes}
 use Rattle.shim_records.specs.Fresh.{FreshSharing}
 use Rattle.shim_records.specs.declared.pair.Sharing.{Sharing}
 use Rattle.shim_laws_table_events.specs.keeping.Knowing.{Knows}

@@ -1,4 +1,4 @@
--- Lists in which a block was put: how long they are, and who stands in them.
+-- Lists in which a block was put: how long they are, and who is in them.
 use Rattle.std.proofs.Common.{◌≡◌, ◌⊎◌, ◌+◌, inl, inr, ℕ, zero, suc, Some, List, [], ◌∷◌, length, slice_set, refl, ap, arith}
 use Rattle.std.specs.Prelude.{slice_get}
 use Rattle.shim_base.proofs.Facts.{some_same, none_some}
@@ -26,7 +26,7 @@ from_one zero x (y ∷ ys) (suc j) r e = inr e
 from_one (suc g) x (y ∷ ys) zero r e = inr e
 from_one (suc g) x (y ∷ ys) (suc j) r e = from_one g x ys j r e
 
--- who stands there is of the block, or was there
+-- who is there is of the block, or was there
 pub from_block : {A : Type 0} (g : ℕ) (xs ys : List A) (j : ℕ) (r : A) → slice_get (with_block g xs ys) j ≡ Some r → ((b : ℕ) × (slice_get xs b ≡ Some r)) ⊎ (slice_get ys j ≡ Some r)
 from_block g [] ys j r e = inr e
 from_block g (x ∷ xs) ys j r e = elim (from_block (g + 1) xs (with_one g x ys) j r e) [

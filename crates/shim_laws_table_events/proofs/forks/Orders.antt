@@ -1,4 +1,4 @@
--- The pairs of each record stand in order, where a process has forked.
+-- The pairs of each record are in order, where a process has forked.
 use Rattle.std.proofs.Common.{inl, inr, ℕ, List, [], slice_set, sym, subst, arith}
 use Rattle.std.proofs.lemmas.Option.{slice_get_within}
 use Rattle.shim_base.proofs.Facts.{none_some}

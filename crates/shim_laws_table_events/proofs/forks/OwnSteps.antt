@@ -1,4 +1,4 @@
--- A live process did a step of its own: it can, and another node stands in its place.
+-- A live process did a step of its own: it can, and another node is in its place.
 use Rattle.std.proofs.Common.{◌≡◌, ◌≢◌, ℕ, Option, Some, None, List, ◌++◌, refl, sym, ap, ◌∙◌}
 use Rattle.shim_base.specs.Paths.{Path}
 use Rattle.shim_base.proofs.Facts.{some_same}
@@ -10,7 +10,7 @@ use Rattle.shim_semantics.specs.Places.{at, route}
 use Rattle.shim_semantics.specs.Trees.{Tree, Own, Steps, after, own_action_at}
 use Rattle.shim_semantics.proofs.Leading.{route_rest}
 use Rattle.shim_semantics.proofs.Replaced.{sound_at}
-use Rattle.shim_laws_table.specs.Seen.{lives, place}
+use Rattle.shim_laws_table.specs.NodeStatus.{lives, place}
 use Rattle.shim_laws_table.specs.Agrees.{RecordView, Has, Represents}
 use Rattle.shim_laws_table.specs.Places.{IsReplaced}
 use Rattle.shim_laws_table.proofs.SameTrees.{seen_live}
@@ -21,7 +21,7 @@ some_of : {A : Type 0} (x : Option A) → x ≢ None → (y : A) × (x ≡ Some 
 some_of None h = absurd (h refl)
 some_of (Some y) h = (y, refl)
 
-module _ {S : Type 0} (o : Ops S) (law : LocalLaws o) (rp : Path) (states : List S) (stands : List RecordView) (t : Tree S) (x f : ℕ) (l : S) (represents : Represents o rp states stands t.root) (has : Has states stands x f l lives) where
+module _ {S : Type 0} (o : Ops S) (law : LocalLaws o) (rp : Path) (states : List S) (views : List RecordView) (t : Tree S) (x f : ℕ) (l : S) (represents : Represents o rp states views t.root) (has : Has states views x f l lives) where
   pub live_there : at (place o rp l) t.root ≡ Some (Live l)
   live_there = seen_live (at (place o rp l) t.root) l (represents.agrees.shown x f l lives has)
 
@@ -29,7 +29,7 @@ module _ {S : Type 0} (o : Ops S) (law : LocalLaws o) (rp : Path) (states : List
   is_sound = sound_at o (place o rp l) t.root (Live l) represents.sound.below live_there
 
   pub can_step : own_action_at (o.stop l) ≡ Steps → (u : Tree S) × (after o (Own (o.path l)) t ≡ Some u)
-  can_step e = some_of (after o (Own (o.path l)) t) (((enabled_by_records o law).steps rp states stands t x f l represents has).1 e)
+  can_step e = some_of (after o (Own (o.path l)) t) (((enabled_by_records o law).steps rp states views t x f l represents has).1 e)
 
   pub own_replaced : (u : Tree S) (a : Acted S) → after o (Own (o.path l)) t ≡ Some u → act_live o l (o.stop l) ≡ Some a → IsReplaced (place o rp l) (Live l) a.node t.root u.root
   own_replaced u a happens act =

@@ -1,4 +1,4 @@
--- The channels on which a new fork is ready, and the ways up that were walked for these.
+-- The channels on which a new fork is ready, and the counts above, updated for these.
 use Rattle.std.proofs.Common.{◌≡◌, ℕ, zero, suc, Bool, true, false, Some, List, [], ◌∷◌, cond, refl, sym, ap, subst, ◌∙◌, arith}
 use Rattle.std.specs.Prelude.{slice_get}
 use Rattle.std.specs.Option.{option_map}
@@ -20,7 +20,7 @@ use Rattle.shim_laws_table_events.specs.forks.Forking.{ready_chans, EachUpdatedA
 abbrev pub alive : Bool → Channel → Read
 alive b c = record { alive = true; ready_on = b; dead_on = false }
 
--- none of these stands there twice
+-- none of these is there twice
 abbrev pub Once : List Channel → Type 0
 Once [] = Unit {0}
 Once (c ∷ cs) = (IsAmong c cs → ⊥) × Once cs

@@ -7,10 +7,10 @@ use Rattle.shim_semantics.specs.Nodes.{Live, is_next}
 use Rattle.shim_semantics.specs.Acts.{nothing, act_live, parted}
 use Rattle.shim_semantics.specs.Trees.{Own, own_action_at}
 use Rattle.shim_semantics.proofs.HowMany.{one_for_one}
-use Rattle.shim_laws_table.specs.Seen.{lives}
+use Rattle.shim_laws_table.specs.NodeStatus.{lives}
 use Rattle.shim_laws_table.specs.Changes.{HasChanged}
 use Rattle.shim_laws_table.proofs.Shown.{events_preserve}
-use Rattle.shim_records.specs.Pairs.{stands_of}
+use Rattle.shim_records.specs.Pairs.{record_view}
 use Rattle.shim_records.proofs.Stepping.{set_there, set_elsewhere}
 use Rattle.shim_laws_table_events.specs.keeping.Propagating.{nowhere}
 use Rattle.shim_laws_table_events.proofs.keeping.Moved.{Stays, moved}
@@ -23,15 +23,15 @@ module _ {S : Type 0} (o : Ops S) (law : LocalLaws o) where
 
   pub fork_trap_preserves : ForkTrapPreserves o
   fork_trap_preserves x f l m before has stop traps rp t kept =
-      let st = map stands_of before.records in
+      let st = map record_view before.records in
       let sound = is_sound o law rp before.states st t x f l kept.represents has in
       let next = can_step o law rp before.states st t x f l kept.represents has (ap own_action_at stop) in
       let does : act_live o l (o.stop l) ≡ Some (record { node = Live m; effects = nothing }) = ap (act_live o l) stop ∙ ap (λ z. Some (record { node = parted z; effects = nothing })) traps in
       let change : HasChanged before.states (slice_set before.states x m) st st x m lives = record {
         first = f;
-        mine = record { state_is = set_there before.states x l m has.state_is; stands_so = has.stands_so };
-        others = λ j d s k n h. record { state_is = set_elsewhere before.states x j m n ∙ h.state_is; stands_so = h.stands_so };
-        only = λ j d s k n h. record { state_is = sym (set_elsewhere before.states x j m n) ∙ h.state_is; stands_so = h.stands_so };
+        mine = record { state_is = set_there before.states x l m has.state_is; view_is = has.view_is };
+        others = λ j d s k n h. record { state_is = set_elsewhere before.states x j m n ∙ h.state_is; view_is = h.view_is };
+        only = λ j d s k n h. record { state_is = sym (set_elsewhere before.states x j m n) ∙ h.state_is; view_is = h.view_is };
       } in
       let shown = (events_preserve o law).stepped rp before.states (slice_set before.states x m) st st t next.0 (Own (o.path l)) x f l (record { node = Live m; effects = nothing }) kept.represents has refl next.1 does refl change in
       let rep = own_replaced o law rp before.states st t x f l kept.represents has next.0 (record { node = Live m; effects = nothing }) next.1 does in

@@ -13,7 +13,7 @@ use Rattle.shim_semantics.proofs.Follows as follows
 use Rattle.shim_semantics.proofs.Replaced.{sound_at}
 use Rattle.shim_semantics.proofs.ReplacedNodes.{put}
 use Rattle.shim_semantics.proofs.SoundEvents.{here_keeps}
-use Rattle.shim_laws_table.specs.Seen.{lives, process_status, is_leaf, place}
+use Rattle.shim_laws_table.specs.NodeStatus.{lives, process_status, is_leaf, place}
 use Rattle.shim_laws_table.specs.Agrees.{RecordView, Has, Represents}
 use Rattle.shim_laws_table.specs.Places.{IsReplaced, IsBy}
 use Rattle.shim_laws_table.specs.Changes.{HasChanged}
@@ -22,7 +22,7 @@ use Rattle.shim_laws_table.proofs.OneTree.{one_tree}
 use Rattle.shim_laws_table.proofs.Shown.{events_preserve, one_change_is_represented}
 use Rattle.shim_laws_table.proofs.CanHappen.{enabled_by_records}
 use Rattle.shim_laws_table.proofs.Foreign.{foreign_stays}
-use Rattle.shim_records.specs.Pairs.{stands_of}
+use Rattle.shim_records.specs.Pairs.{record_view}
 use Rattle.shim_laws_table_events.specs.keeping.Acting.{event_at_stop, StepPreserves}
 use Rattle.shim_laws_table_events.proofs.keeping.Knowing.{acts_fewer}
 use Rattle.shim_laws_table_events.proofs.keeping.Moved.{Stays, moved}
@@ -38,7 +38,7 @@ by_event (AtThrow label) p = refl
 by_event (AtTrap kind line) p = refl
 
 module _ {S : Type 0} (o : Ops S) (law : LocalLaws o) where
-  -- who can do anything by itself stands at no channel
+  -- who can do anything by itself is at no channel
   pub unread : (l : S) (a : Acted S) → act_live o l (o.stop l) ≡ Some a → (c : Channel) → is_next (o.stop l) c ≡ false
   unread l a does c = on (o.stop l) does
     where
@@ -51,8 +51,8 @@ module _ {S : Type 0} (o : Ops S) (law : LocalLaws o) where
       on (AtThrow label) e = refl
       on (AtTrap kind line) e = refl
 
-  module _ (rp : Path) (states states' : List S) (stood stands : List RecordView) (t : Tree S) (x f : ℕ) (l : S) (a : Acted S) (represents : Represents o rp states stood t.root) (has : Has states stood x f l lives) (does : act_live o l (o.stop l) ≡ Some a) (leaf : is_leaf a.node ≡ true)
-      (change : HasChanged states states' stood stands x (state a.node) (process_status a.node)) where
+  module _ (rp : Path) (states states' : List S) (old_views views : List RecordView) (t : Tree S) (x f : ℕ) (l : S) (a : Acted S) (represents : Represents o rp states old_views t.root) (has : Has states old_views x f l lives) (does : act_live o l (o.stop l) ≡ Some a) (leaf : is_leaf a.node ≡ true)
+      (change : HasChanged states states' old_views views x (state a.node) (process_status a.node)) where
     there : at (place o rp l) t.root ≡ Some (Live l)
     there = seen_live (at (place o rp l) t.root) l (represents.agrees.shown x f l lives has)
 
@@ -64,21 +64,21 @@ module _ {S : Type 0} (o : Ops S) (law : LocalLaws o) where
       where
         on : (s : StopView) → o.stop l ≡ s → act_live o l s ≡ Some a → (u : Tree S) × (after o (event_at_stop s (o.path l)) t ≡ Some u)
         on (AtNext c) e d = none_some a d
-        on AtFinish e d = some_of (after o (End (o.path l)) t) (((enabled_by_records o law).ends rp states stood t x f l represents has).1 (ap own_action_at e))
-        on AtQuiet e d = some_of (after o (Own (o.path l)) t) (((enabled_by_records o law).steps rp states stood t x f l represents has).1 (ap own_action_at e))
-        on AtPut e d = some_of (after o (Own (o.path l)) t) (((enabled_by_records o law).steps rp states stood t x f l represents has).1 (ap own_action_at e))
-        on AtFork e d = some_of (after o (Own (o.path l)) t) (((enabled_by_records o law).steps rp states stood t x f l represents has).1 (ap own_action_at e))
-        on (AtThrow label) e d = some_of (after o (Own (o.path l)) t) (((enabled_by_records o law).steps rp states stood t x f l represents has).1 (ap own_action_at e))
-        on (AtTrap kind line) e d = some_of (after o (Own (o.path l)) t) (((enabled_by_records o law).steps rp states stood t x f l represents has).1 (ap own_action_at e))
+        on AtFinish e d = some_of (after o (End (o.path l)) t) (((enabled_by_records o law).ends rp states old_views t x f l represents has).1 (ap own_action_at e))
+        on AtQuiet e d = some_of (after o (Own (o.path l)) t) (((enabled_by_records o law).steps rp states old_views t x f l represents has).1 (ap own_action_at e))
+        on AtPut e d = some_of (after o (Own (o.path l)) t) (((enabled_by_records o law).steps rp states old_views t x f l represents has).1 (ap own_action_at e))
+        on AtFork e d = some_of (after o (Own (o.path l)) t) (((enabled_by_records o law).steps rp states old_views t x f l represents has).1 (ap own_action_at e))
+        on (AtThrow label) e d = some_of (after o (Own (o.path l)) t) (((enabled_by_records o law).steps rp states old_views t x f l represents has).1 (ap own_action_at e))
+        on (AtTrap kind line) e d = some_of (after o (Own (o.path l)) t) (((enabled_by_records o law).steps rp states old_views t x f l represents has).1 (ap own_action_at e))
 
-    pub shown : Represents o rp states' stands next.0.root
-    shown = (events_preserve o law).stepped rp states states' stood stands t next.0 (event_at_stop (o.stop l) (o.path l)) x f l a represents has (by_event (o.stop l) (o.path l)) next.1 does leaf change
+    pub shown : Represents o rp states' views next.0.root
+    shown = (events_preserve o law).stepped rp states states' old_views views t next.0 (event_at_stop (o.stop l) (o.path l)) x f l a represents has (by_event (o.stop l) (o.path l)) next.1 does leaf change
 
     pub replaced : IsReplaced (place o rp l) (Live l) a.node t.root next.0.root
     replaced =
         let rep = put_replaces (place o rp l) (Live l) a.node t.root there in
-        let agrees = one_change_is_represented o rp states states' stood stands t.root (put (place o rp l) a.node t.root) (Live l) a.node x f represents.agrees has refl leaf keeps.follows.path rep change in
-        subst (IsReplaced (place o rp l) (Live l) a.node t.root) (one_tree o rp states' stands (put (place o rp l) a.node t.root) next.0.root shown.rooted agrees shown.agrees) rep
+        let agrees = one_change_is_represented o rp states states' old_views views t.root (put (place o rp l) a.node t.root) (Live l) a.node x f represents.agrees has refl leaf keeps.follows.path rep change in
+        subst (IsReplaced (place o rp l) (Live l) a.node t.root) (one_tree o rp states' views (put (place o rp l) a.node t.root) next.0.root shown.rooted agrees shown.agrees) rep
 
     -- a node without children carries what its process does
     of_leaf : (n : Node S) → is_leaf n ≡ true → (c : Channel) → carriers o c n ≤ carriers o c (Live l) → carriers o c (Live (state n)) ≤ carriers o c (Live l)
@@ -98,7 +98,7 @@ module _ {S : Type 0} (o : Ops S) (law : LocalLaws o) where
   pub lives_on : StepPreserves o
   lives_on states rs behind x f l s effects has does propagates rp t kept =
       let a : Acted S = record { node = Live s; effects = effects } in
-      let st = map stands_of rs in
+      let st = map record_view rs in
       let change = set_changed o law rp st states x f l s has in
       let u = next rp states (slice_set states x s) st st t x f l a kept.represents has does refl change in (
         u.0,

@@ -1,4 +1,4 @@
--- Where another node without children stands in a place, each fork was one before, with what stays of its children.
+-- Where another node without children is in a place, each fork was one before, with what stays of its children.
 use Rattle.std.proofs.Common.{◌≡◌, ◌≢◌, ℕ, ◌+◌, Bool, true, false, Some, List, [], ◌∷◌, ◌++◌, inl, inr, refl, sym, ap, subst, ◌∙◌, arith}
 use Rattle.shim_base.specs.Paths.{Channel}
 use Rattle.shim_base.proofs.Facts.{some_same}
@@ -6,13 +6,13 @@ use Rattle.shim_local.specs.Process.{Ops}
 use Rattle.shim_semantics.specs.Nodes.{Node, Nodes, Forked, goes}
 use Rattle.shim_semantics.specs.Places.{at}
 use Rattle.shim_semantics.proofs.ReplacedNodes.{put, put_child}
-use Rattle.shim_laws_table.specs.Seen.{is_leaf, IsAside}
+use Rattle.shim_laws_table.specs.NodeStatus.{is_leaf, IsAside}
 use Rattle.shim_laws_table.specs.Places.{IsReplaced}
 use Rattle.shim_laws_table.specs.Counts.{running_of, bit}
 use Rattle.shim_laws_table.specs.Tallied.{is_above}
 use Rattle.shim_laws_table.proofs.Aside.{at_split}
 use Rattle.shim_laws_table.proofs.SameTrees.{aside_or_further, is_put}
-use Rattle.shim_laws_table.proofs.Way.{way_from, fork_above, with_split, untouched, leaf_no_fork}
+use Rattle.shim_laws_table.proofs.PlacesAbove.{way_from, fork_above, with_split, untouched, leaf_no_fork}
 use Rattle.shim_laws_table.proofs.Begun.{fork_parts}
 use Rattle.shim_laws_table.proofs.Linked.{running_follow}
 
@@ -44,7 +44,7 @@ module _ {S : Type 0} (o : Ops S) (q : List ℕ) (m a old new : Node S) (rep : I
           let was : at r old ≡ Some (Forked l v.children) = v.there ∙ ap (λ z. Some (Forked z v.children)) (sym parts.0) in
           record { children = v.children; there = was; same = stays r l v.children ks u was there }
 
-  -- as many children of it go on, where what stands in the place goes on as before
+  -- as many children of it go on, where what is in the place goes on as before
   pub as_many : goes a ≡ goes m → (r : List ℕ) (l : S) (ks : Nodes S) → at r new ≡ Some (Forked l ks) → Was running_of r l ks
   as_many same = carried running_of as_before
     where

@@ -12,7 +12,7 @@ use Rattle.shim_semantics.specs.Places.{at}
 use Rattle.shim_semantics.proofs.HowMany.{clash}
 use Rattle.shim_semantics.proofs.Replaced.{sound_at}
 use Rattle.shim_semantics.proofs.ReplacedNodes.{put, put_child}
-use Rattle.shim_laws_table.specs.Seen.{ProcessStatus, lives, forks, process_status, is_leaf, place, IsAside}
+use Rattle.shim_laws_table.specs.NodeStatus.{ProcessStatus, lives, forks, process_status, is_leaf, place, IsAside}
 use Rattle.shim_laws_table.specs.Agrees.{RecordView, used, Has, Represents}
 use Rattle.shim_laws_table.specs.Places.{IsReplaced}
 use Rattle.shim_laws_table.specs.Changes.{HasChanged}
@@ -23,16 +23,16 @@ use Rattle.shim_laws_table.specs.Dooms.{min_dead_label, min_dead_label_among}
 use Rattle.shim_laws_table.specs.LoweredLabels.{Labelled, LabelsOnTheWay, LoweredAbove}
 use Rattle.shim_laws_table.proofs.Aside.{at_split}
 use Rattle.shim_laws_table.proofs.SameTrees.{same_or_not, no_fork, aside_or_further, is_put}
-use Rattle.shim_laws_table.proofs.OneChange.{one_state, one_sort}
-use Rattle.shim_laws_table.proofs.Way.{Above, way_from, fork_above, with_split, leaf_no_fork}
+use Rattle.shim_laws_table.proofs.OneChange.{one_state, one_status}
+use Rattle.shim_laws_table.proofs.PlacesAbove.{PlaceAbove, way_from, fork_above, with_split, leaf_no_fork}
 use Rattle.shim_laws_table.proofs.Begun.{counts_begin, fork_parts}
 use Rattle.shim_laws_table.proofs.Linked.{links_follow, running_follow}
-use Rattle.shim_laws_table.proofs.Hanging.{tied, topmost, Below}
+use Rattle.shim_laws_table.proofs.Hanging.{tied, topmost, HasParent}
 use Rattle.shim_laws_table.proofs.LabelsBegun.{labels_begin}
 use Rattle.shim_laws_table.proofs.MinLabels.{min_labels_follow}
 use Rattle.shim_laws_table.proofs.LabelsLowering.{labels_lowered, not_above_root}
 use Rattle.shim_laws_table.proofs.Suffices.{given_suffice}
-use Rattle.shim_records.specs.Pairs.{stands_of, up_in, up_at, counts_in, counts_at, min_labels_in, min_label_at, known_in, rest_of, chans_of, IsOrdered, AreOrdered}
+use Rattle.shim_records.specs.Pairs.{record_view, up_in, up_at, counts_in, counts_at, min_labels_in, min_label_at, known_in, rest_of, chans_of, IsOrdered, AreOrdered}
 use Rattle.shim_records.specs.Acted.{process_status_of}
 use Rattle.shim_records.specs.UpdatesAbove.{AllUpdatedAbove, none_left, one_more}
 use Rattle.shim_records.specs.Died.{IsTaken}
@@ -42,7 +42,7 @@ use Rattle.shim_records.specs.declared.record.Status.{Status}
 use Rattle.shim_records.specs.declared.record.Status.TheVariants as code
 use Rattle.shim_records.proofs.Stepping.{set_there, set_elsewhere, map_set}
 use Rattle.shim_records.proofs.Representing.{map_get}
-use Rattle.shim_records.proofs.ReadOff.{same_stands}
+use Rattle.shim_records.proofs.ReadOff.{same_views}
 use Rattle.shim_records.proofs.FullPropagation.{rest_ups}
 use Rattle.shim_records.proofs.ManyPropagations.{among_or_not}
 use Rattle.shim_records.proofs.AllLowered as labels_above
@@ -50,13 +50,13 @@ use Rattle.shim_records.proofs.Acting.{step_updates_counts}
 use Rattle.shim_records.proofs.SharingFound.{knowledge, same_known}
 use Rattle.shim_laws_table_events.specs.keeping.Tables.{IsFit, TableInvariant}
 use Rattle.shim_laws_table_events.specs.keeping.Knowing.{AreKnown}
-use Rattle.shim_laws_table_events.specs.keeping.Acting.{left_by, marked, TakesIn, Terminates, ExitPreserves}
+use Rattle.shim_laws_table_events.specs.keeping.Acting.{left_by, with_status, TakesIn, Terminates, ExitPreserves}
 use Rattle.shim_laws_table_events.proofs.keeping.Forks.{Was, carried}
 use Rattle.shim_laws_table_events.proofs.keeping.Knowing.{known_on, acts_fewer}
 use Rattle.shim_laws_table_events.proofs.keeping.Moved.{map_length}
-use Rattle.shim_laws_table_events.proofs.keeping.OneLess.{less_going, at_set, found, same_rest, all_say, left_counts, left_labels, left_ups, left_stands}
+use Rattle.shim_laws_table_events.proofs.keeping.OneLess.{less_going, at_set, found, same_rest, all_say, left_counts, left_labels, left_ups, left_views}
 use Rattle.shim_laws_table_events.proofs.keeping.Acts as does
-use Rattle.shim_laws_table_events.proofs.keeping.Marks.{left_state, left_leaf, left_sort}
+use Rattle.shim_laws_table_events.proofs.keeping.Marks.{left_state, left_leaf, left_status}
 use Rattle.shim_laws_table_events.proofs.keeping.Marks as marks
 
 no_channel : Channel
@@ -108,7 +108,7 @@ updated_labels c i (none_left rs) = refl
 updated_labels c i (one_more d cs read reads before between behind once v u way more) = updated_labels c i more ∙ way.1.labels c i
 
 module _ {S : Type 0} (o : Ops S) (law : LocalLaws o) (rp : Path) (states : List S) (rs behind : List Record) (old new : Node S) (l : S) (k : Status) (effects : Effects) (x f : ℕ)
-    (kept : TableInvariant o rp (record { states = states; records = rs }) old) (has : Has states (map stands_of rs) x f l lives) (leaves : Terminates o l k 4294967295 x rs behind) (gone : goes (left_by l k) ≡ false)
+    (kept : TableInvariant o rp (record { states = states; records = rs }) old) (has : Has states (map record_view rs) x f l lives) (leaves : Terminates o l k 4294967295 x rs behind) (gone : goes (left_by l k) ≡ false)
     (acts : act_live o l (o.stop l) ≡ Some (record { node = left_by l k; effects = effects })) where
   abbrev a : Acted S
   a = record { node = left_by l k; effects = effects }
@@ -117,13 +117,13 @@ module _ {S : Type 0} (o : Ops S) (law : LocalLaws o) (rp : Path) (states : List
   was = leaves.was
 
   abbrev ms : List Record
-  ms = slice_set rs x (marked k was)
+  ms = slice_set rs x (with_status k was)
 
   abbrev st : List RecordView
-  st = map stands_of rs
+  st = map record_view rs
 
   abbrev st' : List RecordView
-  st' = map stands_of ms
+  st' = map record_view ms
 
   -- its record says what came of it
   mine : Has states st' x was.first l (process_status_of k)
@@ -139,24 +139,24 @@ module _ {S : Type 0} (o : Ops S) (law : LocalLaws o) (rp : Path) (states : List
     -- a fork was one before
     was_fork : (j d n : ℕ) (t : S) → Has states st' j d t (forks n) → (j ≢ x) × Has states st j d t (forks n)
     was_fork j d n t h = elim (same_or_not j x) [
-      | inl w ↦ no_fork (left_by l k) n (left_leaf l k) (left_sort l k gone ∙ sym (one_sort states st' j d was.first t l (forks n) (process_status_of k) h (subst (λ z. Has states st' z was.first l (process_status_of k)) (sym w) mine)))
+      | inl w ↦ no_fork (left_by l k) n (left_leaf l k) (left_status l k gone ∙ sym (one_status states st' j d was.first t l (forks n) (process_status_of k) h (subst (λ z. Has states st' z was.first l (process_status_of k)) (sym w) mine)))
       | inr w ↦ (w, changed.only j d t (forks n) w h)
     ]
 
     few : AreAtMost 4294967295 states st'
     few j d n t h = kept.few j d n t (was_fork j d n t h).1
 
-    marked_ups : up_in ms ≡ up_in rs
-    marked_ups = λ t i. at_set up_at rs x was (marked k was) leaves.there refl i t
+    ups_with_status : up_in ms ≡ up_in rs
+    ups_with_status = λ t i. at_set up_at rs x was (with_status k was) leaves.there refl i t
 
-    marked_counts : (c : Channel) → counts_in c ms ≡ counts_in c rs
-    marked_counts c = λ t i. at_set (counts_at c) rs x was (marked k was) leaves.there refl i t
+    counts_with_status : (c : Channel) → counts_in c ms ≡ counts_in c rs
+    counts_with_status c = λ t i. at_set (counts_at c) rs x was (with_status k was) leaves.there refl i t
 
-    marked_labels : (c : Channel) → min_labels_in c ms ≡ min_labels_in c rs
-    marked_labels c = λ t i. at_set (min_label_at c) rs x was (marked k was) leaves.there refl i t
+    labels_with_status : (c : Channel) → min_labels_in c ms ≡ min_labels_in c rs
+    labels_with_status c = λ t i. at_set (min_label_at c) rs x was (with_status k was) leaves.there refl i t
 
     linked : AreLinked states st' (up_in ms)
-    linked = subst (AreLinked states st') (sym marked_ups) ((links_follow o).changed states states st st' x (left_by l k) (up_in rs) (left_leaf l k) change kept.linked)
+    linked = subst (AreLinked states st') (sym ups_with_status) ((links_follow o).changed states states st st' x (left_by l k) (up_in rs) (left_leaf l k) change kept.linked)
 
     near : length (place o rp l) ≤ 4294967295
     near = (kept.fit x f l lives was has leaves.there).near
@@ -165,24 +165,24 @@ module _ {S : Type 0} (o : Ops S) (law : LocalLaws o) (rp : Path) (states : List
     begun c = (counts_begin o).changed rp states states st st' c old new (Live l) (left_by l k) x (counts_in c rs) rep (left_leaf l k) (ap o.given (left_state l k)) change (kept.right c).counts (kept.right c).there
 
     have : (c : Channel) → HaveCounts o rp states st' c (counts_in c ms) new
-    have c = subst (λ z. HaveCounts o rp states st' c z new) (sym (marked_counts c)) (begun c).1
+    have c = subst (λ z. HaveCounts o rp states st' c z new) (sym (counts_with_status c)) (begun c).1
 
     way : (c : Channel) → OnTheWay o rp states st' c (counts_in c ms) old new (place o rp l)
-    way c = subst (λ z. OnTheWay o rp states st' c z old new (place o rp l)) (sym (marked_counts c)) (begun c).0
+    way c = subst (λ z. OnTheWay o rp states st' c z old new (place o rp l)) (sym (counts_with_status c)) (begun c).0
 
     -- ---- labels
 
     labels_way : (c : Channel) → LabelsOnTheWay o rp states st' c (counts_in c ms) (min_labels_in c ms) old new (place o rp l)
     labels_way c =
-        subst (λ z. LabelsOnTheWay o rp states st' c z (min_labels_in c ms) old new (place o rp l)) (sym (marked_counts c))
-        (subst (λ z. LabelsOnTheWay o rp states st' c (counts_in c rs) z old new (place o rp l)) (sym (marked_labels c))
+        subst (λ z. LabelsOnTheWay o rp states st' c z (min_labels_in c ms) old new (place o rp l)) (sym (counts_with_status c))
+        (subst (λ z. LabelsOnTheWay o rp states st' c (counts_in c rs) z old new (place o rp l)) (sym (labels_with_status c))
         ((labels_begin o).changed rp states states st st' c old new (Live l) (left_by l k) x (counts_in c rs) (min_labels_in c rs) rep (left_leaf l k) change (kept.right c).labels))
 
     -- an end leaves them
     as_before : (c : Channel) → min_dead_label o c (left_by l k) ≡ None → Labelled o rp states st' c (counts_in c ms) (min_labels_in c ms) new
     as_before c none j d n t u ks fork counted now =
         let w = carried o (place o rp l) (Live l) (left_by l k) old new rep (left_leaf l k) (min_dead_label_among o c) (λ r v is js above was is'. (min_labels_follow o).stays c old new (Live l) (left_by l k) (place o rp l) r v is js rep none above was is') (place o rp t) u ks now in
-        ap (λ z. z j) (marked_labels c) ∙ ((kept.right c).labels j d n t u w.children (was_fork j d n t fork).1 (λ e. counted (ap (λ z. z j) (marked_counts c) ∙ e)) w.there ∙ sym w.same)
+        ap (λ z. z j) (labels_with_status c) ∙ ((kept.right c).labels j d n t u w.children (was_fork j d n t fork).1 (λ e. counted (ap (λ z. z j) (counts_with_status c) ∙ e)) w.there ∙ sym w.same)
 
     -- a death brings its own, wherever it is shared
     with_death : (c : Channel) (y : ℕ) → min_dead_label o c (left_by l k) ≡ cond (o.shares l c) (Some y) None → IsTaken o l y 4294967295 x ms leaves.labelled → Labelled o rp states st' c (counts_in c ms) (min_labels_in c leaves.labelled) new
@@ -224,70 +224,70 @@ module _ {S : Type 0} (o : Ops S) (law : LocalLaws o) (rp : Path) (states : List
 
     -- ---- counts
 
-    stands_labelled : map stands_of leaves.labelled ≡ st'
-    stands_labelled = same_stands ms leaves.labelled taken.rest
+    labelled_views : map record_view leaves.labelled ≡ st'
+    labelled_views = same_views ms leaves.labelled taken.rest
 
     ups_labelled : up_in leaves.labelled ≡ up_in ms
     ups_labelled = rest_ups ms leaves.labelled taken.rest
 
     brought : (map rest_of leaves.counted ≡ map rest_of leaves.labelled)
-        × ((c : Channel) → Tallied o rp states (map stands_of leaves.counted) c (counts_in c leaves.counted) new × HaveCounts o rp states (map stands_of leaves.counted) c (counts_in c leaves.counted) new)
+        × ((c : Channel) → Tallied o rp states (map record_view leaves.counted) c (counts_in c leaves.counted) new × HaveCounts o rp states (map record_view leaves.counted) c (counts_in c leaves.counted) new)
     brought =
-        step_updates_counts o law rp states leaves.labelled leaves.counted old new (Live l) a 4294967295 x was.first l (process_status_of k) kept.represents.sound (subst (λ z. Represents o rp states z new) (sym stands_labelled) shown)
-        (subst (λ z. AreLinked states z (up_in leaves.labelled)) (sym stands_labelled) (subst (AreLinked states st') (sym ups_labelled) linked)) (subst (AreAtMost 4294967295 states) (sym stands_labelled) few)
-        (subst (λ z. Has states z x was.first l (process_status_of k)) (sym stands_labelled) mine) rep acts (left_leaf l k) near
-        (λ c. subst (λ z. HaveCounts o rp states z c (counts_in c leaves.labelled) new) (sym stands_labelled) (subst (λ z. HaveCounts o rp states st' c z new) (sym (taken.counts c)) (have c)))
-        (λ c. subst (λ z. OnTheWay o rp states z c (counts_in c leaves.labelled) old new (place o rp l)) (sym stands_labelled) (subst (λ z. OnTheWay o rp states st' c z old new (place o rp l)) (sym (taken.counts c)) (way c))) leaves.updated
+        step_updates_counts o law rp states leaves.labelled leaves.counted old new (Live l) a 4294967295 x was.first l (process_status_of k) kept.represents.sound (subst (λ z. Represents o rp states z new) (sym labelled_views) shown)
+        (subst (λ z. AreLinked states z (up_in leaves.labelled)) (sym labelled_views) (subst (AreLinked states st') (sym ups_labelled) linked)) (subst (AreAtMost 4294967295 states) (sym labelled_views) few)
+        (subst (λ z. Has states z x was.first l (process_status_of k)) (sym labelled_views) mine) rep acts (left_leaf l k) near
+        (λ c. subst (λ z. HaveCounts o rp states z c (counts_in c leaves.labelled) new) (sym labelled_views) (subst (λ z. HaveCounts o rp states st' c z new) (sym (taken.counts c)) (have c)))
+        (λ c. subst (λ z. OnTheWay o rp states z c (counts_in c leaves.labelled) old new (place o rp l)) (sym labelled_views) (subst (λ z. OnTheWay o rp states st' c z old new (place o rp l)) (sym (taken.counts c)) (way c))) leaves.updated
 
-    stands_counted : map stands_of leaves.counted ≡ st'
-    stands_counted = same_stands leaves.labelled leaves.counted brought.0 ∙ stands_labelled
+    counted_views : map record_view leaves.counted ≡ st'
+    counted_views = same_views leaves.labelled leaves.counted brought.0 ∙ labelled_views
 
     ups_counted : up_in leaves.counted ≡ up_in ms
     ups_counted = rest_ups leaves.labelled leaves.counted brought.0 ∙ ups_labelled
 
     -- ---- the end
 
-    stands_end : map stands_of behind ≡ st'
-    stands_end = left_stands x leaves.counted behind leaves.left ∙ stands_counted
+    end_views : map record_view behind ≡ st'
+    end_views = left_views x leaves.counted behind leaves.left ∙ counted_views
 
     ups_end : up_in behind ≡ up_in ms
     ups_end = left_ups x leaves.counted behind leaves.left ∙ ups_counted
 
-    have_end : (c : Channel) → HaveCounts o rp states (map stands_of behind) c (counts_in c behind) new
+    have_end : (c : Channel) → HaveCounts o rp states (map record_view behind) c (counts_in c behind) new
     have_end c =
-        subst (λ z. HaveCounts o rp states z c (counts_in c behind) new) (sym (left_stands x leaves.counted behind leaves.left))
-        (subst (λ z. HaveCounts o rp states (map stands_of leaves.counted) c z new) (sym (left_counts x leaves.counted behind c leaves.left)) (brought.1 c).1)
+        subst (λ z. HaveCounts o rp states z c (counts_in c behind) new) (sym (left_views x leaves.counted behind leaves.left))
+        (subst (λ z. HaveCounts o rp states (map record_view leaves.counted) c z new) (sym (left_counts x leaves.counted behind c leaves.left)) (brought.1 c).1)
 
-    tallied_end : (c : Channel) → Tallied o rp states (map stands_of behind) c (counts_in c behind) new
+    tallied_end : (c : Channel) → Tallied o rp states (map record_view behind) c (counts_in c behind) new
     tallied_end c =
-        subst (λ z. Tallied o rp states z c (counts_in c behind) new) (sym (left_stands x leaves.counted behind leaves.left))
-        (subst (λ z. Tallied o rp states (map stands_of leaves.counted) c z new) (sym (left_counts x leaves.counted behind c leaves.left)) (brought.1 c).0)
+        subst (λ z. Tallied o rp states z c (counts_in c behind) new) (sym (left_views x leaves.counted behind leaves.left))
+        (subst (λ z. Tallied o rp states (map record_view leaves.counted) c z new) (sym (left_counts x leaves.counted behind c leaves.left)) (brought.1 c).0)
 
     labels_end : (c : Channel) (j : ℕ) → min_labels_in c behind j ≡ min_labels_in c leaves.labelled j
     labels_end c j = ap (λ z. z j) (left_labels x leaves.counted behind c leaves.left) ∙ updated_labels c j leaves.updated.updated
 
-    labelled_end : (c : Channel) → Labelled o rp states (map stands_of behind) c (counts_in c behind) (min_labels_in c behind) new
+    labelled_end : (c : Channel) → Labelled o rp states (map record_view behind) c (counts_in c behind) (min_labels_in c behind) new
     labelled_end c j d n t u ks fork counted now =
-        let fork' = subst (λ z. Has states z j d t (forks n)) stands_end fork in
+        let fork' = subst (λ z. Has states z j d t (forks n)) end_views fork in
         labels_end c j ∙ taken.labels c j d n t u ks fork' ((have c j d n t u ks fork' now).1 ((have_end c j d n t u ks fork now).0 counted)) now
 
     paths : map (λ (r : Record). r.path) behind ≡ map (λ (r : Record). r.path) rs
     paths =
         all_say x leaves.counted behind (λ r. r.path) (λ r. refl) leaves.left
-        ∙ (same_rest (λ z. z.path) leaves.labelled leaves.counted brought.0 ∙ (same_rest (λ z. z.path) ms leaves.labelled taken.rest ∙ map_set (λ r. r.path) rs x was (marked k was) leaves.there refl))
+        ∙ (same_rest (λ z. z.path) leaves.labelled leaves.counted brought.0 ∙ (same_rest (λ z. z.path) ms leaves.labelled taken.rest ∙ map_set (λ r. r.path) rs x was (with_status k was) leaves.there refl))
 
     chans : map (λ (r : Record). chans_of r.pairs.items) behind ≡ map (λ (r : Record). chans_of r.pairs.items) rs
     chans =
         all_say x leaves.counted behind (λ r. chans_of r.pairs.items) (λ r. refl) leaves.left
-        ∙ (same_rest (λ z. z.chans) leaves.labelled leaves.counted brought.0 ∙ (same_rest (λ z. z.chans) ms leaves.labelled taken.rest ∙ map_set (λ r. chans_of r.pairs.items) rs x was (marked k was) leaves.there refl))
+        ∙ (same_rest (λ z. z.chans) leaves.labelled leaves.counted brought.0 ∙ (same_rest (λ z. z.chans) ms leaves.labelled taken.rest ∙ map_set (λ r. chans_of r.pairs.items) rs x was (with_status k was) leaves.there refl))
 
     goings : map (λ (r : Record). r.running_children) leaves.counted ≡ map (λ (r : Record). r.running_children) rs
-    goings = same_rest (λ z. z.running_children) leaves.labelled leaves.counted brought.0 ∙ (same_rest (λ z. z.running_children) ms leaves.labelled taken.rest ∙ map_set (λ r. r.running_children) rs x was (marked k was) leaves.there refl)
+    goings = same_rest (λ z. z.running_children) leaves.labelled leaves.counted brought.0 ∙ (same_rest (λ z. z.running_children) ms leaves.labelled taken.rest ∙ map_set (λ r. r.running_children) rs x was (with_status k was) leaves.there refl)
 
     knowing : map knowledge behind ≡ map knowledge rs
     knowing =
         all_say x leaves.counted behind knowledge (λ r. refl) leaves.left
-        ∙ (same_rest (λ z. z.known) leaves.labelled leaves.counted brought.0 ∙ (same_rest (λ z. z.known) ms leaves.labelled taken.rest ∙ map_set knowledge rs x was (marked k was) leaves.there refl))
+        ∙ (same_rest (λ z. z.known) leaves.labelled leaves.counted brought.0 ∙ (same_rest (λ z. z.known) ms leaves.labelled taken.rest ∙ map_set knowledge rs x was (with_status k was) leaves.there refl))
 
     known : (c : Channel) → AreKnown o rp states st' c (known_in c behind) new
     known c =
@@ -334,7 +334,7 @@ module _ {S : Type 0} (o : Ops S) (law : LocalLaws o) (rp : Path) (states : List
           on (lost i up none same) =
               let b = tied o rp states st' new shown (up_in ms) linked x was.first i l (process_status_of k) mine (ap (λ z. z x) (sym ups_counted) ∙ up) in
               none_some (used b.0.first (forks b.0.many))
-              (ap (option_map stands_of) (sym none) ∙ (sym (map_get stands_of leaves.counted i) ∙ (ap (λ z. slice_get z i) stands_counted ∙ (ap (slice_get st') (sym b.1) ∙ b.0.has.stands_so))))
+              (ap (option_map record_view) (sym none) ∙ (sym (map_get record_view leaves.counted i) ∙ (ap (λ z. slice_get z i) counted_views ∙ (ap (slice_get st') (sym b.1) ∙ b.0.has.view_is))))
           on (below i above_it up there same) =
               let b = tied o rp states st' new shown (up_in ms) linked x was.first i l (process_status_of k) mine (ap (λ z. z x) (sym ups_counted) ∙ up) in
               elim (same_or_not j i) [
@@ -342,7 +342,7 @@ module _ {S : Type 0} (o : Ops S) (law : LocalLaws o) (rp : Path) (states : List
                 | inr v ↦ stays_going (sym (set_elsewhere leaves.counted i j (less_going above_it) v) ∙ (ap (λ z. slice_get z j) (sym same) ∙ e)) (λ is js above was' is'. further b.0 (λ w. v (w ∙ b.1)) is js (way_from (place o rp t) (place o rp l) above) was' is')
               ]
             where
-              right_above : (b : Below o rp states st' new shown x was.first l (process_status_of k)) → b.number ≡ j → (i : ℕ) (above_it : Record) → j ≡ i → slice_get leaves.counted i ≡ Some above_it → behind ≡ slice_set leaves.counted i (less_going above_it) → r.running_children ≡ running_of ks
+              right_above : (b : HasParent o rp states st' new shown x was.first l (process_status_of k)) → b.number ≡ j → (i : ℕ) (above_it : Record) → j ≡ i → slice_get leaves.counted i ≡ Some above_it → behind ≡ slice_set leaves.counted i (less_going above_it) → r.running_children ≡ running_of ks
               right_above b at_j i above_it v there same =
                   let w = found (λ (r : Record). r.running_children) rs leaves.counted i above_it goings there in
                   let lessened : r ≡ less_going above_it = some_same r (less_going above_it) (sym e ∙ (ap (λ z. slice_get z j) same ∙ (ap (slice_get (slice_set leaves.counted i (less_going above_it))) v ∙ set_there leaves.counted i above_it (less_going above_it) there))) in
@@ -354,7 +354,7 @@ module _ {S : Type 0} (o : Ops S) (law : LocalLaws o) (rp : Path) (states : List
                   ((running_follow o).right_above old new (Live l) (left_by l k) (place o rp t) b.branch u before.children ks (subst (λ z. IsReplaced z (Live l) (left_by l k) old new) its_place rep) before.there now)
                   (ap bit gone)
 
-              further : (b : Below o rp states st' new shown x was.first l (process_status_of k)) → j ≢ b.number → (is js : Nodes S) → Above (place o rp t) (place o rp l) → at (place o rp t) old ≡ Some (Forked u is) → at (place o rp t) new ≡ Some (Forked u js) → running_of js ≡ running_of is
+              further : (b : HasParent o rp states st' new shown x was.first l (process_status_of k)) → j ≢ b.number → (is js : Nodes S) → PlaceAbove (place o rp t) (place o rp l) → at (place o rp t) old ≡ Some (Forked u is) → at (place o rp t) new ≡ Some (Forked u js) → running_of js ≡ running_of is
               further b other is js y was' is' = by_rest y.rest y.is
                 where
                   by_rest : (rest : List ℕ) → place o rp l ≡ place o rp t ++ y.branch ∷ rest → running_of js ≡ running_of is
@@ -363,22 +363,22 @@ module _ {S : Type 0} (o : Ops S) (law : LocalLaws o) (rp : Path) (states : List
 
     pub kept_on : TableInvariant o rp (record { states = states; records = behind }) new
     kept_on = record {
-      represents = subst (λ z. Represents o rp states z new) (sym stands_end) shown;
-      linked = subst (λ z. AreLinked states z (up_in behind)) (sym stands_end) (subst (AreLinked states st') (sym ups_end) linked);
-      few = subst (AreAtMost 4294967295 states) (sym stands_end) few;
+      represents = subst (λ z. Represents o rp states z new) (sym end_views) shown;
+      linked = subst (λ z. AreLinked states z (up_in behind)) (sym end_views) (subst (AreLinked states st') (sym ups_end) linked);
+      few = subst (AreAtMost 4294967295 states) (sym end_views) few;
       ordered = ordered;
       right = λ c. record { there = have_end c; counts = tallied_end c; labels = labelled_end c };
-      running_children = λ j d n t u ks r fork e now. running_children j d n t u ks r (subst (λ z. Has states z j d t (forks n)) stands_end fork) e now;
-      known = λ c. subst (λ z. AreKnown o rp states z c (known_in c behind) new) (sym stands_end) (known c);
-      fit = λ j d t h r p e. fit j d t h r (subst (λ z. Has states z j d t h) stands_end p) e;
+      running_children = λ j d n t u ks r fork e now. running_children j d n t u ks r (subst (λ z. Has states z j d t (forks n)) end_views fork) e now;
+      known = λ c. subst (λ z. AreKnown o rp states z c (known_in c behind) new) (sym end_views) (known c);
+      fit = λ j d t h r p e. fit j d t h r (subst (λ z. Has states z j d t h) end_views p) e;
       beside = kept.beside ∙ (sym (map_length (λ (r : Record). r.path) rs) ∙ (ap length (sym paths) ∙ map_length (λ (r : Record). r.path) behind));
     }
 
 pub exit_preserves : {S : Type 0} (o : Ops S) → LocalLaws o → ExitPreserves o
 exit_preserves {S} o law states rs behind x f l k effects has acts gone leaves rp t kept =
     let a : Acted S = record { node = left_by l k; effects = effects } in
-    let st = map stands_of rs in
-    let st' = map stands_of (slice_set rs x (marked k leaves.was)) in
+    let st = map record_view rs in
+    let st' = map record_view (slice_set rs x (with_status k leaves.was)) in
     let now = marks.change o states rs behind l k x f has leaves gone in
     let u = does.next o law rp states states st st' t x f l a kept.represents has acts (left_leaf l k) now in (
       u.0,

@@ -1,4 +1,4 @@
--- What forks know of who shares a channel stays, wherever another node stands below them that was given as much and carries no more.
+-- What forks know of who shares a channel stays, wherever another node is below them that was given as much and carries no more.
 use Rattle.std.proofs.Common.{◌≡◌, ◌≢◌, ◌≤◌, ◌<◌, ◌⊎◌, ◌+◌, ℕ, zero, suc, Bool, true, false, Option, Some, None, List, [], ◌∷◌, ◌++◌, inl, inr, refl, sym, ap, subst, ◌∙◌, arith}
 use Rattle.std.specs.Prelude.{slice_get}
 use Rattle.std.specs.Option.{option_map}
@@ -14,13 +14,13 @@ use Rattle.shim_semantics.proofs.Follows.{IsNew, by_own, by_child}
 use Rattle.shim_semantics.proofs.Replaced.{put_count}
 use Rattle.shim_semantics.proofs.ReplacedNodes.{put, put_child}
 use Rattle.shim_semantics.proofs.SoundEvents.{here_keeps}
-use Rattle.shim_laws_table.specs.Seen.{ProcessStatus, forks, place, IsAside, is_leaf}
+use Rattle.shim_laws_table.specs.NodeStatus.{ProcessStatus, forks, place, IsAside, is_leaf}
 use Rattle.shim_laws_table.specs.Agrees.{RecordView, Has}
 use Rattle.shim_laws_table.specs.Places.{IsReplaced}
 use Rattle.shim_laws_table.specs.Tallied.{is_above}
 use Rattle.shim_laws_table.proofs.Aside.{as_many, at_split}
 use Rattle.shim_laws_table.proofs.SameTrees.{is_put, through, aside_or_further}
-use Rattle.shim_laws_table.proofs.Way.{way_from, fork_above, with_split, untouched, leaf_no_fork}
+use Rattle.shim_laws_table.proofs.PlacesAbove.{way_from, fork_above, with_split, untouched, leaf_no_fork}
 use Rattle.shim_laws_table.proofs.Begun.{fork_parts}
 use Rattle.shim_laws_table.proofs.Hanging.{counts_share, none_above}
 use Rattle.shim_records.specs.Pairs.{tally, pair_of, counts_in, known_at, known_in, counts_at}
@@ -28,7 +28,7 @@ use Rattle.shim_records.specs.declared.pair.Pair.{Pair}
 use Rattle.shim_records.specs.declared.pair.Sharing.{Sharing}
 use Rattle.shim_records.specs.declared.record.Record.{Record}
 use Rattle.shim_records.proofs.SharingFound.{known_pair, pair_known}
-use Rattle.shim_laws_table_events.specs.keeping.Tables.{TableView, stands, HasProcessState, TableInvariant}
+use Rattle.shim_laws_table_events.specs.keeping.Tables.{TableView, views, HasProcessState, TableInvariant}
 use Rattle.shim_laws_table_events.specs.keeping.Knowing.{Knows, AreKnown}
 
 no_channel : Channel
@@ -43,7 +43,7 @@ given_same o c x y e h = (h.0, h.1, ap (λ z. slice_get z h.0) (sym e) ∙ h.2, 
 -- ---- one fork, with another node below it
 
 module _ {S : Type 0} (o : Ops S) (c : Channel) (m a : Node S) (given : o.given (state a) ≡ o.given (state m)) where
-  -- a child stands there as before, or it is the one at or below which the other node stands
+  -- a child is there as before, or it is the one at or below which the other node stands
   child_of : (p : List ℕ) (b d : ℕ) (ks : Nodes S) (h : Node S) → child_at d [] (put_child b p a ks) ≡ Some h → (child_at d [] ks ≡ Some h) ⊎ ((d ≡ b) × (k : Node S) × (child_at d [] ks ≡ Some k) × (h ≡ put p a k))
   child_of p b d no_node h e = none_some h e
   child_of p zero zero (node_and k ks) h e = inr (refl, k, refl, sym (some_same (put p a k) h e))
@@ -121,24 +121,24 @@ some_of (Some z) n = (z, refl)
 pub known_shares : {S : Type 0} (o : Ops S) (rp : Path) (v : TableView S) (root : Node S) (c : Channel) → TableInvariant o rp v root → (j d n : ℕ) (t : S) (k : Sharing) → HasProcessState v j d t (forks n) → known_in c v.records j ≡ Some k → o.shares t c ≡ true
 known_shares o rp v root c kept j d n t k fork e =
     let y = some_of (counts_in c v.records j) (known_counted c (slice_get v.records j) k e) in
-    counts_share o rp v.states (stands v) root kept.represents c (counts_in c v.records) (kept.right c).there j d n t y.0 fork y.1
+    counts_share o rp v.states (views v) root kept.represents c (counts_in c v.records) (kept.right c).there j d n t y.0 fork y.1
 
 module _ {S : Type 0} (o : Ops S) (rp : Path) (v : TableView S) (old new : Node S) (kept : TableInvariant o rp v old) (x f : ℕ) (l : S) (h : ProcessStatus) (has : HasProcessState v x f l h)
     (m a : Node S) (rep : IsReplaced (place o rp l) m a old new) (given : o.given (state a) ≡ o.given (state m)) (c : Channel) (fewer : Elsewhere (o.path l) c → carriers o c a ≤ carriers o c m) where
-  -- no fork that knows of a channel stands above its home
+  -- no fork that knows of a channel is above its home
   above_elsewhere : (j d n : ℕ) (t : S) (k : Sharing) → HasProcessState v j d t (forks n) → known_in c v.records j ≡ Some k → is_above (place o rp t) (place o rp l) ≡ true → Elsewhere (o.path l) c
   above_elsewhere j d n t k fork e above r home =
-      none_above o rp v.states (stands v) old kept.represents c x f j d n l t h r has home fork above (known_shares o rp v old c kept j d n t k fork e)
+      none_above o rp v.states (views v) old kept.represents c x f j d n l t h r has home fork above (known_shares o rp v old c kept j d n t k fork e)
 
   -- a fork aside knows what it knew
   pub knows_aside : (j d n : ℕ) (t : S) (k : Sharing) (u : S) (js : Nodes S) → HasProcessState v j d t (forks n) → known_in c v.records j ≡ Some k → IsAside (place o rp t) (place o rp l) → at (place o rp t) new ≡ Some (Forked u js) → Knows o c u js k
   knows_aside j d n t k u js fork e far there =
       knows_on o c (place o rp l) m a old new rep given (place o rp t) u js k far (λ above. fewer (above_elsewhere j d n t k fork e above)) there (λ is was. kept.known c j d n t k u is fork e was)
 
-  -- and so do all, where nothing stands below the other node
-  pub known_on : is_leaf a ≡ true → (states' : List S) (stands' : List RecordView) (known : ℕ → Option Sharing) → ((j d n : ℕ) (t : S) → Has states' stands' j d t (forks n) → HasProcessState v j d t (forks n))
-      → ((j d n : ℕ) (t : S) → Has states' stands' j d t (forks n) → known j ≡ known_in c v.records j) → AreKnown o rp states' stands' c known new
-  known_on leaf states' stands' known was same j d n t k u js fork e there = elim (aside_or_further (place o rp l) (place o rp t)) [
+  -- and so do all, where nothing is below the other node
+  pub known_on : is_leaf a ≡ true → (states' : List S) (views' : List RecordView) (known : ℕ → Option Sharing) → ((j d n : ℕ) (t : S) → Has states' views' j d t (forks n) → HasProcessState v j d t (forks n))
+      → ((j d n : ℕ) (t : S) → Has states' views' j d t (forks n) → known j ≡ known_in c v.records j) → AreKnown o rp states' views' c known new
+  known_on leaf states' views' known was same j d n t k u js fork e there = elim (aside_or_further (place o rp l) (place o rp t)) [
     | inr y ↦ leaf_no_fork y.0 a u js leaf (sym (at_split (place o rp l) y.0 new a rep.is) ∙ (ap (λ z. at z new) (sym y.1) ∙ there))
     | inl far ↦ knows_aside j d n t k u js (was j d n t fork) (sym (same j d n t fork) ∙ e) far there
   ]

@@ -12,7 +12,7 @@ use Rattle.shim_semantics.specs.Nodes.{Node, Nodes, Live, Forked, is_next}
 use Rattle.shim_semantics.specs.Places.{at, branches}
 use Rattle.shim_semantics.specs.Sound.{carriers}
 use Rattle.shim_semantics.proofs.HowMany.{clash}
-use Rattle.shim_laws_table.specs.Seen.{ProcessStatus, lives, forks, place}
+use Rattle.shim_laws_table.specs.NodeStatus.{ProcessStatus, lives, forks, place}
 use Rattle.shim_laws_table.specs.Agrees.{RecordView, used, Has, Represents}
 use Rattle.shim_laws_table.specs.Places.{IsReplaced}
 use Rattle.shim_laws_table.specs.Changes.{HasChanged}
@@ -22,18 +22,18 @@ use Rattle.shim_laws_table.specs.Updating.{AreLinked, AreAtMost, UpdatedAbove, t
 use Rattle.shim_laws_table.specs.Dooms.{min_dead_label_among}
 use Rattle.shim_laws_table.specs.LoweredLabels.{Labelled}
 use Rattle.shim_laws_table.proofs.SameTrees.{same_or_not, no_fork}
-use Rattle.shim_laws_table.proofs.OneChange.{one_state, one_sort}
-use Rattle.shim_laws_table.proofs.Way.{above_its_own}
+use Rattle.shim_laws_table.proofs.OneChange.{one_state, one_status}
+use Rattle.shim_laws_table.proofs.PlacesAbove.{above_its_own}
 use Rattle.shim_laws_table.proofs.Begun.{counts_begin}
 use Rattle.shim_laws_table.proofs.Brought.{counts_follow}
 use Rattle.shim_laws_table.proofs.Linked.{links_follow}
 use Rattle.shim_laws_table.proofs.Hanging.{tied, counts_share, none_above}
 use Rattle.shim_laws_table.proofs.MinLabels.{min_labels_follow}
-use Rattle.shim_records.specs.Pairs.{stands_of, up_in, counts_in, min_labels_in, known_in, rest_of, child_status_of, UncountedRecord}
+use Rattle.shim_records.specs.Pairs.{record_view, up_in, counts_in, min_labels_in, known_in, rest_of, child_status_of, UncountedRecord}
 use Rattle.shim_records.specs.declared.record.Record.{Record}
 use Rattle.shim_records.proofs.Stepping.{set_there, set_elsewhere}
 use Rattle.shim_records.proofs.Representing.{map_get}
-use Rattle.shim_records.proofs.ReadOff.{same_stands}
+use Rattle.shim_records.proofs.ReadOff.{same_views}
 use Rattle.shim_records.proofs.SharingFound.{rest_known}
 use Rattle.shim_records.proofs.FullPropagation.{rest_ups, kept_order}
 use Rattle.shim_laws_table_events.specs.keeping.Tables.{IsFit, TableInvariant}
@@ -67,24 +67,24 @@ pub was_record : (before behind : List Record) (i : ℕ) (r : Record) → map re
 was_record before behind i r h e = from_map rest_of (slice_get before i) (rest_of r) (sym (map_get rest_of before i) ∙ (ap (λ z. slice_get z i) (sym h) ∙ (map_get rest_of behind i ∙ ap (option_map rest_of) e)))
 
 module _ {S : Type 0} (o : Ops S) (law : LocalLaws o) (rp : Path) (states : List S) (rs behind : List Record) (old new : Node S) (l s : S) (x f : ℕ)
-    (kept : TableInvariant o rp (record { states = states; records = rs }) old) (has : Has states (map stands_of rs) x f l lives)
-    (shown : Represents o rp (slice_set states x s) (map stands_of rs) new) (rep : IsReplaced (place o rp l) (Live l) (Live s) old new) (stay : Stays o l s)
+    (kept : TableInvariant o rp (record { states = states; records = rs }) old) (has : Has states (map record_view rs) x f l lives)
+    (shown : Represents o rp (slice_set states x s) (map record_view rs) new) (rep : IsReplaced (place o rp l) (Live l) (Live s) old new) (stay : Stays o l s)
     (unread : (c : Channel) → is_next (o.stop l) c ≡ false) (propagates : PropagatesStop o s 4294967295 x rs behind) where
   abbrev st : List RecordView
-  st = map stands_of rs
+  st = map record_view rs
 
   abbrev states' : List S
   states' = slice_set states x s
 
   mine : Has states' st x f s lives
-  mine = record { state_is = set_there states x l s has.state_is; stands_so = has.stands_so }
+  mine = record { state_is = set_there states x l s has.state_is; view_is = has.view_is }
 
   changed : HasChanged states states' st st x s lives
   changed = record {
     first = f;
     mine = mine;
-    others = λ j d t k n h. record { state_is = set_elsewhere states x j s n ∙ h.state_is; stands_so = h.stands_so };
-    only = λ j d t k n h. record { state_is = sym (set_elsewhere states x j s n) ∙ h.state_is; stands_so = h.stands_so };
+    others = λ j d t k n h. record { state_is = set_elsewhere states x j s n ∙ h.state_is; view_is = h.view_is };
+    only = λ j d t k n h. record { state_is = sym (set_elsewhere states x j s n) ∙ h.state_is; view_is = h.view_is };
   }
 
   same_place : place o rp s ≡ place o rp l
@@ -96,7 +96,7 @@ module _ {S : Type 0} (o : Ops S) (law : LocalLaws o) (rp : Path) (states : List
   -- a fork was one before
   was_fork : (j d n : ℕ) (t : S) → Has states' st j d t (forks n) → (j ≢ x) × Has states st j d t (forks n)
   was_fork j d n t h = elim (same_or_not j x) [
-    | inl w ↦ no_fork (Live s) n refl (sym (one_sort states' st j d f t s (forks n) lives h (subst (λ z. Has states' st z f s lives) (sym w) mine)))
+    | inl w ↦ no_fork (Live s) n refl (sym (one_status states' st j d f t s (forks n) lives h (subst (λ z. Has states' st z f s lives) (sym w) mine)))
     | inr w ↦ (w, changed.only j d t (forks n) w h)
   ]
 
@@ -162,7 +162,7 @@ module _ {S : Type 0} (o : Ops S) (law : LocalLaws o) (rp : Path) (states : List
     nothing_done (stays p before after x j was is y z e step same) have r home = absurd (uncounted before have r home j y e step.old)
     nothing_done (goes_on p before between after x j was is y z e step more) have r home = absurd (uncounted before have r home j y e step.old)
 
-    -- of the one at which it stands the way up was walked
+    -- for the one at which it is the counts above were updated
     came : (after : ℕ → Option Tally) → is_next (o.stop s) c ≡ true → o.shares s c ≡ true → length (place o rp s) ≤ 4294967295
         → UpdatedAbove (up_in rs) 4294967295 4294967295 (counts_in c rs) x (record { alive = true; ready_on = false; dead_on = false }) (record { alive = true; ready_on = true; dead_on = false }) after → Both after
     came after e shares near updated = elim (true_or_false (same_path c.home (o.path l))) [
@@ -175,7 +175,7 @@ module _ {S : Type 0} (o : Ops S) (law : LocalLaws o) (rp : Path) (states : List
     ]
 
   near : length (place o rp s) ≤ 4294967295
-  near = let r = from_map stands_of (slice_get rs x) (used f lives) (sym (map_get stands_of rs x) ∙ has.stands_so) in subst (λ z. length z ≤ 4294967295) (sym same_place) (kept.fit x f l lives r.0 has r.1).near
+  near = let r = from_map record_view (slice_get rs x) (used f lives) (sym (map_get record_view rs x) ∙ has.view_is) in subst (λ z. length z ≤ 4294967295) (sym same_place) (kept.fit x f l lives r.0 has r.1).near
 
   arrived : o.sound s → (c : Channel) → Both c (counts_in c behind)
   arrived sound c = on propagates
@@ -226,7 +226,7 @@ module _ {S : Type 0} (o : Ops S) (law : LocalLaws o) (rp : Path) (states : List
 
   pub moved : o.sound s → TableInvariant o rp (record { states = states'; records = behind }) new
   moved sound =
-      let same : map stands_of behind ≡ st = same_stands rs behind rest in
+      let same : map record_view behind ≡ st = same_views rs behind rest in
       let ups = rest_ups rs behind rest in
       record {
         represents = subst (λ z. Represents o rp states' z new) (sym same) shown;

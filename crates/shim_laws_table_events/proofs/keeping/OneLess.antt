@@ -4,7 +4,7 @@ use Rattle.std.specs.Prelude.{slice_get}
 use Rattle.std.specs.Option.{option_map}
 use Rattle.shim_base.specs.Paths.{Channel}
 use Rattle.shim_laws_table.proofs.SameTrees.{same_or_not}
-use Rattle.shim_records.specs.Pairs.{up_in, counts_at, counts_in, min_label_at, min_labels_in, up_at, stands_of, rest_of, UncountedRecord, known_at, known_in}
+use Rattle.shim_records.specs.Pairs.{up_in, counts_at, counts_in, min_label_at, min_labels_in, up_at, record_view, rest_of, UncountedRecord, known_at, known_in}
 use Rattle.shim_records.specs.CountingOff.{HasCountedOff, alone, lost, below}
 use Rattle.shim_records.specs.declared.record.Record.{Record}
 use Rattle.shim_records.proofs.Stepping.{set_there, set_elsewhere, map_set}
@@ -57,5 +57,5 @@ module _ (x : ℕ) (before behind : List Record) where
   pub left_ups : HasCountedOff x before behind → up_in behind ≡ up_in before
   left_ups h = λ t i. each_says up_at (λ r. refl) h i t
 
-  pub left_stands : HasCountedOff x before behind → map stands_of behind ≡ map stands_of before
-  left_stands h = all_say stands_of (λ r. refl) h
+  pub left_views : HasCountedOff x before behind → map record_view behind ≡ map record_view before
+  left_views h = all_say record_view (λ r. refl) h

@@ -8,25 +8,25 @@ use Rattle.shim_semantics.specs.Nodes.{Live}
 use Rattle.shim_semantics.specs.Places.{branches}
 use Rattle.shim_semantics.specs.Sound.{SharesItsOwn}
 use Rattle.shim_semantics.proofs.SoundEvents.{events_keep_sound}
-use Rattle.shim_laws_table.specs.Seen.{ProcessStatus, lives, forks}
+use Rattle.shim_laws_table.specs.NodeStatus.{ProcessStatus, lives, forks}
 use Rattle.shim_laws_table.specs.Agrees.{used, Has, Represents}
 use Rattle.shim_laws_table.proofs.Shown.{start_represents}
-use Rattle.shim_records.specs.Pairs.{stands_of, chans_of, IsOrdered}
+use Rattle.shim_records.specs.Pairs.{record_view, chans_of, IsOrdered}
 use Rattle.shim_records.specs.declared.record.Record.{Record}
 use Rattle.shim_laws_table_events.specs.keeping.Tables.{IsFit, TableInvariant, IsOfRoot}
 
-sort_same : (f n : ℕ) → used f (forks n) ≡ used 0 lives → forks n ≡ lives
-sort_same f n e = cc
+status_same : (f n : ℕ) → used f (forks n) ≡ used 0 lives → forks n ≡ lives
+status_same f n e = cc
 
 no_fork_lives : (n : ℕ) → forks n ≡ lives → ⊥
 no_fork_lives n e = absurd cc
 
 module _ {S : Type 0} (o : Ops S) (law : LocalLaws o) (root : S) (r : Record) (of_root : IsOfRoot o root r) (sound : o.sound root) (at_root : o.path root ≡ []) (own : SharesItsOwn o root) where
-  no_forks : {B : Type 0} (i f n : ℕ) (s : S) → Has (root ∷ []) (stands_of r ∷ []) i f s (forks n) → B
-  no_forks zero f n s h = absurd (no_fork_lives n (sort_same f n (sym (some_same (stands_of r) (used f (forks n)) h.stands_so) ∙ of_root.lives_on)))
+  no_forks : {B : Type 0} (i f n : ℕ) (s : S) → Has (root ∷ []) (record_view r ∷ []) i f s (forks n) → B
+  no_forks zero f n s h = absurd (no_fork_lives n (status_same f n (sym (some_same (record_view r) (used f (forks n)) h.view_is) ∙ of_root.lives_on)))
   no_forks (suc i) f n s h = none_some s h.state_is
 
-  fit : (i f : ℕ) (s : S) (k : ProcessStatus) (q : Record) → Has (root ∷ []) (stands_of r ∷ []) i f s k → slice_get (r ∷ []) i ≡ Some q → IsFit o [] s q
+  fit : (i f : ℕ) (s : S) (k : ProcessStatus) (q : Record) → Has (root ∷ []) (record_view r ∷ []) i f s k → slice_get (r ∷ []) i ≡ Some q → IsFit o [] s q
   fit zero f s k q h e =
       let is : root ≡ s = some_same root s h.state_is in
       let same : r ≡ q = some_same r q e in

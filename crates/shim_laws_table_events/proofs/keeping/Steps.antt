@@ -18,7 +18,7 @@ use Rattle.shim_semantics.specs.Systems.{run, on_some}
 use Rattle.shim_semantics.specs.Trees.{Tree, Own, after, own_action_at}
 use Rattle.shim_semantics.proofs.HowMany.{no_less, no_less_than, one_for_one}
 use Rattle.shim_semantics.proofs.Replaced.{sound_at}
-use Rattle.shim_laws_table.specs.Seen.{lives, place}
+use Rattle.shim_laws_table.specs.NodeStatus.{lives, place}
 use Rattle.shim_laws_table.specs.Agrees.{RecordView, Has, Represents}
 use Rattle.shim_laws_table.specs.Places.{IsReplaced}
 use Rattle.shim_laws_table.specs.Changes.{HasChanged}
@@ -28,7 +28,7 @@ use Rattle.shim_laws_table.proofs.Shown.{events_preserve, one_change_is_represen
 use Rattle.shim_laws_table.proofs.CanHappen.{enabled_by_records}
 use Rattle.shim_semantics.proofs.ReplacedNodes.{put}
 use Rattle.shim_records.proofs.Stepping.{set_there, set_elsewhere}
-use Rattle.shim_records.specs.Pairs.{stands_of}
+use Rattle.shim_records.specs.Pairs.{record_view}
 use Rattle.shim_records.specs.declared.record.Record.{Record}
 use Rattle.shim_laws_table_events.specs.keeping.Tables.{TableInvariant}
 use Rattle.shim_laws_table_events.specs.keeping.Propagating.{PropagatesStop}
@@ -71,42 +71,42 @@ module _ {S : Type 0} (o : Ops S) (law : LocalLaws o) where
       one quiet c far false true e f = absurd (far (law.quiet_adds l c sound quiet e f))
       one quiet c far false false e f = e ∙ sym f
 
-  module _ (rp : Path) (stands : List RecordView) where
+  module _ (rp : Path) (views : List RecordView) where
     -- a record gets another state
-    has_set : (states : List S) (x f : ℕ) (l s : S) → Has states stands x f l lives → Has (slice_set states x s) stands x f s lives
-    has_set states x f l s has = record { state_is = set_there states x l s has.state_is; stands_so = has.stands_so }
+    has_set : (states : List S) (x f : ℕ) (l s : S) → Has states views x f l lives → Has (slice_set states x s) views x f s lives
+    has_set states x f l s has = record { state_is = set_there states x l s has.state_is; view_is = has.view_is }
 
-    pub set_changed : (states : List S) (x f : ℕ) (l s : S) → Has states stands x f l lives → HasChanged states (slice_set states x s) stands stands x s lives
+    pub set_changed : (states : List S) (x f : ℕ) (l s : S) → Has states views x f l lives → HasChanged states (slice_set states x s) views views x s lives
     set_changed states x f l s has = record {
       first = f;
       mine = has_set states x f l s has;
-      others = λ j d t k n h. record { state_is = set_elsewhere states x j s n ∙ h.state_is; stands_so = h.stands_so };
-      only = λ j d t k n h. record { state_is = sym (set_elsewhere states x j s n) ∙ h.state_is; stands_so = h.stands_so };
+      others = λ j d t k n h. record { state_is = set_elsewhere states x j s n ∙ h.state_is; view_is = h.view_is };
+      only = λ j d t k n h. record { state_is = sym (set_elsewhere states x j s n) ∙ h.state_is; view_is = h.view_is };
     }
 
     -- so many of them can be done in the tree that is shown
-    can_advance : (n x f : ℕ) (states : List S) (t : Tree S) (l last : S) (p : Path) → Represents o rp states stands t.root → Has states stands x f l lives → p ≡ o.path l → QuietSteps o n l last → (u : Tree S) × Advances o p n t u
+    can_advance : (n x f : ℕ) (states : List S) (t : Tree S) (l last : S) (p : Path) → Represents o rp states views t.root → Has states views x f l lives → p ≡ o.path l → QuietSteps o n l last → (u : Tree S) × Advances o p n t u
     can_advance zero x f states t l last p represents has is taken = (t, refl)
     can_advance (suc n) x f states t l last p represents has is taken =
         let first = first_quiet o n l last taken in
         let there : at (place o rp l) t.root ≡ Some (Live l) = seen_live (at (place o rp l) t.root) l (represents.agrees.shown x f l lives has) in
         let sound = sound_at o (place o rp l) t.root (Live l) represents.sound.below there in
-        let can = ((enabled_by_records o law).steps rp states stands t x f l represents has).1 (ap own_action_at first.0) in
+        let can = ((enabled_by_records o law).steps rp states views t x f l represents has).1 (ap own_action_at first.0) in
         let next = some_of (after o (Own (o.path l)) t) can in
         let change = set_changed states x f l (o.quiet l) has in
         let does : act_live o l (o.stop l) ≡ Some (record { node = Live (o.quiet l); effects = nothing }) = ap (act_live o l) first.0 in
-        let shown = (events_preserve o law).stepped rp states (slice_set states x (o.quiet l)) stands stands t next.0 (Own (o.path l)) x f l (record { node = Live (o.quiet l); effects = nothing }) represents has refl next.1 does refl change in
+        let shown = (events_preserve o law).stepped rp states (slice_set states x (o.quiet l)) views views t next.0 (Own (o.path l)) x f l (record { node = Live (o.quiet l); effects = nothing }) represents has refl next.1 does refl change in
         let more = can_advance n x f (slice_set states x (o.quiet l)) next.0 (o.quiet l) last p shown (has_set states x f l (o.quiet l) has) (is ∙ sym (law.moved_path l (o.quiet l) sound (by_quiet first.0 refl))) first.1 in
         (more.0, ap (on_some (run (after o) (replicate n (Own p)))) (ap (λ z. after o (Own z) t) is ∙ next.1) ∙ more.1)
 
   unread : (l : S) → o.stop l ≡ AtQuiet → (c : Channel) → is_next (o.stop l) c ≡ false
   unread l e c = ap (λ z. is_next z c) e
 
-  -- the process has done them, and came where it stands
-  pub advanced : (rp : Path) (t : Tree S) (states : List S) (rs behind : List Record) (n x f : ℕ) (l last : S) → TableInvariant o rp (record { states = states; records = rs }) t.root → Has states (map stands_of rs) x f l lives
+  -- the process has done them, and came where it is
+  pub advanced : (rp : Path) (t : Tree S) (states : List S) (rs behind : List Record) (n x f : ℕ) (l last : S) → TableInvariant o rp (record { states = states; records = rs }) t.root → Has states (map record_view rs) x f l lives
       → o.stop l ≡ AtQuiet → QuietSteps o n l last → PropagatesStop o last 4294967295 x rs behind → (u : Tree S) × Advances o (o.path l) n t u × TableInvariant o rp (record { states = slice_set states x last; records = behind }) u.root
   advanced rp t states rs behind n x f l last kept has stop taken propagates =
-      let st = map stands_of rs in
+      let st = map record_view rs in
       let there : at (place o rp l) t.root ≡ Some (Live l) = seen_live (at (place o rp l) t.root) l (kept.represents.agrees.shown x f l lives has) in
       let sound = sound_at o (place o rp l) t.root (Live l) kept.represents.sound.below there in
       let stay = quiet_stays n l last sound taken in

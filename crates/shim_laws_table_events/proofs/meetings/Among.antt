@@ -1,4 +1,4 @@
--- Numbers in lists, and lists none of whose numbers stands there twice.
+-- Numbers in lists, and lists none of whose numbers is there twice.
 use Rattle.std.proofs.Common.{◌≡◌, ◌<◌, ◌≤◌, ◌⊎◌, ℕ, zero, suc, Bool, true, false, ◌||◌, ◌&&◌, Some, List, [], ◌∷◌, inl, inr, refl, sym, ap, subst, ◌∙◌, arith}
 use Rattle.std.specs.Prelude.{eqb, ltb}
 use Rattle.std.proofs.lemmas.Bool.{le-ltb, ltb-true, eqb-true}
@@ -6,7 +6,7 @@ use Rattle.shim_base.specs.Paths.{Path, Channel}
 use Rattle.shim_base.proofs.Facts.{some_same, none_some, either_holds, first_holds, second_holds, or_false, and_false}
 use Rattle.shim_local.specs.Process.{Ops}
 use Rattle.shim_semantics.proofs.HowMany.{clash}
-use Rattle.shim_laws_table.specs.Seen.{place}
+use Rattle.shim_laws_table.specs.NodeStatus.{place}
 use Rattle.shim_laws_table.specs.Sources.{is_before}
 use Rattle.shim_laws_table.proofs.SameTrees.{same_or_not}
 use Rattle.shim_records.specs.Members.{IsAmong}

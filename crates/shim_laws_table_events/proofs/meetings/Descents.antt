@@ -12,15 +12,15 @@ use Rattle.shim_semantics.proofs.Replaced.{sound_at}
 use Rattle.shim_semantics.proofs.HowMany.{clash}
 use Rattle.shim_laws_schedules.specs.Waiting.{is_unshared, all_unshared}
 use Rattle.shim_laws_schedules.proofs.Homes.{Outside, unshared_is_unshared}
-use Rattle.shim_laws_table.specs.Seen.{ProcessStatus, lives, forks, ends, dies, seen, place, how_many_nodes}
+use Rattle.shim_laws_table.specs.NodeStatus.{ProcessStatus, lives, forks, ends, dies, seen, place, how_many_nodes}
 use Rattle.shim_laws_table.specs.Sources.{is_before}
 use Rattle.shim_laws_table.proofs.Aside.{at_split}
 use Rattle.shim_laws_table.proofs.SameTrees.{child_counted, seen_some, seen_fork}
 use Rattle.shim_laws_table.proofs.OneChange.{one_state}
-use Rattle.shim_laws_table.proofs.Way.{fork_above}
+use Rattle.shim_laws_table.proofs.PlacesAbove.{fork_above}
 use Rattle.shim_laws_table.proofs.MinLabels.{child_sound, shared_not_below}
 use Rattle.shim_records.specs.Members.{IsAmong}
-use Rattle.shim_records.specs.Pairs.{stands_of}
+use Rattle.shim_records.specs.Pairs.{record_view}
 use Rattle.shim_laws_table_events.specs.keeping.Tables.{TableView, HasProcessState, TableInvariant}
 use Rattle.shim_laws_table_events.specs.meetings.Sharers.{SharesFrom, Precedes, InOrder}
 use Rattle.shim_laws_table_events.specs.meetings.Descents.{children, numbers_of_length, Descends, at_end, passes, finds, DescentsFind}
@@ -146,8 +146,8 @@ module _ {S : Type 0} (o : Ops S) (c : Channel) where
 -- ---- what is found
 
 module _ {S : Type 0} (o : Ops S) (rp : Path) (v : TableView S) (c : Channel) (root : Node S) (kept : TableInvariant o rp v root) where
-  -- the record of a number stands in this place, and if its process doesn't share the channel nobody below does
-  pub record Stands (i : ℕ) (q : List ℕ) : Type 0 where
+  -- the record of a number is in this place, and if its process doesn't share the channel nobody below does
+  pub record IsPlaced (i : ℕ) (q : List ℕ) : Type 0 where
     pub first : ℕ
     pub state_is : S
     pub status : ProcessStatus
@@ -155,16 +155,16 @@ module _ {S : Type 0} (o : Ops S) (rp : Path) (v : TableView S) (c : Channel) (r
     pub is_there : place o rp state_is ≡ q
     pub outside : o.shares state_is c ≡ false → Outside c (o.path state_is)
 
-  abbrev pub AllStand : List ℕ → List (List ℕ) → Type 0
-  AllStand [] [] = Unit {0}
-  AllStand (i ∷ is) (q ∷ qs) = Stands i q × AllStand is qs
-  AllStand _ _ = ⊥
+  abbrev pub ArePlaced : List ℕ → List (List ℕ) → Type 0
+  ArePlaced [] [] = Unit {0}
+  ArePlaced (i ∷ is) (q ∷ qs) = IsPlaced i q × ArePlaced is qs
+  ArePlaced _ _ = ⊥
 
-  pub both_stand : (is js : List ℕ) (ps qs : List (List ℕ)) → AllStand is ps → AllStand js qs → AllStand (is ++ js) (ps ++ qs)
-  both_stand [] js [] qs f g = g
-  both_stand [] js (p ∷ ps) qs f g = absurd f
-  both_stand (i ∷ is) js [] qs f g = absurd f
-  both_stand (i ∷ is) js (p ∷ ps) qs f g = (f.0, both_stand is js ps qs f.1 g)
+  pub both_placed : (is js : List ℕ) (ps qs : List (List ℕ)) → ArePlaced is ps → ArePlaced js qs → ArePlaced (is ++ js) (ps ++ qs)
+  both_placed [] js [] qs f g = g
+  both_placed [] js (p ∷ ps) qs f g = absurd f
+  both_placed (i ∷ is) js [] qs f g = absurd f
+  both_placed (i ∷ is) js (p ∷ ps) qs f g = (f.0, both_placed is js ps qs f.1 g)
 
   abbrev From : List ℕ → ℕ → Type 0
   From q i = SharesFrom o rp v c q i
@@ -182,7 +182,7 @@ module _ {S : Type 0} (o : Ops S) (rp : Path) (v : TableView S) (c : Channel) (r
       let quiet = unshared_is_unshared o c n.0 sound (ap (λ z. o.shares z c) n.2 ∙ lacks) (λ r e. out r (e ∙ ap (λ z. o.path z ++ r) n.2)) in
       clash (o.shares from.state c) from.shares (ap (λ z. o.shares z c) (sym m.2) ∙ unshared_at o c from.further n.0 m.0 (sym (at_split (place o rp s) from.further root n.0 n.1) ∙ (ap (λ z. at z root) (sym from.is_there) ∙ m.1)) quiet)
 
-  -- the children of a process that shares it stand in their places
+  -- the children of a process that shares it are in their places
   module _ (i f : ℕ) (s : S) (k : ProcessStatus) (has : HasProcessState v i f s k) (shares : o.shares s c ≡ true) where
     abbrev its_place : List ℕ
     its_place = place o rp s
@@ -195,30 +195,30 @@ module _ {S : Type 0} (o : Ops S) (rp : Path) (v : TableView S) (c : Channel) (r
         let y = child_sound o s sound.number 0 b w.0 m.0 sound.children (sym (at_split its_place (b ∷ []) root (Forked s w.0) w.1) ∙ (ap (λ z. at z root) (sym is) ∙ m.1)) in
         shared_not_below o root its_place (Forked s w.0) c kept.represents.sound w.1 shares (sound.number, y.1) r (e ∙ (ap (λ z. o.path z ++ r) (sym m.2) ∙ y.2 r))
 
-    fork_children : (n b m : ℕ) → HasProcessState v i f s (forks n) → b + m ≡ n → AllStand (numbers_of_length (f + b) m) (places_from its_place b m)
+    fork_children : (n b m : ℕ) → HasProcessState v i f s (forks n) → b + m ≡ n → ArePlaced (numbers_of_length (f + b) m) (places_from its_place b m)
     fork_children n b zero fork e = tt
     fork_children n b (suc m) fork e =
         let z = kept.represents.agrees.below i f n s fork b (omega (arith, e)) in (
           record { first = z.0; state_is = z.1; status = z.2; has = z.3; is_there = z.4; outside = λ lacks. child_outside n b z.0 z.1 z.2 fork z.3 z.4 },
-          subst (λ y. AllStand (numbers_of_length y m) (places_from its_place (suc b) m)) (next f b) (fork_children n (suc b) m fork (omega (arith, e))),
+          subst (λ y. ArePlaced (numbers_of_length y m) (places_from its_place (suc b) m)) (next f b) (fork_children n (suc b) m fork (omega (arith, e))),
         )
       where
         next : (f b : ℕ) → f + suc b ≡ suc (f + b)
         next f b = omega arith
 
-    children_stand : AllStand (numbers_of_length f (children k)) (places_from its_place 0 (children k))
-    children_stand = on k has
+    children_placed : ArePlaced (numbers_of_length f (children k)) (places_from its_place 0 (children k))
+    children_placed = on k has
       where
         start : (f : ℕ) → f + 0 ≡ f
         start f = omega arith
 
-        on : (k : ProcessStatus) → HasProcessState v i f s k → AllStand (numbers_of_length f (children k)) (places_from its_place 0 (children k))
+        on : (k : ProcessStatus) → HasProcessState v i f s k → ArePlaced (numbers_of_length f (children k)) (places_from its_place 0 (children k))
         on lives h = tt
-        on (forks n) h = subst (λ y. AllStand (numbers_of_length y n) (places_from its_place 0 n)) (start f) (fork_children n 0 n h (zero_and n))
+        on (forks n) h = subst (λ y. ArePlaced (numbers_of_length y n) (places_from its_place 0 n)) (start f) (fork_children n 0 n h (zero_and n))
         on ends h = tt
         on (dies d) h = tt
 
-    -- who stands below it stands at or below a child
+    -- who is below it is at or below a child
     below_child : (j : ℕ) (b : ℕ) (r : List ℕ) (g : ℕ) (t : S) (h : ProcessStatus) → HasProcessState v j g t h → place o rp t ≡ its_place ++ b ∷ r → IsAmong (its_place ++ b ∷ []) (places_from its_place 0 (children k))
     below_child j b r g t h there is =
         let m = node_at j g t h there in
@@ -226,18 +226,18 @@ module _ {S : Type 0} (o : Ops S) (rp : Path) (v : TableView S) (c : Channel) (r
         let see : (w.state, forks (how_many_nodes w.children)) ≡ (s, k) = some_same _ _ (sym (ap seen w.there) ∙ kept.represents.agrees.shown i f s k has) in
         subst (λ z. IsAmong (its_place ++ b ∷ []) (places_from its_place 0 (children z))) (ap (λ z. z.1) see) (each_child its_place (how_many_nodes w.children) b (child_counted b r w.children m.0 w.child))
 
-  -- what is found stands at or below one of the places
-  found_there : {ahead found : List ℕ} → Descends o v c ahead found → (qs : List (List ℕ)) → AllStand ahead qs → (j : ℕ) → IsAmong j found → (q : List ℕ) × IsAmong q qs × From q j
-  found_there at_end qs stand j g = none_among j g
-  found_there (passes i ahead found none more) [] stand j g = absurd stand
-  found_there (passes i ahead found none more) (q ∷ qs) stand j g = let w = found_there more qs stand.1 j g in (w.0, among_later w.0 q qs w.1, w.2)
-  found_there (finds i f s k ahead found has shares more) [] stand j g = absurd stand
-  found_there (finds i f s k ahead found has shares more) (q ∷ qs) stand j g =
-      let same : s ≡ stand.0.state_is = one_state v.states (map stands_of v.records) i f stand.0.first s stand.0.state_is k stand.0.status has stand.0.has in
-      let here : place o rp s ≡ q = ap (place o rp) same ∙ stand.0.is_there in
+  -- what is found is at or below one of the places
+  found_there : {ahead found : List ℕ} → Descends o v c ahead found → (qs : List (List ℕ)) → ArePlaced ahead qs → (j : ℕ) → IsAmong j found → (q : List ℕ) × IsAmong q qs × From q j
+  found_there at_end qs placed j g = none_among j g
+  found_there (passes i ahead found none more) [] placed j g = absurd placed
+  found_there (passes i ahead found none more) (q ∷ qs) placed j g = let w = found_there more qs placed.1 j g in (w.0, among_later w.0 q qs w.1, w.2)
+  found_there (finds i f s k ahead found has shares more) [] placed j g = absurd placed
+  found_there (finds i f s k ahead found has shares more) (q ∷ qs) placed j g =
+      let same : s ≡ placed.0.state_is = one_state v.states (map record_view v.records) i f placed.0.first s placed.0.state_is k placed.0.status has placed.0.has in
+      let here : place o rp s ≡ q = ap (place o rp) same ∙ placed.0.is_there in
       elim (among_split j i found g) [
         | inl e ↦ (q, (0, refl), subst (From q) e (record { first = f; state = s; status = k; has = has; shares = shares; further = []; is_there = here ∙ sym (append-nil q) }))
-        | inr h ↦ let w = found_there more (places_from (place o rp s) 0 (children k) ++ qs) (both_stand (numbers_of_length f (children k)) ahead (places_from (place o rp s) 0 (children k)) qs (children_stand i f s k has shares) stand.1) j h in
+        | inr h ↦ let w = found_there more (places_from (place o rp s) 0 (children k) ++ qs) (both_placed (numbers_of_length f (children k)) ahead (places_from (place o rp s) 0 (children k)) qs (children_placed i f s k has shares) placed.1) j h in
             elim (among_parts w.0 (places_from (place o rp s) 0 (children k)) qs w.1) [
               | inl u ↦
                   let b = any_child (place o rp s) w.0 (children k) u in (
@@ -257,30 +257,30 @@ module _ {S : Type 0} (o : Ops S) (rp : Path) (v : TableView S) (c : Channel) (r
             ]
       ]
 
-  -- and who stands there and shares the channel is found
-  all_found : {ahead found : List ℕ} → Descends o v c ahead found → (qs : List (List ℕ)) → AllStand ahead qs → (q : List ℕ) → IsAmong q qs → (j : ℕ) → From q j → IsAmong j found
-  all_found at_end [] stand q g j from = none_among q g
-  all_found at_end (p ∷ qs) stand q g j from = absurd stand
-  all_found (passes i ahead found none more) [] stand q g j from = absurd stand
-  all_found (passes i ahead found none more) (p ∷ qs) stand q g j from = elim (among_split q p qs g) [
+  -- and who is there and shares the channel is found
+  all_found : {ahead found : List ℕ} → Descends o v c ahead found → (qs : List (List ℕ)) → ArePlaced ahead qs → (q : List ℕ) → IsAmong q qs → (j : ℕ) → From q j → IsAmong j found
+  all_found at_end [] placed q g j from = none_among q g
+  all_found at_end (p ∷ qs) placed q g j from = absurd placed
+  all_found (passes i ahead found none more) [] placed q g j from = absurd placed
+  all_found (passes i ahead found none more) (p ∷ qs) placed q g j from = elim (among_split q p qs g) [
     | inl e ↦
-        let x = stand.0 in
+        let x = placed.0 in
         let lacks = none x.first x.state_is x.status x.has in
         absurd (none_below i x.first x.state_is x.status j x.has lacks (x.outside lacks) (subst (λ z. From z j) (sym e ∙ sym x.is_there) from))
-    | inr h ↦ all_found more qs stand.1 q h j from
+    | inr h ↦ all_found more qs placed.1 q h j from
   ]
-  all_found (finds i f s k ahead found has shares more) [] stand q g j from = absurd stand
-  all_found (finds i f s k ahead found has shares more) (p ∷ qs) stand q g j from =
-      let same : s ≡ stand.0.state_is = one_state v.states (map stands_of v.records) i f stand.0.first s stand.0.state_is k stand.0.status has stand.0.has in
-      let here : place o rp s ≡ p = ap (place o rp) same ∙ stand.0.is_there in
+  all_found (finds i f s k ahead found has shares more) [] placed q g j from = absurd placed
+  all_found (finds i f s k ahead found has shares more) (p ∷ qs) placed q g j from =
+      let same : s ≡ placed.0.state_is = one_state v.states (map record_view v.records) i f placed.0.first s placed.0.state_is k placed.0.status has placed.0.has in
+      let here : place o rp s ≡ p = ap (place o rp) same ∙ placed.0.is_there in
       let places = places_from (place o rp s) 0 (children k) in
-      let next = both_stand (numbers_of_length f (children k)) ahead places qs (children_stand i f s k has shares) stand.1 in
+      let next = both_placed (numbers_of_length f (children k)) ahead places qs (children_placed i f s k has shares) placed.1 in
       elim (among_split q p qs g) [
         | inl e ↦ on (all_found more) next from.further (from.is_there ∙ ap (λ z. z ++ from.further) (sym e ∙ sym here))
         | inr h ↦ among_later j i found (all_found more (places ++ qs) next q (among_right q places qs h) j from)
       ]
     where
-      on : ((ps : List (List ℕ)) → AllStand (numbers_of_length f (children k) ++ ahead) ps → (y : List ℕ) → IsAmong y ps → (j : ℕ) → From y j → IsAmong j found) → AllStand (numbers_of_length f (children k) ++ ahead) (places_from (place o rp s) 0 (children k) ++ qs) → (r : List ℕ) → place o rp from.state ≡ place o rp s ++ r → IsAmong j (i ∷ found)
+      on : ((ps : List (List ℕ)) → ArePlaced (numbers_of_length f (children k) ++ ahead) ps → (y : List ℕ) → IsAmong y ps → (j : ℕ) → From y j → IsAmong j found) → ArePlaced (numbers_of_length f (children k) ++ ahead) (places_from (place o rp s) 0 (children k) ++ qs) → (r : List ℕ) → place o rp from.state ≡ place o rp s ++ r → IsAmong j (i ∷ found)
       on ih next [] is = (0, ap Some (kept.represents.agrees.apart i j f from.first s from.state k from.status has from.has (sym (is ∙ append-nil (place o rp s)))))
       on ih next (b ∷ r) is =
           let child = below_child i f s k has shares j b r from.first from.state from.status from.has is in
@@ -288,21 +288,21 @@ module _ {S : Type 0} (o : Ops S) (rp : Path) (v : TableView S) (c : Channel) (r
           (record { first = from.first; state = from.state; status = from.status; has = from.has; shares = from.shares; further = r; is_there = is ∙ sym (append_assoc (place o rp s) (b ∷ []) r) }))
 
   -- in order, where the places are
-  found_in_order : {ahead found : List ℕ} → Descends o v c ahead found → (qs : List (List ℕ)) → AllStand ahead qs → InOrder LeftOf qs → InOrder (Precedes o rp v) found
-  found_in_order at_end qs stand left = tt
-  found_in_order (passes i ahead found none more) [] stand left = absurd stand
-  found_in_order (passes i ahead found none more) (q ∷ qs) stand left = found_in_order more qs stand.1 left.1
-  found_in_order (finds i f s k ahead found has shares more) [] stand left = absurd stand
-  found_in_order (finds i f s k ahead found has shares more) (q ∷ qs) stand left =
-      let same : s ≡ stand.0.state_is = one_state v.states (map stands_of v.records) i f stand.0.first s stand.0.state_is k stand.0.status has stand.0.has in
-      let here : place o rp s ≡ q = ap (place o rp) same ∙ stand.0.is_there in
+  found_in_order : {ahead found : List ℕ} → Descends o v c ahead found → (qs : List (List ℕ)) → ArePlaced ahead qs → InOrder LeftOf qs → InOrder (Precedes o rp v) found
+  found_in_order at_end qs placed left = tt
+  found_in_order (passes i ahead found none more) [] placed left = absurd placed
+  found_in_order (passes i ahead found none more) (q ∷ qs) placed left = found_in_order more qs placed.1 left.1
+  found_in_order (finds i f s k ahead found has shares more) [] placed left = absurd placed
+  found_in_order (finds i f s k ahead found has shares more) (q ∷ qs) placed left =
+      let same : s ≡ placed.0.state_is = one_state v.states (map record_view v.records) i f placed.0.first s placed.0.state_is k placed.0.status has placed.0.has in
+      let here : place o rp s ≡ q = ap (place o rp) same ∙ placed.0.is_there in
       let places = places_from (place o rp s) 0 (children k) in
-      let next = both_stand (numbers_of_length f (children k)) ahead places qs (children_stand i f s k has shares) stand.1 in
+      let next = both_placed (numbers_of_length f (children k)) ahead places qs (children_placed i f s k has shares) placed.1 in
       let left' : (p : List ℕ) → IsAmong p qs → LeftOf (place o rp s) p = λ p g. subst (λ z. LeftOf z p) (sym here) (left.0 p g) in (
         (λ j g x y t u a b mine its.
             let w = found_there more (places ++ qs) next j g in
-            let is_s : t ≡ s = one_state v.states (map stands_of v.records) i x f t s a k mine has in
-            let is_its : u ≡ w.2.state = one_state v.states (map stands_of v.records) j y w.2.first u w.2.state b w.2.status its w.2.has in
+            let is_s : t ≡ s = one_state v.states (map record_view v.records) i x f t s a k mine has in
+            let is_its : u ≡ w.2.state = one_state v.states (map record_view v.records) j y w.2.first u w.2.state b w.2.status its w.2.has in
             (λ z. is_before (place o rp (is_s z)) (place o rp (is_its z)))
             ∙ elim (among_parts w.0 places qs w.1) [
               | inl h ↦
@@ -319,12 +319,12 @@ module _ {S : Type 0} (o : Ops S) (rp : Path) (v : TableView S) (c : Channel) (r
 pub descents_find : {S : Type 0} (o : Ops S) → DescentsFind o
 descents_find o v c i found descends rp root f s k kept has shares =
     let q = place o rp s in
-    let stand : AllStand o rp v c root kept (i ∷ []) (q ∷ []) = (
+    let placed : ArePlaced o rp v c root kept (i ∷ []) (q ∷ []) = (
       record { first = f; state_is = s; status = k; has = has; is_there = refl; outside = λ lacks. clash (o.shares s c) shares lacks },
       tt,
     ) in
     record {
-      only = λ j g. let w = found_there o rp v c root kept descends (q ∷ []) stand j g in elim (among_split w.0 q [] w.1) [ inl e ↦ subst (λ z. SharesFrom o rp v c z j) (sym e) w.2 | inr h ↦ none_among w.0 h ];
-      all = λ j from. all_found o rp v c root kept descends (q ∷ []) stand q (0, refl) j from;
-      ordered = found_in_order o rp v c root kept descends (q ∷ []) stand ((λ p g. none_among p g), tt);
+      only = λ j g. let w = found_there o rp v c root kept descends (q ∷ []) placed j g in elim (among_split w.0 q [] w.1) [ inl e ↦ subst (λ z. SharesFrom o rp v c z j) (sym e) w.2 | inr h ↦ none_among w.0 h ];
+      all = λ j from. all_found o rp v c root kept descends (q ∷ []) placed q (0, refl) j from;
+      ordered = found_in_order o rp v c root kept descends (q ∷ []) placed ((λ p g. none_among p g), tt);
     }

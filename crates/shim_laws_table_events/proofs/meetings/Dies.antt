@@ -14,7 +14,7 @@ use Rattle.shim_semantics.specs.Sound.{carriers}
 use Rattle.shim_semantics.proofs.HowMany.{clash, no_less}
 use Rattle.shim_semantics.proofs.ReplacedNodes.{put}
 use Rattle.shim_laws_schedules.proofs.Unshared.{stands_elsewhere}
-use Rattle.shim_laws_table.specs.Seen.{lives, forks, dies, place}
+use Rattle.shim_laws_table.specs.NodeStatus.{lives, forks, dies, place}
 use Rattle.shim_laws_table.specs.Agrees.{used, Has, Represents}
 use Rattle.shim_laws_table.specs.Places.{IsReplaced}
 use Rattle.shim_laws_table.specs.Changes.{HasChanged}
@@ -27,8 +27,8 @@ use Rattle.shim_laws_table.proofs.SameTrees.{seen_live, seen_fork, put_replaces,
 use Rattle.shim_laws_table.proofs.Singles.{single_changes_are_represented}
 use Rattle.shim_laws_table.proofs.LabelsLowering.{labels_lowered}
 use Rattle.shim_laws_table.proofs.Hanging.{ends_of, given_place, tied, counts_share, none_above}
-use Rattle.shim_laws_table.proofs.Way.{above_its_own}
-use Rattle.shim_records.specs.Pairs.{stands_of, up_at, up_in, counts_at, counts_in, min_label_at, min_labels_in, known_at, known_in, rest_of, chans_of, IsOrdered, AreOrdered, stands_by}
+use Rattle.shim_laws_table.proofs.PlacesAbove.{above_its_own}
+use Rattle.shim_records.specs.Pairs.{record_view, up_at, up_in, counts_at, counts_in, min_label_at, min_labels_in, known_at, known_in, rest_of, chans_of, IsOrdered, AreOrdered, status_view}
 use Rattle.shim_records.specs.Killed.{living, as_dead}
 use Rattle.shim_records.specs.CountingOff.{HasCountedOff, alone, lost, below}
 use Rattle.shim_records.specs.UpdatesAbove.{AllUpdatedAbove, none_left, one_more}
@@ -37,14 +37,14 @@ use Rattle.shim_records.specs.declared.record.Status.{Status as Stood}
 use Rattle.shim_records.specs.declared.record.Status.TheVariants as code
 use Rattle.shim_records.proofs.Representing.{map_get}
 use Rattle.shim_records.proofs.Stepping.{set_there, set_elsewhere}
-use Rattle.shim_records.proofs.ReadOff.{same_stands}
+use Rattle.shim_records.proofs.ReadOff.{same_views}
 use Rattle.shim_records.proofs.FullPropagation.{rest_ups, kept_order}
 use Rattle.shim_records.proofs.SharingFound.{rest_known}
 use Rattle.shim_records.proofs.ManyPropagations as ways
 use Rattle.shim_records.proofs.AllLowered as labels_above
 use Rattle.shim_laws_table_events.specs.keeping.Tables.{IsRight, TableInvariant}
 use Rattle.shim_laws_table_events.proofs.keeping.Moved.{from_map, set_length}
-use Rattle.shim_laws_table_events.proofs.keeping.OneLess.{less_going, at_set, left_known, left_counts, left_labels, left_ups, left_stands}
+use Rattle.shim_laws_table_events.proofs.keeping.OneLess.{less_going, at_set, left_known, left_counts, left_labels, left_ups, left_views}
 use Rattle.shim_laws_table_events.specs.meetings.Dying.{dead_record, DiesAt}
 use Rattle.shim_laws_table_events.specs.meetings.Laws.{DeathPreserves}
 use Rattle.shim_laws_table_events.proofs.meetings.Lists.{map_slice_set, same_length, SamePaths, rest_paths, set_paths, both_paths, going_at, rest_going}
@@ -59,7 +59,7 @@ set_order rs x r q e same ordered i p h = elim (same_or_not i x) [
 ]
 
 -- the number of the first child of a live one
-live_first : (g : ℕ) (s : Stood) (f : ℕ) → stands_by g s ≡ used f lives → g ≡ f
+live_first : (g : ℕ) (s : Stood) (f : ℕ) → status_view g s ≡ used f lives → g ≡ f
 live_first g code.Free f e = absurd (let z : ⊥ = cc in z)
 live_first g code.Live f e = cc
 live_first g (code.Forked n) f e = absurd (let z : ⊥ = cc in z)
@@ -101,9 +101,9 @@ module _ (x : ℕ) (before behind : List Record) where
     (λ far. ap going_at (sym h ∙ (ap (λ z. slice_get z i) is ∙ set_elsewhere before j i (less_going q) (λ w. far (e ∙ ap Some (sym w)))))),
   )
 
-module _ {S : Type 0} (o : Ops S) (states : List S) (rs behind : List Record) (x f label : ℕ) (l : S) (has : Has states (map stands_of rs) x f l lives) (is_killed : DiesAt o l label 4294967295 x rs behind) where
+module _ {S : Type 0} (o : Ops S) (states : List S) (rs behind : List Record) (x f label : ℕ) (l : S) (has : Has states (map record_view rs) x f l lives) (is_killed : DiesAt o l label 4294967295 x rs behind) where
   abbrev dead : List Record
-  dead = slice_set rs x (dead_record is_killed.stood label)
+  dead = slice_set rs x (dead_record is_killed.old_record label)
 
   -- ---- the records, beside counts and labels
 
@@ -116,15 +116,15 @@ module _ {S : Type 0} (o : Ops S) (states : List S) (rs behind : List Record) (x
   between : map rest_of is_killed.labelled ≡ map rest_of dead
   between = labelled_rest ∙ counted_rest
 
-  first_is : is_killed.stood.first ≡ f
-  first_is = let r = from_map stands_of (slice_get rs x) (used f lives) (sym (map_get stands_of rs x) ∙ has.stands_so) in
-      live_first is_killed.stood.first is_killed.stood.status f (ap stands_of (some_same is_killed.stood r.0 (sym is_killed.there ∙ r.1)) ∙ r.2)
+  first_is : is_killed.old_record.first ≡ f
+  first_is = let r = from_map record_view (slice_get rs x) (used f lives) (sym (map_get record_view rs x) ∙ has.view_is) in
+      live_first is_killed.old_record.first is_killed.old_record.status f (ap record_view (some_same is_killed.old_record r.0 (sym is_killed.there ∙ r.1)) ∙ r.2)
 
-  its_standing : stands_of (dead_record is_killed.stood label) ≡ used f (dies (death label))
-  its_standing = ap (λ z. used z (dies (death label))) first_is
+  its_view : record_view (dead_record is_killed.old_record label) ≡ used f (dies (death label))
+  its_view = ap (λ z. used z (dies (death label))) first_is
 
-  pub stands_now : map stands_of behind ≡ slice_set (map stands_of rs) x (used f (dies (death label)))
-  stands_now = left_stands x is_killed.labelled behind is_killed.left ∙ (same_stands dead is_killed.labelled between ∙ (map_slice_set stands_of rs x (dead_record is_killed.stood label) ∙ ap (slice_set (map stands_of rs) x) its_standing))
+  pub views_now : map record_view behind ≡ slice_set (map record_view rs) x (used f (dies (death label)))
+  views_now = left_views x is_killed.labelled behind is_killed.left ∙ (same_views dead is_killed.labelled between ∙ (map_slice_set record_view rs x (dead_record is_killed.old_record label) ∙ ap (slice_set (map record_view rs) x) its_view))
 
   module _ (law : LocalLaws o) (rp : Path) (root : Node S) (kept : TableInvariant o rp (record { states = states; records = rs }) root) (less : label < o.base l) where
     abbrev a : Node S
@@ -143,45 +143,45 @@ module _ {S : Type 0} (o : Ops S) (states : List S) (rs behind : List Record) (x
     sound = sound_at o (place o rp l) root (Live l) kept.represents.sound.below there
 
     ups_labelled : up_in is_killed.labelled ≡ up_in rs
-    ups_labelled = rest_ups dead is_killed.labelled between ∙ (λ t i. at_set up_at rs x is_killed.stood (dead_record is_killed.stood label) is_killed.there refl i t)
+    ups_labelled = rest_ups dead is_killed.labelled between ∙ (λ t i. at_set up_at rs x is_killed.old_record (dead_record is_killed.old_record label) is_killed.there refl i t)
 
     ups : up_in behind ≡ up_in rs
     ups = left_ups x is_killed.labelled behind is_killed.left ∙ ups_labelled
 
     paths : SamePaths rs behind
-    paths = both_paths rs is_killed.labelled behind (both_paths rs dead is_killed.labelled (set_paths rs x is_killed.stood (dead_record is_killed.stood label) is_killed.there refl) (rest_paths dead is_killed.labelled between)) (left_paths x is_killed.labelled behind is_killed.left)
+    paths = both_paths rs is_killed.labelled behind (both_paths rs dead is_killed.labelled (set_paths rs x is_killed.old_record (dead_record is_killed.old_record label) is_killed.there refl) (rest_paths dead is_killed.labelled between)) (left_paths x is_killed.labelled behind is_killed.left)
 
     ordered : AreOrdered behind
-    ordered = left_order x is_killed.labelled behind is_killed.left (kept_order dead is_killed.labelled between (set_order rs x is_killed.stood (dead_record is_killed.stood label) is_killed.there refl kept.ordered))
+    ordered = left_order x is_killed.labelled behind is_killed.left (kept_order dead is_killed.labelled between (set_order rs x is_killed.old_record (dead_record is_killed.old_record label) is_killed.there refl kept.ordered))
 
     known_same : (c : Channel) (j : ℕ) → known_in c behind j ≡ known_in c rs j
     known_same c j =
         left_known x is_killed.labelled behind c is_killed.left j
-        ∙ (rest_known dead is_killed.labelled between c j ∙ at_set (known_at c) rs x is_killed.stood (dead_record is_killed.stood label) is_killed.there refl j)
+        ∙ (rest_known dead is_killed.labelled between c j ∙ at_set (known_at c) rs x is_killed.old_record (dead_record is_killed.old_record label) is_killed.there refl j)
 
     as_long : length states ≡ length behind
-    as_long = kept.beside ∙ (sym (set_length rs x (dead_record is_killed.stood label)) ∙ (same_length dead is_killed.labelled between ∙ sym (left_length x is_killed.labelled behind is_killed.left)))
+    as_long = kept.beside ∙ (sym (set_length rs x (dead_record is_killed.old_record label)) ∙ (same_length dead is_killed.labelled between ∙ sym (left_length x is_killed.labelled behind is_killed.left)))
 
     -- ---- the tree
 
-    mine : Has states (map stands_of behind) x f l (dies (death label))
-    mine = record { state_is = has.state_is; stands_so = ap (λ z. slice_get z x) stands_now ∙ set_there (map stands_of rs) x (used f lives) (used f (dies (death label))) has.stands_so }
+    mine : Has states (map record_view behind) x f l (dies (death label))
+    mine = record { state_is = has.state_is; view_is = ap (λ z. slice_get z x) views_now ∙ set_there (map record_view rs) x (used f lives) (used f (dies (death label))) has.view_is }
 
-    stands_elsewhere_so : (j : ℕ) → j ≢ x → slice_get (map stands_of behind) j ≡ slice_get (map stands_of rs) j
-    stands_elsewhere_so j n = ap (λ z. slice_get z j) stands_now ∙ set_elsewhere (map stands_of rs) x j (used f (dies (death label))) n
+    other_views : (j : ℕ) → j ≢ x → slice_get (map record_view behind) j ≡ slice_get (map record_view rs) j
+    other_views j n = ap (λ z. slice_get z j) views_now ∙ set_elsewhere (map record_view rs) x j (used f (dies (death label))) n
 
-    changed : HasChanged states states (map stands_of rs) (map stands_of behind) x l (dies (death label))
+    changed : HasChanged states states (map record_view rs) (map record_view behind) x l (dies (death label))
     changed = record {
       first = f;
       mine = mine;
-      others = λ j g t k n h. record { state_is = h.state_is; stands_so = stands_elsewhere_so j n ∙ h.stands_so };
-      only = λ j g t k n h. record { state_is = h.state_is; stands_so = sym (stands_elsewhere_so j n) ∙ h.stands_so };
+      others = λ j g t k n h. record { state_is = h.state_is; view_is = other_views j n ∙ h.view_is };
+      only = λ j g t k n h. record { state_is = h.state_is; view_is = sym (other_views j n) ∙ h.view_is };
     }
 
-    shown : Represents o rp states (map stands_of behind) new
-    shown = (single_changes_are_represented o law).died rp states states (map stands_of rs) (map stands_of behind) root new x f l (death label) kept.represents has less rep changed
+    shown : Represents o rp states (map record_view behind) new
+    shown = (single_changes_are_represented o law).died rp states states (map record_view rs) (map record_view behind) root new x f l (death label) kept.represents has less rep changed
 
-    links : AreLinked states (map stands_of behind) (up_in behind)
+    links : AreLinked states (map record_view behind) (up_in behind)
     links = linked o law rp states states rs behind root new l a x f kept has changed refl refl refl rep shown ups
 
     -- a channel that it shares and wasn't given is one of its own
@@ -202,13 +202,13 @@ module _ {S : Type 0} (o : Ops S) (states : List S) (rs behind : List Record) (x
       B counts = Both o law rp states states rs behind root new l a x f kept has changed refl refl refl rep shown ups c counts
 
       counts_dead : counts_in c dead ≡ counts_in c rs
-      counts_dead = λ t i. at_set (counts_at c) rs x is_killed.stood (dead_record is_killed.stood label) is_killed.there refl i t
+      counts_dead = λ t i. at_set (counts_at c) rs x is_killed.old_record (dead_record is_killed.old_record label) is_killed.there refl i t
 
       labels_dead : min_labels_in c dead ≡ min_labels_in c rs
-      labels_dead = λ t i. at_set (min_label_at c) rs x is_killed.stood (dead_record is_killed.stood label) is_killed.there refl i t
+      labels_dead = λ t i. at_set (min_label_at c) rs x is_killed.old_record (dead_record is_killed.old_record label) is_killed.there refl i t
 
       ups_dead : up_in dead ≡ up_in behind
-      ups_dead = (λ t i. at_set up_at rs x is_killed.stood (dead_record is_killed.stood label) is_killed.there refl i t) ∙ sym ups
+      ups_dead = (λ t i. at_set up_at rs x is_killed.old_record (dead_record is_killed.old_record label) is_killed.there refl i t) ∙ sym ups
 
       counts_behind : counts_in c behind ≡ counts_in c is_killed.counted
       counts_behind = left_counts x is_killed.labelled behind c is_killed.left ∙ (λ t i. labels_above.counts_same label 4294967295 x c i is_killed.taken.is_lowered t)
@@ -249,16 +249,16 @@ module _ {S : Type 0} (o : Ops S) (states : List S) (rs behind : List Record) (x
       abbrev P : List ℕ
       P = place o rp l
 
-      -- for which numbers there are counts is told by the tree alone
-      labels_way : LabelsOnTheWay o rp states (map stands_of behind) c (counts_in c is_killed.counted) (min_labels_in c rs) root new P
+      -- for which numbers there are counts follows from the tree alone
+      labels_way : LabelsOnTheWay o rp states (map record_view behind) c (counts_in c is_killed.counted) (min_labels_in c rs) root new P
       labels_way i g n s k ks fork some at_it =
           let w = seen_fork (at (place o rp s) new) s n (shown.agrees.shown i g s (forks n) fork) in
           labels_begun o law rp states states rs behind root new l a x f kept has changed refl refl refl rep shown ups c i g n s k ks fork
           ((have_begun o law rp states states rs behind root new l a x f kept has changed refl refl refl rep shown ups c i g n s s w.0 fork w.1).1 ((counted_now.1 i g n s s w.0 fork w.1).0 some)) at_it
 
-      lowers_to : o.shares l c ≡ true → (labels : ℕ → Option ℕ) → LoweredAbove (up_in behind) (counts_in c is_killed.counted) (min_dead_label o c a) 4294967295 (min_labels_in c rs) x labels → Labelled o rp states (map stands_of behind) c (counts_in c is_killed.counted) labels new
+      lowers_to : o.shares l c ≡ true → (labels : ℕ → Option ℕ) → LoweredAbove (up_in behind) (counts_in c is_killed.counted) (min_dead_label o c a) 4294967295 (min_labels_in c rs) x labels → Labelled o rp states (map record_view behind) c (counts_in c is_killed.counted) labels new
       lowers_to shares labels is_lowered =
-          labels_lowered o law rp states (map stands_of behind) (up_in behind) c root new (Live l) a 4294967295 x f l (dies (death label)) (counts_in c is_killed.counted) (min_labels_in c rs) labels shown links mine rep refl shares counted_now.1
+          labels_lowered o law rp states (map record_view behind) (up_in behind) c root new (Live l) a 4294967295 x f l (dies (death label)) (counts_in c is_killed.counted) (min_labels_in c rs) labels shown links mine rep refl shares counted_now.1
           (near o law rp states states rs behind root new l a x f kept has changed refl refl refl rep shown ups) labels_way is_lowered
 
       its_label : o.shares l c ≡ true → min_dead_label o c a ≡ Some label
@@ -271,16 +271,16 @@ module _ {S : Type 0} (o : Ops S) (states : List S) (rs behind : List Record) (x
           no_counts : (j : ℕ) → up_in behind x ≡ Some j → (y : Option Tally) → counts_in c is_killed.counted j ≡ y → counts_in c is_killed.counted j ≡ None
           no_counts j e None is = is
           no_counts j e (Some y) is =
-              let w = tied o rp states (map stands_of behind) new shown (up_in behind) links x f j l (dies (death label)) mine e in
+              let w = tied o rp states (map record_view behind) new shown (up_in behind) links x f j l (dies (death label)) mine e in
               let b = w.0 in
-              absurd (none_above o rp states (map stands_of behind) new shown c x f b.number b.first b.many l b.parent (dies (death label)) [] mine (home ∙ sym (append-nil (o.path l))) b.has (ap (is_above (place o rp b.parent)) b.is ∙ above_its_own (place o rp b.parent) b.branch)
-              (counts_share o rp states (map stands_of behind) new shown c (counts_in c is_killed.counted) counted_now.1 b.number b.first b.many b.parent y b.has (ap (counts_in c is_killed.counted) w.1 ∙ is)))
+              absurd (none_above o rp states (map record_view behind) new shown c x f b.number b.first b.many l b.parent (dies (death label)) [] mine (home ∙ sym (append-nil (o.path l))) b.has (ap (is_above (place o rp b.parent)) b.is ∙ above_its_own (place o rp b.parent) b.branch)
+              (counts_share o rp states (map record_view behind) new shown c (counts_in c is_killed.counted) counted_now.1 b.number b.first b.many b.parent y b.has (ap (counts_in c is_killed.counted) w.1 ∙ is)))
 
           on : (y : Option ℕ) → up_in behind x ≡ y → LoweredAbove (up_in behind) (counts_in c is_killed.counted) (min_dead_label o c a) 4294967295 (min_labels_in c rs) x (min_labels_in c rs)
           on None e = at_the_root 4294967295 (min_labels_in c rs) x e
           on (Some j) e = uncounted 4294967295 (min_labels_in c rs) x j e (no_counts j e (counts_in c is_killed.counted j) refl)
 
-      labelled_now : Labelled o rp states (map stands_of behind) c (counts_in c is_killed.counted) (min_labels_in c is_killed.labelled) new
+      labelled_now : Labelled o rp states (map record_view behind) c (counts_in c is_killed.counted) (min_labels_in c is_killed.labelled) new
       labelled_now = elim (ways.among_or_not c is_killed.taken.chans) [
         | inl g ↦ let shares = is_killed.taken.shared c g in
             lowers_to shares (min_labels_in c is_killed.labelled)
@@ -288,7 +288,7 @@ module _ {S : Type 0} (o : Ops S) (states : List S) (rs behind : List Record) (x
             (subst (λ z. LoweredAbove (up_in behind) (counts_in c is_killed.counted) (Some label) 4294967295 z x (min_labels_in c is_killed.labelled)) labels_counted
             (subst (λ z. LoweredAbove z (counts_in c is_killed.counted) (Some label) 4294967295 (min_labels_in c is_killed.counted) x (min_labels_in c is_killed.labelled)) (rest_ups dead is_killed.counted counted_rest ∙ ups_dead)
             (labels_above.its_way label 4294967295 x c is_killed.taken.is_lowered g).way)))
-        | inr out ↦ subst (λ z. Labelled o rp states (map stands_of behind) c (counts_in c is_killed.counted) z new) (sym (labels_above.others label 4294967295 x c is_killed.taken.is_lowered out ∙ labels_counted)) (elim (true_or_false (o.shares l c)) [
+        | inr out ↦ subst (λ z. Labelled o rp states (map record_view behind) c (counts_in c is_killed.counted) z new) (sym (labels_above.others label 4294967295 x c is_killed.taken.is_lowered out ∙ labels_counted)) (elim (true_or_false (o.shares l c)) [
           | inl shares ↦ elim (own_or_given c shares) [
             | inl home ↦ lowers_to shares (min_labels_in c rs) (own_lowered home)
             | inr given ↦ absurd (out (is_killed.taken.all c given shares))
@@ -299,16 +299,16 @@ module _ {S : Type 0} (o : Ops S) (states : List S) (rs behind : List Record) (x
 
       right : IsRight o rp (record { states = states; records = behind }) new c
       right = record {
-        there = subst (λ z. HaveCounts o rp states (map stands_of behind) c z new) (sym counts_behind) counted_now.1;
+        there = subst (λ z. HaveCounts o rp states (map record_view behind) c z new) (sym counts_behind) counted_now.1;
         counts = (subst B (sym counts_behind) counted_now).0;
-        labels = subst (λ z. Labelled o rp states (map stands_of behind) c z (min_labels_in c behind) new) (sym counts_behind)
-            (subst (λ z. Labelled o rp states (map stands_of behind) c (counts_in c is_killed.counted) z new) (sym labels_behind) labelled_now);
+        labels = subst (λ z. Labelled o rp states (map record_view behind) c z (min_labels_in c behind) new) (sym counts_behind)
+            (subst (λ z. Labelled o rp states (map record_view behind) c (counts_in c is_killed.counted) z new) (sym labels_behind) labelled_now);
       }
 
     -- ---- how many go on
 
     going_before : (j : ℕ) → going_at (slice_get is_killed.labelled j) ≡ going_at (slice_get rs j)
-    going_before j = rest_going dead is_killed.labelled between j ∙ at_set going_at rs x is_killed.stood (dead_record is_killed.stood label) is_killed.there refl j
+    going_before j = rest_going dead is_killed.labelled between j ∙ at_set going_at rs x is_killed.old_record (dead_record is_killed.old_record label) is_killed.there refl j
 
     lessened : (j : ℕ) (r : Record) → slice_get behind j ≡ Some r → (q : Record) × (slice_get rs j ≡ Some q) × (up_in rs x ≡ Some j → r.running_children ≡ q.running_children - 1) × (up_in rs x ≢ Some j → r.running_children ≡ q.running_children)
     lessened j r e =

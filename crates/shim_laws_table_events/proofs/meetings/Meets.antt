@@ -11,44 +11,44 @@ use Rattle.shim_semantics.specs.Places.{at, meets}
 use Rattle.shim_semantics.specs.Trees.{Tree, Meet, met, after}
 use Rattle.shim_semantics.proofs.Replaced.{sound_at}
 use Rattle.shim_laws_schedules.proofs.Unshared.{stands_shares}
-use Rattle.shim_laws_table.specs.Seen.{ProcessStatus, lives, forks, ends, dies, place}
+use Rattle.shim_laws_table.specs.NodeStatus.{ProcessStatus, lives, forks, ends, dies, place}
 use Rattle.shim_laws_table.specs.Agrees.{RecordView, Represents}
 use Rattle.shim_laws_table.specs.Places.{got}
 use Rattle.shim_laws_table.specs.Changes.{HaveReceived}
 use Rattle.shim_laws_table.proofs.SameTrees.{same_or_not, seen_live}
-use Rattle.shim_laws_table.proofs.OneChange.{one_state, one_sort}
+use Rattle.shim_laws_table.proofs.OneChange.{one_state, one_status}
 use Rattle.shim_laws_table.proofs.OneTree.{one_tree}
 use Rattle.shim_laws_table.proofs.Shown.{events_preserve}
 use Rattle.shim_laws_table.proofs.Hanging.{tree_of}
 use Rattle.shim_records.specs.Members.{IsAmong}
-use Rattle.shim_records.specs.Pairs.{stands_of}
+use Rattle.shim_records.specs.Pairs.{record_view}
 use Rattle.shim_records.proofs.Stepping.{set_there, set_elsewhere}
-use Rattle.shim_records.proofs.ReadOff.{same_stands}
+use Rattle.shim_records.proofs.ReadOff.{same_views}
 use Rattle.shim_laws_table_events.specs.keeping.Tables.{TableView, HasProcessState, TableInvariant}
 use Rattle.shim_laws_table_events.specs.meetings.Sharers.{AreSharers, ListsSharers, AreReceivers, ListsReceivers}
-use Rattle.shim_laws_table_events.specs.meetings.Meetings.{ReceivesOne, stands_elsewhere, received, ReceiveAll, none_left, one_more, IsEnabled, Declares, HasValue, MeetingPreserves, SharersReceive}
+use Rattle.shim_laws_table_events.specs.meetings.Meetings.{ReceivesOne, not_at_channel, received, ReceiveAll, none_left, one_more, IsEnabled, Declares, HasValue, MeetingPreserves, SharersReceive}
 use Rattle.shim_laws_table_events.proofs.meetings.Among.{none_among, among_later, among_split, among_or_not, AreDistinct, distinct}
 use Rattle.shim_laws_table_events.proofs.meetings.AtHome.{below_home, home_shares, can_meet}
 use Rattle.shim_laws_table_events.proofs.meetings.Receives.{receive_preserves, moves_on_rest}
 
 module _ {S : Type 0} (o : Ops S) (law : LocalLaws o) (c : Channel) (v : ℤ) where
-  abbrev stands : TableView S → List RecordView
-  stands w = map stands_of w.records
+  abbrev views : TableView S → List RecordView
+  views w = map record_view w.records
 
   -- ---- one of them
 
-  one_stands : (i : ℕ) (before behind : TableView S) → ReceivesOne o c v i before behind → stands behind ≡ stands before
-  one_stands i before behind (stands_elsewhere none same) = ap stands same
-  one_stands i before behind (received f l d has stop is states moves) = same_stands before.records behind.records (moves_on_rest moves)
+  one_views : (i : ℕ) (before behind : TableView S) → ReceivesOne o c v i before behind → views behind ≡ views before
+  one_views i before behind (not_at_channel none same) = ap views same
+  one_views i before behind (received f l d has stop is states moves) = same_views before.records behind.records (moves_on_rest moves)
 
   pub one_keeps : (rp : Path) (i : ℕ) (before behind : TableView S) (root : Node S) → ReceivesOne o c v i before behind → TableInvariant o rp before root → (new : Node S) × TableInvariant o rp behind new
-  one_keeps rp i before behind root (stands_elsewhere none same) kept = (root, subst (λ z. TableInvariant o rp z root) (sym same) kept)
+  one_keeps rp i before behind root (not_at_channel none same) kept = (root, subst (λ z. TableInvariant o rp z root) (sym same) kept)
   one_keeps rp i before behind root (received f l d has stop is states moves) kept =
       let w = receive_preserves o law rp root before.states before.records behind.records i f l d v kept has stop moves in
       (w.0, subst (λ z. TableInvariant o rp (record { states = z; records = behind.records }) w.0) (sym states) w.2)
 
   one_untouched : (i j : ℕ) (before behind : TableView S) → ReceivesOne o c v i before behind → j ≢ i → slice_get behind.states j ≡ slice_get before.states j
-  one_untouched i j before behind (stands_elsewhere none same) far = ap (λ z. slice_get z.states j) same
+  one_untouched i j before behind (not_at_channel none same) far = ap (λ z. slice_get z.states j) same
   one_untouched i j before behind (received f l d has stop is states moves) far = ap (λ z. slice_get z j) states ∙ set_elsewhere before.states i j (o.receive l v) far
 
   got_none : (k : ProcessStatus) (s : S) → (k ≡ lives → is_next (o.stop s) c ≡ false) → got o c v k s ≡ s
@@ -58,16 +58,16 @@ module _ {S : Type 0} (o : Ops S) (law : LocalLaws o) (c : Channel) (v : ℤ) wh
   got_none (dies d) s h = refl
 
   one_gets : (i f : ℕ) (s : S) (k : ProcessStatus) (before behind : TableView S) → ReceivesOne o c v i before behind → HasProcessState before i f s k → slice_get behind.states i ≡ Some (got o c v k s)
-  one_gets i f s k before behind (stands_elsewhere none same) has =
+  one_gets i f s k before behind (not_at_channel none same) has =
       ap (λ z. slice_get z.states i) same ∙ (has.state_is ∙ ap Some (sym (got_none k s (λ e. none f s (subst (HasProcessState before i f s) e has)))))
   one_gets i f s k before behind (received g l d mine stop is states moves) has =
-      let is_l = one_state before.states (stands before) i f g s l k lives has mine in
-      let is_live = one_sort before.states (stands before) i f g s l k lives has mine in
+      let is_l = one_state before.states (views before) i f g s l k lives has mine in
+      let is_live = one_status before.states (views before) i f g s l k lives has mine in
       let next : is_next (o.stop l) c ≡ true = ap (λ z. is_next z c) stop ∙ (ap (same_channel d.channel) (sym is) ∙ same_channel_refl d.channel) in
       ap (λ z. slice_get z i) states ∙ (set_there before.states i l (o.receive l v) mine.state_is ∙ ap Some (sym (ap (λ b. cond b (o.receive l v) l) next)) ∙ (λ j. Some (got o c v (sym is_live j) (sym is_l j))))
 
   one_had : (i j : ℕ) (s : S) (before behind : TableView S) → ReceivesOne o c v i before behind → slice_get behind.states j ≡ Some s → (r : S) × (slice_get before.states j ≡ Some r)
-  one_had i j s before behind (stands_elsewhere none same) e = (s, ap (λ z. slice_get z.states j) (sym same) ∙ e)
+  one_had i j s before behind (not_at_channel none same) e = (s, ap (λ z. slice_get z.states j) (sym same) ∙ e)
   one_had i j s before behind (received f l d has stop is states moves) e = elim (same_or_not j i) [
     | inl w ↦ (l, ap (slice_get before.states) w ∙ has.state_is)
     | inr w ↦ (s, sym (set_elsewhere before.states i j (o.receive l v) w) ∙ (ap (λ z. slice_get z j) (sym states) ∙ e))
@@ -75,9 +75,9 @@ module _ {S : Type 0} (o : Ops S) (law : LocalLaws o) (c : Channel) (v : ℤ) wh
 
   -- ---- all of them
 
-  all_stand : {numbers : List ℕ} {before behind : TableView S} → ReceiveAll o c v numbers before behind → stands behind ≡ stands before
-  all_stand (none_left w) = refl
-  all_stand (one_more i is before between behind first more) = all_stand more ∙ one_stands i before between first
+  all_views : {numbers : List ℕ} {before behind : TableView S} → ReceiveAll o c v numbers before behind → views behind ≡ views before
+  all_views (none_left w) = refl
+  all_views (one_more i is before between behind first more) = all_views more ∙ one_views i before between first
 
   all_keep : {numbers : List ℕ} {before behind : TableView S} (rp : Path) (root : Node S) → ReceiveAll o c v numbers before behind → TableInvariant o rp before root → (new : Node S) × TableInvariant o rp behind new
   all_keep rp root (none_left w) kept = (root, kept)
@@ -96,7 +96,7 @@ module _ {S : Type 0} (o : Ops S) (law : LocalLaws o) (c : Channel) (v : ℤ) wh
       on (inl w) ih = untouched j more (λ h. apart.0 j h (sym w)) ∙ (ap (slice_get between.states) w ∙ one_gets i f s k before between first (subst (λ z. HasProcessState before z f s k) w has))
       on (inr n) ih = elim (among_split j i is g) [
         | inl e ↦ absurd (n (sym e))
-        | inr h ↦ ih (record { state_is = one_untouched i j before between first n ∙ has.state_is; stands_so = ap (λ z. slice_get z j) (one_stands i before between first) ∙ has.stands_so }) h
+        | inr h ↦ ih (record { state_is = one_untouched i j before between first n ∙ has.state_is; view_is = ap (λ z. slice_get z j) (one_views i before between first) ∙ has.view_is }) h
       ]
 
   all_had : {numbers : List ℕ} {before behind : TableView S} (j : ℕ) (s : S) → ReceiveAll o c v numbers before behind → slice_get behind.states j ≡ Some s → (r : S) × (slice_get before.states j ≡ Some r)
@@ -108,7 +108,7 @@ module _ {S : Type 0} (o : Ops S) (law : LocalLaws o) (v : TableView S) (c : Cha
     (kept : TableInvariant o rp v root) where
   sharing : AreSharers o rp v c (place o rp home.state) numbers
   sharing = lists rp root home.first home.state home.status kept home.has
-      (home_shares o rp v.states (map stands_of v.records) root kept.represents law c i home.first home.state home.status home.has home.its (can_meet o (tree_of o root) c (enabled rp (tree_of o root) kept)).0)
+      (home_shares o rp v.states (map record_view v.records) root kept.represents law c i home.first home.state home.status home.has home.its (can_meet o (tree_of o root) c (enabled rp (tree_of o root) kept)).0)
 
   share_all : AreReceivers o v c numbers
   share_all = record {
@@ -116,7 +116,7 @@ module _ {S : Type 0} (o : Ops S) (law : LocalLaws o) (v : TableView S) (c : Cha
     all = λ j f s has e.
         let there = seen_live (at (place o rp s) root) s (kept.represents.agrees.shown j f s lives has) in
         let shares = stands_shares o law c s (sound_at o (place o rp s) root (Live s) kept.represents.sound.below there) e in
-        let w = below_home o rp v.states (map stands_of v.records) root kept.represents c i j home.first f home.state s home.status lives home.has home.its has shares in
+        let w = below_home o rp v.states (map record_view v.records) root kept.represents c i j home.first f home.state s home.status lives home.has home.its has shares in
         sharing.all j (record { first = f; state = s; status = lives; has = has; shares = shares; further = w.0; is_there = w.1 });
   }
 
@@ -137,14 +137,14 @@ module _ {S : Type 0} (o : Ops S) (law : LocalLaws o) (before behind : TableView
   chain : (new : Node S) × TableInvariant o rp behind new
   chain = all_keep o law c x rp t.root all kept
 
-  -- who isn't among them doesn't stand at the channel
+  -- who isn't among them isn't at the channel
   not_there : (j f : ℕ) (s : S) (k : ProcessStatus) → HasProcessState before j f s k → (IsAmong j numbers → ⊥) → k ≡ lives → is_next (o.stop s) c ≡ false
   not_there j f s k has out is_live = elim (true_or_false (is_next (o.stop s) c)) [
     | inr e ↦ e
     | inl e ↦ absurd (out (are.all j f s (subst (HasProcessState before j f s) is_live has) e))
   ]
 
-  have : HaveReceived o c x (map stands_of before.records) before.states behind.states
+  have : HaveReceived o c x (map record_view before.records) before.states behind.states
   have = record {
     gets = λ j f s k has. elim (among_or_not j numbers) [
       | inl g ↦ all_get o law c x j f s k all are.distinct has g
@@ -153,11 +153,11 @@ module _ {S : Type 0} (o : Ops S) (law : LocalLaws o) (before behind : TableView
     had = λ j s e. all_had o law c x j s all e;
   }
 
-  shown : Represents o rp behind.states (map stands_of before.records) u.root
-  shown = (events_preserve o law).met rp before.states behind.states (map stands_of before.records) t u c x kept.represents can.1 (value rp t.root kept) have
+  shown : Represents o rp behind.states (map record_view before.records) u.root
+  shown = (events_preserve o law).met rp before.states behind.states (map record_view before.records) t u c x kept.represents can.1 (value rp t.root kept) have
 
   same : chain.0 ≡ u.root
-  same = one_tree o rp behind.states (map stands_of before.records) chain.0 u.root shown.rooted (subst (λ z. Represents o rp behind.states z chain.0) (all_stand o law c x all) chain.1.represents).agrees shown.agrees
+  same = one_tree o rp behind.states (map record_view before.records) chain.0 u.root shown.rooted (subst (λ z. Represents o rp behind.states z chain.0) (all_views o law c x all) chain.1.represents).agrees shown.agrees
 
   moved : (u : Tree S) × (after o (Meet c) t ≡ Some u) × TableInvariant o rp behind u.root
   moved = (u, can.1, subst (TableInvariant o rp behind) same chain.1)
@@ -165,5 +165,5 @@ module _ {S : Type 0} (o : Ops S) (law : LocalLaws o) (before behind : TableView
 pub meeting_preserves : {S : Type 0} (o : Ops S) → LocalLaws o → MeetingPreserves o
 meeting_preserves o law before behind c numbers x enabled lists value all = (
   (λ rp t kept. moved o law before behind c numbers x enabled lists value all rp t kept),
-  (λ rp root kept. (all_stand o law c x all, have o law before behind c numbers x enabled lists value all rp (tree_of o root) kept)),
+  (λ rp root kept. (all_views o law c x all, have o law before behind c numbers x enabled lists value all rp (tree_of o root) kept)),
 )

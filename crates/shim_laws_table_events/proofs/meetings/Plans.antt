@@ -1,4 +1,4 @@
--- What a walk by the forks' knowledge finds: each number once, and all that stand at the channel.
+-- What a walk by the forks' knowledge finds: each number once, and all that are at the channel.
 use Rattle.std.proofs.Common.{◌≡◌, ◌<◌, ◌≤◌, ℕ, zero, suc, ◌+◌, ◌-◌, true, false, Some, List, [], ◌∷◌, ◌++◌, map, inl, inr, refl, sym, ap, subst, ◌∙◌, arith}
 use Rattle.std.proofs.lemmas.List.{append_assoc, append-nil}
 use Rattle.shim_base.specs.Paths.{Path, Channel}
@@ -11,13 +11,13 @@ use Rattle.shim_semantics.proofs.Replaced.{sound_at}
 use Rattle.shim_semantics.proofs.HowMany.{clash}
 use Rattle.shim_laws_schedules.proofs.Homes.{Outside}
 use Rattle.shim_laws_schedules.proofs.Unshared.{stands_shares}
-use Rattle.shim_laws_table.specs.Seen.{ProcessStatus, lives, forks, place}
+use Rattle.shim_laws_table.specs.NodeStatus.{ProcessStatus, lives, forks, place}
 use Rattle.shim_laws_table.specs.Sources.{is_before}
 use Rattle.shim_laws_table.proofs.SameTrees.{seen_live, seen_fork}
-use Rattle.shim_laws_table.proofs.OneChange.{one_state, one_sort}
+use Rattle.shim_laws_table.proofs.OneChange.{one_state, one_status}
 use Rattle.shim_laws_table.proofs.Hanging.{tree_of}
 use Rattle.shim_records.specs.Members.{IsAmong}
-use Rattle.shim_records.specs.Pairs.{stands_of, known_in}
+use Rattle.shim_records.specs.Pairs.{record_view, known_in}
 use Rattle.shim_records.specs.declared.pair.Sharing.{Sharing}
 use Rattle.shim_laws_table_events.specs.keeping.Tables.{TableView, HasProcessState, TableInvariant}
 use Rattle.shim_laws_table_events.proofs.keeping.Knowing.{known_shares}
@@ -26,8 +26,8 @@ use Rattle.shim_laws_table_events.specs.meetings.Sharers.{InOrder, AreDistinct}
 use Rattle.shim_laws_table_events.specs.meetings.Plans.{how_many_between, children_between, IsSkipped, Plans, at_end, passes, finds, goes_below, PlansFind}
 use Rattle.shim_laws_table_events.proofs.meetings.Among.{none_among, among_later, among_split, not_before}
 use Rattle.shim_laws_table_events.proofs.meetings.AtHome.{below_home, home_shares, can_meet}
-use Rattle.shim_laws_table_events.proofs.meetings.Below.{ForkOver, fork_over, fork_knows, child_between}
-use Rattle.shim_laws_table_events.proofs.meetings.Descents.{among_parts, among_left, among_right, both_in_order, LeftOf, child_left, places_from, place_of_child, child_place, children_in_order, Stands, AllStand, both_stand, none_below, child_outside}
+use Rattle.shim_laws_table_events.proofs.meetings.BelowForks.{ForkOver, fork_over, fork_knows, child_between}
+use Rattle.shim_laws_table_events.proofs.meetings.Descents.{among_parts, among_left, among_right, both_in_order, LeftOf, child_left, places_from, place_of_child, child_place, children_in_order, IsPlaced, ArePlaced, both_placed, none_below, child_outside}
 
 not_both : {A : Type 0} (n : ℕ) → lives ≡ forks n → A
 not_both n e = absurd cc
@@ -47,14 +47,14 @@ module _ {S : Type 0} (o : Ops S) (law : LocalLaws o) (rp : Path) (v : TableView
     pub further : List ℕ
     pub is_there : place o rp state ≡ q ++ further
 
-  abbrev Standing : ℕ → List ℕ → Type 0
-  Standing = Stands o rp v c root kept
+  abbrev PlacedAt : ℕ → List ℕ → Type 0
+  PlacedAt = IsPlaced o rp v c root kept
 
-  abbrev AllStanding : List ℕ → List (List ℕ) → Type 0
-  AllStanding = AllStand o rp v c root kept
+  abbrev AllPlaced : List ℕ → List (List ℕ) → Type 0
+  AllPlaced = ArePlaced o rp v c root kept
 
-  stands_state : (i f : ℕ) (s : S) (k : ProcessStatus) (q : List ℕ) → HasProcessState v i f s k → Standing i q → place o rp s ≡ q
-  stands_state i f s k q has stand = ap (place o rp) (one_state v.states (map stands_of v.records) i f stand.first s stand.state_is k stand.status has stand.has) ∙ stand.is_there
+  placed_state : (i f : ℕ) (s : S) (k : ProcessStatus) (q : List ℕ) → HasProcessState v i f s k → PlacedAt i q → place o rp s ≡ q
+  placed_state i f s k q has placed = ap (place o rp) (one_state v.states (map record_view v.records) i f placed.first s placed.state_is k placed.status has placed.has) ∙ placed.is_there
 
   -- ---- the children of a fork between two branches
 
@@ -62,12 +62,12 @@ module _ {S : Type 0} (o : Ops S) (law : LocalLaws o) (rp : Path) (v : TableView
     shares : o.shares s c ≡ true
     shares = known_shares o rp v root c kept i f n s k has knows
 
-    some_children : (b m : ℕ) → b + m ≤ n → AllStanding (numbers_of_length (f + b) m) (places_from (place o rp s) b m)
+    some_children : (b m : ℕ) → b + m ≤ n → AllPlaced (numbers_of_length (f + b) m) (places_from (place o rp s) b m)
     some_children b zero inside = tt
     some_children b (suc m) inside =
         let z = kept.represents.agrees.below i f n s has b (omega (arith, inside)) in (
           record { first = z.0; state_is = z.1; status = z.2; has = z.3; is_there = z.4; outside = λ lacks. child_outside o rp v c root kept i f s (forks n) has shares n b z.0 z.1 z.2 has z.3 z.4 },
-          subst (λ y. AllStanding (numbers_of_length y m) (places_from (place o rp s) (suc b) m)) (next f b) (some_children (suc b) m (omega (arith, inside))),
+          subst (λ y. AllPlaced (numbers_of_length y m) (places_from (place o rp s) (suc b) m)) (next f b) (some_children (suc b) m (omega (arith, inside))),
         )
       where
         next : (f b : ℕ) → f + suc b ≡ suc (f + b)
@@ -81,10 +81,10 @@ module _ {S : Type 0} (o : Ops S) (law : LocalLaws o) (rp : Path) (v : TableView
         let w = seen_fork (at (place o rp s) root) s n (kept.represents.agrees.shown i f s (forks n) has) in
         subst (λ z. k.last < z) w.2 (kept.known c i f n s k s w.0 has knows w.1).within
 
-    children_stand : AllStanding (children_between f k) its_places
-    children_stand = on (how_many_between k) refl
+    children_placed : AllPlaced (children_between f k) its_places
+    children_placed = on (how_many_between k) refl
       where
-        on : (m : ℕ) → how_many_between k ≡ m → AllStanding (numbers_of_length (f + k.first) m) (places_from (place o rp s) k.first m)
+        on : (m : ℕ) → how_many_between k ≡ m → AllPlaced (numbers_of_length (f + k.first) m) (places_from (place o rp s) k.first m)
         on zero e = tt
         on (suc m) e = some_children k.first (suc m) (count_fits k.last k.first m n e within)
 
@@ -94,7 +94,7 @@ module _ {S : Type 0} (o : Ops S) (law : LocalLaws o) (rp : Path) (v : TableView
         let w = behind_first k.first b k.last low high in
         subst (λ z. IsAmong (place o rp s ++ z ∷ []) its_places) (sym w.1) (child_place (place o rp s) k.first (how_many_between k) w.0 w.2)
 
-    -- and whatever stands from there on stands below the fork
+    -- and whatever is from there on is below the fork
     from_there : (q : List ℕ) (j : ℕ) → IsAmong q its_places → LivesFrom q j → LivesFrom (place o rp s) j
     from_there q j g w =
         let d = place_of_child (place o rp s) q k.first (how_many_between k) g in
@@ -103,7 +103,7 @@ module _ {S : Type 0} (o : Ops S) (law : LocalLaws o) (rp : Path) (v : TableView
   from_same : (q p : List ℕ) (j : ℕ) → q ≡ p → LivesFrom q j → LivesFrom p j
   from_same q p j e w = subst (λ z. LivesFrom z j) e w
 
-  -- ---- what is found stands at or below one of the places
+  -- ---- what is found is at or below one of the places
 
   pub record FoundAt (qs : List (List ℕ)) (j : ℕ) : Type 0 where
     pub from : List ℕ
@@ -113,46 +113,46 @@ module _ {S : Type 0} (o : Ops S) (law : LocalLaws o) (rp : Path) (v : TableView
   later : (q : List ℕ) (qs : List (List ℕ)) (j : ℕ) → FoundAt qs j → FoundAt (q ∷ qs) j
   later q qs j w = record { from = w.from; among = among_later w.from q qs w.among; lives_there = w.lives_there }
 
-  found_there : {ahead found : List ℕ} → Plans v c ahead found → (qs : List (List ℕ)) → AllStanding ahead qs → (j : ℕ) → IsAmong j found → FoundAt qs j
-  found_there at_end qs stand j g = none_among j g
-  found_there (passes i ahead found none more) [] stand j g = absurd stand
-  found_there (passes i ahead found none more) (q ∷ qs) stand j g = later q qs j (found_there more qs stand.1 j g)
-  found_there (finds i f s ahead found has more) [] stand j g = absurd stand
-  found_there (finds i f s ahead found has more) (q ∷ qs) stand j g = elim (among_split j i found g) [
-    | inl e ↦ record { from = q; among = (0, refl); lives_there = subst (LivesFrom q) e (record { first = f; state = s; has = has; further = []; is_there = stands_state i f s lives q has stand.0 ∙ sym (append-nil q) }) }
-    | inr h ↦ later q qs j (found_there more qs stand.1 j h)
+  found_there : {ahead found : List ℕ} → Plans v c ahead found → (qs : List (List ℕ)) → AllPlaced ahead qs → (j : ℕ) → IsAmong j found → FoundAt qs j
+  found_there at_end qs placed j g = none_among j g
+  found_there (passes i ahead found none more) [] placed j g = absurd placed
+  found_there (passes i ahead found none more) (q ∷ qs) placed j g = later q qs j (found_there more qs placed.1 j g)
+  found_there (finds i f s ahead found has more) [] placed j g = absurd placed
+  found_there (finds i f s ahead found has more) (q ∷ qs) placed j g = elim (among_split j i found g) [
+    | inl e ↦ record { from = q; among = (0, refl); lives_there = subst (LivesFrom q) e (record { first = f; state = s; has = has; further = []; is_there = placed_state i f s lives q has placed.0 ∙ sym (append-nil q) }) }
+    | inr h ↦ later q qs j (found_there more qs placed.1 j h)
   ]
-  found_there (goes_below i f n s k ahead found has knows more) [] stand j g = absurd stand
-  found_there (goes_below i f n s k ahead found has knows more) (q ∷ qs) stand j g =
+  found_there (goes_below i f n s k ahead found has knows more) [] placed j g = absurd placed
+  found_there (goes_below i f n s k ahead found has knows more) (q ∷ qs) placed j g =
       let places = its_places i f n s k has knows in
-      let w = found_there more (places ++ qs) (both_stand o rp v c root kept (children_between f k) ahead places qs (children_stand i f n s k has knows) stand.1) j g in
+      let w = found_there more (places ++ qs) (both_placed o rp v c root kept (children_between f k) ahead places qs (children_placed i f n s k has knows) placed.1) j g in
       elim (among_parts w.from places qs w.among) [
-        | inl u ↦ record { from = q; among = (0, refl); lives_there = from_same (place o rp s) q j (stands_state i f s (forks n) q has stand.0) (from_there i f n s k has knows w.from j u w.lives_there) }
+        | inl u ↦ record { from = q; among = (0, refl); lives_there = from_same (place o rp s) q j (placed_state i f s (forks n) q has placed.0) (from_there i f n s k has knows w.from j u w.lives_there) }
         | inr u ↦ later q qs j (record { from = w.from; among = u; lives_there = w.lives_there })
       ]
 
   -- ---- none twice
 
-  distinct_found : {ahead found : List ℕ} → Plans v c ahead found → (qs : List (List ℕ)) → AllStanding ahead qs → InOrder LeftOf qs → AreDistinct found
-  distinct_found at_end qs stand left = tt
-  distinct_found (passes i ahead found none more) [] stand left = absurd stand
-  distinct_found (passes i ahead found none more) (q ∷ qs) stand left = distinct_found more qs stand.1 left.1
-  distinct_found (finds i f s ahead found has more) [] stand left = absurd stand
-  distinct_found (finds i f s ahead found has more) (q ∷ qs) stand left = (
+  distinct_found : {ahead found : List ℕ} → Plans v c ahead found → (qs : List (List ℕ)) → AllPlaced ahead qs → InOrder LeftOf qs → AreDistinct found
+  distinct_found at_end qs placed left = tt
+  distinct_found (passes i ahead found none more) [] placed left = absurd placed
+  distinct_found (passes i ahead found none more) (q ∷ qs) placed left = distinct_found more qs placed.1 left.1
+  distinct_found (finds i f s ahead found has more) [] placed left = absurd placed
+  distinct_found (finds i f s ahead found has more) (q ∷ qs) placed left = (
     (λ j g same.
-        let w = found_there more qs stand.1 j g in
+        let w = found_there more qs placed.1 j g in
         let u = w.lives_there in
-        let is_s : u.state ≡ s = one_state v.states (map stands_of v.records) j u.first f u.state s lives lives u.has (subst (λ z. HasProcessState v z f s lives) same has) in
-        let here : place o rp s ≡ q = stands_state i f s lives q has stand.0 in
+        let is_s : u.state ≡ s = one_state v.states (map record_view v.records) j u.first f u.state s lives lives u.has (subst (λ z. HasProcessState v z f s lives) same has) in
+        let here : place o rp s ≡ q = placed_state i f s lives q has placed.0 in
         let there : place o rp s ≡ w.from ++ u.further = ap (place o rp) (sym is_s) ∙ u.is_there in
         clash (is_before (place o rp s) (place o rp s)) ((λ z. is_before ((here ∙ sym (append-nil q)) z) (there z)) ∙ left.0 w.from w.among [] u.further) (not_before (place o rp s))),
-    distinct_found more qs stand.1 left.1,
+    distinct_found more qs placed.1 left.1,
   )
-  distinct_found (goes_below i f n s k ahead found has knows more) [] stand left = absurd stand
-  distinct_found (goes_below i f n s k ahead found has knows more) (q ∷ qs) stand left =
+  distinct_found (goes_below i f n s k ahead found has knows more) [] placed left = absurd placed
+  distinct_found (goes_below i f n s k ahead found has knows more) (q ∷ qs) placed left =
       let places = its_places i f n s k has knows in
-      let here : place o rp s ≡ q = stands_state i f s (forks n) q has stand.0 in
-      distinct_found more (places ++ qs) (both_stand o rp v c root kept (children_between f k) ahead places qs (children_stand i f n s k has knows) stand.1)
+      let here : place o rp s ≡ q = placed_state i f s (forks n) q has placed.0 in
+      distinct_found more (places ++ qs) (both_placed o rp v c root kept (children_between f k) ahead places qs (children_placed i f n s k has knows) placed.1)
       (both_in_order LeftOf places qs (children_in_order (place o rp s) k.first (how_many_between k)) left.1 (λ p r g h.
       let d = place_of_child (place o rp s) p k.first (how_many_between k) g in
       subst (λ z. LeftOf z r) (sym d.1) (child_left (place o rp s) r (k.first + d.0) (subst (λ z. LeftOf z r) (sym here) (left.0 r h)))))
@@ -186,20 +186,20 @@ module _ {S : Type 0} (o : Ops S) (law : LocalLaws o) (rp : Path) (v : TableView
             (record { first = w.alive.first; state = w.alive.state; status = lives; has = w.alive.has; shares = w.shares_it; further = w.alive.further; is_there = w.alive.is_there })
       ]
 
-  all_found : {ahead found : List ℕ} → Plans v c ahead found → (qs : List (List ℕ)) → AllStanding ahead qs → (q : List ℕ) → IsAmong q qs → (j : ℕ) → SharesAlive q j → IsAmong j found
-  all_found at_end [] stand q g j w = none_among q g
-  all_found at_end (p ∷ qs) stand q g j w = absurd stand
-  all_found (passes i ahead found none more) [] stand q g j w = absurd stand
-  all_found (passes i ahead found none more) (p ∷ qs) stand q g j w = elim (among_split q p qs g) [
+  all_found : {ahead found : List ℕ} → Plans v c ahead found → (qs : List (List ℕ)) → AllPlaced ahead qs → (q : List ℕ) → IsAmong q qs → (j : ℕ) → SharesAlive q j → IsAmong j found
+  all_found at_end [] placed q g j w = none_among q g
+  all_found at_end (p ∷ qs) placed q g j w = absurd placed
+  all_found (passes i ahead found none more) [] placed q g j w = absurd placed
+  all_found (passes i ahead found none more) (p ∷ qs) placed q g j w = elim (among_split q p qs g) [
     | inl e ↦
-        let x = stand.0 in
+        let x = placed.0 in
         absurd (not_passed i x.first x.state_is x.status j x.has none x.outside (subst (λ z. SharesAlive z j) (sym e ∙ sym x.is_there) w))
-    | inr h ↦ all_found more qs stand.1 q h j w
+    | inr h ↦ all_found more qs placed.1 q h j w
   ]
-  all_found (finds i f s ahead found has more) [] stand q g j w = absurd stand
-  all_found (finds i f s ahead found has more) (p ∷ qs) stand q g j w = elim (among_split q p qs g) [
-    | inl e ↦ found_itself (subst (λ z. SharesAlive z j) (sym e ∙ sym (stands_state i f s lives p has stand.0)) w)
-    | inr h ↦ among_later j i found (all_found more qs stand.1 q h j w)
+  all_found (finds i f s ahead found has more) [] placed q g j w = absurd placed
+  all_found (finds i f s ahead found has more) (p ∷ qs) placed q g j w = elim (among_split q p qs g) [
+    | inl e ↦ found_itself (subst (λ z. SharesAlive z j) (sym e ∙ sym (placed_state i f s lives p has placed.0)) w)
+    | inr h ↦ among_later j i found (all_found more qs placed.1 q h j w)
   ]
     where
       found_itself : SharesAlive (place o rp s) j → IsAmong j (i ∷ found)
@@ -208,16 +208,16 @@ module _ {S : Type 0} (o : Ops S) (law : LocalLaws o) (rp : Path) (v : TableView
           on : (x : List ℕ) → u.alive.further ≡ x → IsAmong j (i ∷ found)
           on [] y = (0, ap Some (sym (at_it i f s lives j has u.alive y)))
           on (b ∷ r) y = let over = over_it i f s lives j has u.alive b r y in not_both over.many over.forked
-  all_found (goes_below i f n s k ahead found has knows more) [] stand q g j w = absurd stand
-  all_found (goes_below i f n s k ahead found has knows more) (p ∷ qs) stand q g j w =
+  all_found (goes_below i f n s k ahead found has knows more) [] placed q g j w = absurd placed
+  all_found (goes_below i f n s k ahead found has knows more) (p ∷ qs) placed q g j w =
       let places = its_places i f n s k has knows in
-      let stand' = both_stand o rp v c root kept (children_between f k) ahead places qs (children_stand i f n s k has knows) stand.1 in
+      let placed' = both_placed o rp v c root kept (children_between f k) ahead places qs (children_placed i f n s k has knows) placed.1 in
       elim (among_split q p qs g) [
         | inl e ↦
-            let u = subst (λ z. SharesAlive z j) (sym e ∙ sym (stands_state i f s (forks n) p has stand.0)) w in
+            let u = subst (λ z. SharesAlive z j) (sym e ∙ sym (placed_state i f s (forks n) p has placed.0)) w in
             let x = below_fork i f n s k has knows j u in
-            all_found more (places ++ qs) stand' x.0 (among_left x.0 places qs x.1) j x.2
-        | inr h ↦ all_found more (places ++ qs) stand' q (among_right q places qs h) j w
+            all_found more (places ++ qs) placed' x.0 (among_left x.0 places qs x.1) j x.2
+        | inr h ↦ all_found more (places ++ qs) placed' q (among_right q places qs h) j w
       ]
     where
       below_fork : (i f n : ℕ) (s : S) (k : Sharing) (has : HasProcessState v i f s (forks n)) (knows : known_in c v.records i ≡ Some k) (j : ℕ) → SharesAlive (place o rp s) j → (q : List ℕ) × IsAmong q (its_places i f n s k has knows) × SharesAlive q j
@@ -226,7 +226,7 @@ module _ {S : Type 0} (o : Ops S) (law : LocalLaws o) (rp : Path) (v : TableView
           on : (x : List ℕ) → u.alive.further ≡ x → (q : List ℕ) × IsAmong q (its_places i f n s k has knows) × SharesAlive q j
           on [] y =
               let same = at_it i f s (forks n) j has u.alive y in
-              not_both n (one_sort v.states (map stands_of v.records) i u.alive.first f u.alive.state s lives (forks n) (subst (λ z. HasProcessState v z u.alive.first u.alive.state lives) same u.alive.has) has)
+              not_both n (one_status v.states (map record_view v.records) i u.alive.first f u.alive.state s lives (forks n) (subst (λ z. HasProcessState v z u.alive.first u.alive.state lives) same u.alive.has) has)
           on (b ∷ r) y =
               let is : place o rp u.alive.state ≡ place o rp s ++ b ∷ r = u.alive.is_there ∙ ap (λ z. place o rp s ++ z) y in
               let w = child_between o law rp v root kept c i f s (forks n) has (shares i f n s k has knows) j u.alive.first u.alive.state lives u.alive.has u.shares_it b r is k knows in (
@@ -237,18 +237,18 @@ module _ {S : Type 0} (o : Ops S) (law : LocalLaws o) (rp : Path) (v : TableView
 
 pub plans_find : {S : Type 0} (o : Ops S) → LocalLaws o → PlansFind o
 plans_find {S} o law v c i found home enabled plans rp root kept =
-    let stands = map stands_of v.records in
-    let shares : o.shares home.state c ≡ true = home_shares o rp v.states stands root kept.represents law c i home.first home.state home.status home.has home.its (can_meet o (tree_of o root) c (enabled rp (tree_of o root) kept)).0 in
+    let views = map record_view v.records in
+    let shares : o.shares home.state c ≡ true = home_shares o rp v.states views root kept.represents law c i home.first home.state home.status home.has home.its (can_meet o (tree_of o root) c (enabled rp (tree_of o root) kept)).0 in
     let q = place o rp home.state in
-    let stand : AllStand o rp v c root kept (i ∷ []) (q ∷ []) = (
+    let placed : ArePlaced o rp v c root kept (i ∷ []) (q ∷ []) = (
       record { first = home.first; state_is = home.state; status = home.status; has = home.has; is_there = refl; outside = λ lacks. clash (o.shares home.state c) shares lacks },
       tt,
     ) in
     record {
-      distinct = distinct_found o law rp v c root kept plans (q ∷ []) stand ((λ p g. none_among p g), tt);
+      distinct = distinct_found o law rp v c root kept plans (q ∷ []) placed ((λ p g. none_among p g), tt);
       all = λ j f l has e.
           let there = seen_live (at (place o rp l) root) l (kept.represents.agrees.shown j f l lives has) in
           let its = stands_shares o law c l (sound_at o (place o rp l) root (Live l) kept.represents.sound.below there) e in
-          let w = below_home o rp v.states stands root kept.represents c i j home.first f home.state l home.status lives home.has home.its has its in
-          all_found o law rp v c root kept plans (q ∷ []) stand q (0, refl) j (record { alive = record { first = f; state = l; has = has; further = w.0; is_there = w.1 }; shares_it = its });
+          let w = below_home o rp v.states views root kept.represents c i j home.first f home.state l home.status lives home.has home.its has its in
+          all_found o law rp v c root kept plans (q ∷ []) placed q (0, refl) j (record { alive = record { first = f; state = l; has = has; further = w.0; is_there = w.1 }; shares_it = its });
     }

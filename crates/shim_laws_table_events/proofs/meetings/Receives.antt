@@ -1,4 +1,4 @@
--- A live process receives at the channel at which it stands: the records keep all that they kept.
+-- A live process receives at the channel at which it is: the records keep all that they kept.
 use Rattle.std.proofs.Common.{◌≡◌, ℕ, Bool, true, false, Option, Some, List, map, inl, inr, refl, sym, ap, subst, ◌∙◌}
 use Rattle.std.specs.Prelude.{ℤ, slice_get, slice_set}
 use Rattle.shim_base.specs.Paths.{Path, Channel, NamedChannel, same_channel}
@@ -12,7 +12,7 @@ use Rattle.shim_semantics.proofs.Replaced.{sound_at}
 use Rattle.shim_semantics.proofs.CallStays.{call_carries_less}
 use Rattle.shim_semantics.proofs.HowMany.{clash, one_for_one}
 use Rattle.shim_semantics.proofs.ReplacedNodes.{put}
-use Rattle.shim_laws_table.specs.Seen.{lives, place}
+use Rattle.shim_laws_table.specs.NodeStatus.{lives, place}
 use Rattle.shim_laws_table.specs.Agrees.{Has, Represents}
 use Rattle.shim_laws_table.specs.Places.{IsReplaced}
 use Rattle.shim_laws_table.specs.Changes.{HasChanged}
@@ -20,10 +20,10 @@ use Rattle.shim_laws_table.specs.Counts.{Tally, ChildStatus as Read, live_child_
 use Rattle.shim_laws_table.specs.Updating.{UpdatedAbove}
 use Rattle.shim_laws_table.proofs.SameTrees.{seen_live, put_replaces}
 use Rattle.shim_laws_table.proofs.Singles.{single_changes_are_represented}
-use Rattle.shim_records.specs.Pairs.{stands_of, up_in, counts_in, min_labels_in, rest_of, child_status_of, UncountedRecord}
+use Rattle.shim_records.specs.Pairs.{record_view, up_in, counts_in, min_labels_in, rest_of, child_status_of, UncountedRecord}
 use Rattle.shim_records.specs.declared.record.Record.{Record}
 use Rattle.shim_records.proofs.Stepping.{set_there, set_elsewhere}
-use Rattle.shim_records.proofs.ReadOff.{same_stands}
+use Rattle.shim_records.proofs.ReadOff.{same_views}
 use Rattle.shim_records.proofs.FullPropagation.{rest_ups, kept_order}
 use Rattle.shim_records.proofs.SharingFound.{rest_known}
 use Rattle.shim_laws_table_events.specs.keeping.Tables.{GoRight, TableInvariant}
@@ -44,7 +44,7 @@ moves_on_rest {o = o} {s = s} {c = c} {n = n} {x = x} {behind = behind} on = cam
     came_rest (other e was is g far u w updated) = updated.1.rest
 
 module _ {S : Type 0} (o : Ops S) (law : LocalLaws o) (rp : Path) (root : Node S) (states : List S) (rs behind : List Record) (x f : ℕ) (l : S) (d : NamedChannel) (v : ℤ)
-    (kept : TableInvariant o rp (record { states = states; records = rs }) root) (has : Has states (map stands_of rs) x f l lives) (stop : o.stop l ≡ AtNext d) (on : MovesOn o (o.receive l v) d.channel 4294967295 x rs behind) where
+    (kept : TableInvariant o rp (record { states = states; records = rs }) root) (has : Has states (map record_view rs) x f l lives) (stop : o.stop l ≡ AtNext d) (on : MovesOn o (o.receive l v) d.channel 4294967295 x rs behind) where
   abbrev s : S
   s = o.receive l v
 
@@ -66,22 +66,22 @@ module _ {S : Type 0} (o : Ops S) (law : LocalLaws o) (rp : Path) (root : Node S
   rest : map rest_of behind ≡ map rest_of rs
   rest = moves_on_rest on
 
-  same : map stands_of behind ≡ map stands_of rs
-  same = same_stands rs behind rest
+  same : map record_view behind ≡ map record_view rs
+  same = same_views rs behind rest
 
-  mine : Has states' (map stands_of behind) x f s lives
-  mine = record { state_is = set_there states x l s has.state_is; stands_so = ap (λ z. slice_get z x) same ∙ has.stands_so }
+  mine : Has states' (map record_view behind) x f s lives
+  mine = record { state_is = set_there states x l s has.state_is; view_is = ap (λ z. slice_get z x) same ∙ has.view_is }
 
-  changed : HasChanged states states' (map stands_of rs) (map stands_of behind) x s lives
+  changed : HasChanged states states' (map record_view rs) (map record_view behind) x s lives
   changed = record {
     first = f;
     mine = mine;
-    others = λ j g t k n h. record { state_is = set_elsewhere states x j s n ∙ h.state_is; stands_so = ap (λ z. slice_get z j) same ∙ h.stands_so };
-    only = λ j g t k n h. record { state_is = sym (set_elsewhere states x j s n) ∙ h.state_is; stands_so = sym (ap (λ z. slice_get z j) same) ∙ h.stands_so };
+    others = λ j g t k n h. record { state_is = set_elsewhere states x j s n ∙ h.state_is; view_is = ap (λ z. slice_get z j) same ∙ h.view_is };
+    only = λ j g t k n h. record { state_is = sym (set_elsewhere states x j s n) ∙ h.state_is; view_is = sym (ap (λ z. slice_get z j) same) ∙ h.view_is };
   }
 
-  shown : Represents o rp states' (map stands_of behind) new
-  shown = (single_changes_are_represented o law).received rp states states' (map stands_of rs) (map stands_of behind) root new x f l d v kept.represents has stop rep changed
+  shown : Represents o rp states' (map record_view behind) new
+  shown = (single_changes_are_represented o law).received rp states states' (map record_view rs) (map record_view behind) root new x f l d v kept.represents has stop rep changed
 
   path : o.path s ≡ o.path l
   path = law.moved_path l s sound (by_call (by_receive d v stop refl))
@@ -112,7 +112,7 @@ module _ {S : Type 0} (o : Ops S) (law : LocalLaws o) (rp : Path) (root : Node S
     abbrev B : (ℕ → Option Tally) → Type 0
     B counts = Both o law rp states states' rs behind root new l (Live s) x f kept has changed refl path given rep shown ups c counts
 
-    -- a channel at which it neither stood nor stands
+    -- a channel at which it neither was nor is
     still : same_channel d.channel c ≡ false → is_next (o.stop s) c ≡ false → B (counts_in c rs)
     still far e = unread o law rp states states' rs behind root new l (Live s) x f kept has changed refl path given rep shown ups c
         (λ i. let r : Read = record { alive = sym (shares c) i; ready_on = (ap (λ z. is_next z c) stop ∙ (far ∙ sym e)) i; dead_on = false } in r)
@@ -121,9 +121,9 @@ module _ {S : Type 0} (o : Ops S) (law : LocalLaws o) (rp : Path) (root : Node S
     counts_above was is after e g h updated = walked o law rp states states' rs behind root new l (Live s) x f kept has changed refl path given rep shown ups c was is after e g h
         (subst (λ z. UpdatedAbove z 4294967295 4294967295 (counts_in c rs) x was is after) (sym ups) updated)
 
-    -- the one at which it stood
-    stood : same_channel d.channel c ≡ true → B (counts_in c behind)
-    stood w = subst B (sym (kept_counts on.came)) (counts_above (live_child_status true) (live_child_status (is_next (o.stop s) c)) (counts_in c on.between)
+    -- the one at which it was
+    at_old_channel : same_channel d.channel c ≡ true → B (counts_in c behind)
+    at_old_channel w = subst B (sym (kept_counts on.came)) (counts_above (live_child_status true) (live_child_status (is_next (o.stop s) c)) (counts_in c on.between)
         (λ i. let r : Read = record { alive = shared i; ready_on = (ap (λ z. is_next z c) stop ∙ w) i; dead_on = false } in r)
         (λ i. let r : Read = record { alive = (shares c ∙ shared) i; ready_on = is_next (o.stop s) c; dead_on = false } in r)
         (shares c ∙ shared) way)
@@ -136,8 +136,8 @@ module _ {S : Type 0} (o : Ops S) (law : LocalLaws o) (rp : Path) (root : Node S
 
         way : UpdatedAbove (up_in rs) 4294967295 4294967295 (counts_in c rs) x (live_child_status true) (live_child_status (is_next (o.stop s) c)) (counts_in c on.between)
         way = subst (λ z. UpdatedAbove (up_in rs) 4294967295 4294967295 (counts_in z rs) x (live_child_status true) (live_child_status (is_next (o.stop s) z)) (counts_in z on.between)) is
-            (subst (λ z. UpdatedAbove (up_in rs) 4294967295 4294967295 (counts_in d.channel rs) x (live_child_status true) z (counts_in d.channel on.between)) on.stands
-            (subst (λ z. UpdatedAbove (up_in rs) 4294967295 4294967295 (counts_in d.channel rs) x z (child_status_of on.is) (counts_in d.channel on.between)) on.stood on.left.0))
+            (subst (λ z. UpdatedAbove (up_in rs) 4294967295 4294967295 (counts_in d.channel rs) x (live_child_status true) z (counts_in d.channel on.between)) on.status_is
+            (subst (λ z. UpdatedAbove (up_in rs) 4294967295 4294967295 (counts_in d.channel rs) x z (child_status_of on.is) (counts_in d.channel on.between)) on.status_was on.left.0))
 
         kept_counts : UpdatesOtherNext o s d.channel 4294967295 x on.between behind → counts_in c behind ≡ counts_in c on.between
         kept_counts (no_other e b) = ap (counts_in c) b
@@ -176,7 +176,7 @@ module _ {S : Type 0} (o : Ops S) (law : LocalLaws o) (rp : Path) (root : Node S
                 (subst (λ z. UpdatedAbove (up_in on.between) 4294967295 4294967295 (counts_in e.channel on.between) x z (child_status_of is) (counts_in e.channel behind)) u updated.0)))))
 
     counted : B (counts_in c behind)
-    counted = elim (true_or_false (same_channel d.channel c)) [ inl w ↦ stood w | inr w ↦ elsewhere w ]
+    counted = elim (true_or_false (same_channel d.channel c)) [ inl w ↦ at_old_channel w | inr w ↦ elsewhere w ]
 
   running_children : GoRight o rp (record { states = states'; records = behind }) new
   running_children j g n t u ks r fork e now =
@@ -195,7 +195,7 @@ module _ {S : Type 0} (o : Ops S) (law : LocalLaws o) (rp : Path) (root : Node S
         (λ c. record {
           there = (counted c).1;
           counts = (counted c).0;
-          labels = subst (λ z. Labelled o rp states' (map stands_of behind) c (counts_in c behind) z new) (sym (labels_same c))
+          labels = subst (λ z. Labelled o rp states' (map record_view behind) c (counts_in c behind) z new) (sym (labels_same c))
               (unlabelled o law rp states states' rs behind root new l (Live s) x f kept has changed refl path given rep shown ups c (counts_in c behind) (counted c).1 refl);
         })
         running_children,

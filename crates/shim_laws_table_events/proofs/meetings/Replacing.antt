@@ -7,7 +7,7 @@ use Rattle.shim_local.specs.Laws.{LocalLaws}
 use Rattle.shim_semantics.specs.Nodes.{Node, Live, state}
 use Rattle.shim_semantics.specs.Places.{branches}
 use Rattle.shim_semantics.specs.Sound.{carriers}
-use Rattle.shim_laws_table.specs.Seen.{ProcessStatus, lives, forks, process_status, is_leaf, place}
+use Rattle.shim_laws_table.specs.NodeStatus.{ProcessStatus, lives, forks, process_status, is_leaf, place}
 use Rattle.shim_laws_table.specs.Agrees.{RecordView, used, Has, Represents}
 use Rattle.shim_laws_table.specs.Places.{IsReplaced}
 use Rattle.shim_laws_table.specs.Changes.{HasChanged}
@@ -17,13 +17,13 @@ use Rattle.shim_laws_table.specs.Updating.{AreLinked, AreAtMost, UpdatedAbove}
 use Rattle.shim_laws_table.specs.Dooms.{min_dead_label, min_dead_label_among}
 use Rattle.shim_laws_table.specs.LoweredLabels.{Labelled, LabelsOnTheWay}
 use Rattle.shim_laws_table.proofs.SameTrees.{same_or_not, no_fork}
-use Rattle.shim_laws_table.proofs.OneChange.{one_state, one_sort}
+use Rattle.shim_laws_table.proofs.OneChange.{one_state, one_status}
 use Rattle.shim_laws_table.proofs.Begun.{counts_begin}
 use Rattle.shim_laws_table.proofs.LabelsBegun.{labels_begin}
 use Rattle.shim_laws_table.proofs.Brought.{counts_follow}
 use Rattle.shim_laws_table.proofs.Linked.{links_follow}
 use Rattle.shim_laws_table.proofs.MinLabels.{min_labels_follow}
-use Rattle.shim_records.specs.Pairs.{stands_of, up_in, counts_in, min_labels_in, known_in, AreOrdered}
+use Rattle.shim_records.specs.Pairs.{record_view, up_in, counts_in, min_labels_in, known_in, AreOrdered}
 use Rattle.shim_records.specs.declared.record.Record.{Record}
 use Rattle.shim_records.proofs.Representing.{map_get}
 use Rattle.shim_laws_table_events.specs.keeping.Tables.{IsRight, IsFit, GoRight, TableInvariant}
@@ -33,15 +33,15 @@ use Rattle.shim_laws_table_events.proofs.keeping.Moved.{from_map}
 use Rattle.shim_laws_table_events.proofs.meetings.Lists.{SamePaths}
 
 module _ {S : Type 0} (o : Ops S) (law : LocalLaws o) (rp : Path) (states states' : List S) (rs behind : List Record) (old new : Node S) (l : S) (a : Node S) (x f : ℕ)
-    (kept : TableInvariant o rp (record { states = states; records = rs }) old) (has : Has states (map stands_of rs) x f l lives)
-    (changed : HasChanged states states' (map stands_of rs) (map stands_of behind) x (state a) (process_status a)) (leaf : is_leaf a ≡ true)
+    (kept : TableInvariant o rp (record { states = states; records = rs }) old) (has : Has states (map record_view rs) x f l lives)
+    (changed : HasChanged states states' (map record_view rs) (map record_view behind) x (state a) (process_status a)) (leaf : is_leaf a ≡ true)
     (path : o.path (state a) ≡ o.path l) (given : o.given (state a) ≡ o.given l) (rep : IsReplaced (place o rp l) (Live l) a old new)
-    (shown : Represents o rp states' (map stands_of behind) new) (ups : up_in behind ≡ up_in rs) where
+    (shown : Represents o rp states' (map record_view behind) new) (ups : up_in behind ≡ up_in rs) where
   abbrev st : List RecordView
-  st = map stands_of rs
+  st = map record_view rs
 
   abbrev st' : List RecordView
-  st' = map stands_of behind
+  st' = map record_view behind
 
   pub same_place : place o rp (state a) ≡ place o rp l
   same_place = ap (λ z. branches (drop (length rp) z)) path
@@ -52,15 +52,15 @@ module _ {S : Type 0} (o : Ops S) (law : LocalLaws o) (rp : Path) (states states
   -- a fork was one before
   pub was_fork : (j d n : ℕ) (t : S) → Has states' st' j d t (forks n) → (j ≢ x) × Has states st j d t (forks n)
   was_fork j d n t h = elim (same_or_not j x) [
-    | inl w ↦ no_fork a n leaf (sym (one_sort states' st' j d changed.first t (state a) (forks n) (process_status a) h (subst (λ z. Has states' st' z changed.first (state a) (process_status a)) (sym w) changed.mine)))
+    | inl w ↦ no_fork a n leaf (sym (one_status states' st' j d changed.first t (state a) (forks n) (process_status a) h (subst (λ z. Has states' st' z changed.first (state a) (process_status a)) (sym w) changed.mine)))
     | inr w ↦ (w, changed.only j d t (forks n) w h)
   ]
 
   few : AreAtMost 4294967295 states' st'
   few j d n t h = kept.few j d n t (was_fork j d n t h).1
 
-  its_record : (r : Record) × (slice_get rs x ≡ Some r) × (stands_of r ≡ used f lives)
-  its_record = from_map stands_of (slice_get rs x) (used f lives) (sym (map_get stands_of rs x) ∙ has.stands_so)
+  its_record : (r : Record) × (slice_get rs x ≡ Some r) × (record_view r ≡ used f lives)
+  its_record = from_map record_view (slice_get rs x) (used f lives) (sym (map_get record_view rs x) ∙ has.view_is)
 
   pub near : length (place o rp (state a)) ≤ 4294967295
   near = subst (λ z. length z ≤ 4294967295) (sym same_place) (kept.fit x f l lives its_record.0 has its_record.1).near
@@ -86,7 +86,7 @@ module _ {S : Type 0} (o : Ops S) (law : LocalLaws o) (rp : Path) (states states
     pub its_own : (r : Path) → c.home ≡ o.path (state a) ++ r → Both (counts_in c rs)
     its_own r home = ((counts_follow o law).own rp states' st' c old new x changed.first (state a) (process_status a) r (counts_in c rs) shown changed.mine home begun.1 way, begun.1)
 
-    -- for others the way up was walked
+    -- for others the counts above were updated
     pub walked : (was is : Read) (after : ℕ → Option Tally) → child_status o c (Live l) ≡ was → child_status o c a ≡ is → o.shares (state a) c ≡ true → UpdatedAbove (up_in behind) 4294967295 4294967295 (counts_in c rs) x was is after → Both after
     walked was is after e g shares updated = (counts_follow o law).updated rp states' st' (up_in behind) c old new (Live l) a 4294967295 4294967295 x changed.first (state a) (process_status a) was is (counts_in c rs) after shown linked few changed.mine rep' e g near shares begun.1 way updated
 

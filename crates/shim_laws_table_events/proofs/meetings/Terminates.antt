@@ -8,7 +8,7 @@ use Rattle.shim_local.specs.Process.{Ops}
 use Rattle.shim_semantics.specs.Nodes.{Node, Nodes, Live, Forked, goes}
 use Rattle.shim_semantics.specs.Places.{at}
 use Rattle.shim_semantics.proofs.HowMany.{clash}
-use Rattle.shim_laws_table.specs.Seen.{lives, forks, seen, how_many_nodes, is_leaf, place, IsAside}
+use Rattle.shim_laws_table.specs.NodeStatus.{lives, forks, seen, how_many_nodes, is_leaf, place, IsAside}
 use Rattle.shim_laws_table.specs.Agrees.{Has}
 use Rattle.shim_laws_table.specs.Places.{IsReplaced}
 use Rattle.shim_laws_table.specs.Counts.{running_of, bit}
@@ -16,10 +16,10 @@ use Rattle.shim_laws_table.specs.Tallied.{is_above}
 use Rattle.shim_laws_table.proofs.Aside.{at_split}
 use Rattle.shim_laws_table.proofs.SameTrees.{aside_or_further, is_put, fork_count, child_counted}
 use Rattle.shim_laws_table.proofs.OneChange.{one_state}
-use Rattle.shim_laws_table.proofs.Way.{way_from, fork_above, untouched, leaf_no_fork, above_its_own}
+use Rattle.shim_laws_table.proofs.PlacesAbove.{way_from, fork_above, untouched, leaf_no_fork, above_its_own}
 use Rattle.shim_laws_table.proofs.Linked.{running_follow}
 use Rattle.shim_laws_table.proofs.Hanging.{tied}
-use Rattle.shim_records.specs.Pairs.{stands_of, up_in}
+use Rattle.shim_records.specs.Pairs.{record_view, up_in}
 use Rattle.shim_records.specs.declared.record.Record.{Record}
 use Rattle.shim_laws_table_events.specs.keeping.Tables.{GoRight, TableInvariant}
 use Rattle.shim_laws_table_events.proofs.keeping.Forks.{Was, carried}
@@ -31,31 +31,31 @@ one_less_is : (now was kept is : ℕ) → now + 1 ≡ was + 0 → kept ≡ was �
 one_less_is now was kept is e f g = omega (arith, e, f, g)
 
 module _ {S : Type 0} (o : Ops S) (rp : Path) (states states' : List S) (rs behind : List Record) (old new : Node S) (l : S) (a : Node S) (x f : ℕ)
-    (kept : TableInvariant o rp (record { states = states; records = rs }) old) (has : Has states (map stands_of rs) x f l lives) (leaf : is_leaf a ≡ true) (done : goes a ≡ false) (rep : IsReplaced (place o rp l) (Live l) a old new)
-    (was_fork : (j d n : ℕ) (t : S) → Has states' (map stands_of behind) j d t (forks n) → (j ≢ x) × Has states (map stands_of rs) j d t (forks n))
+    (kept : TableInvariant o rp (record { states = states; records = rs }) old) (has : Has states (map record_view rs) x f l lives) (leaf : is_leaf a ≡ true) (done : goes a ≡ false) (rep : IsReplaced (place o rp l) (Live l) a old new)
+    (was_fork : (j d n : ℕ) (t : S) → Has states' (map record_view behind) j d t (forks n) → (j ≢ x) × Has states (map record_view rs) j d t (forks n))
     (less : (j : ℕ) (r : Record) → slice_get behind j ≡ Some r → (q : Record) × (slice_get rs j ≡ Some q) × (up_in rs x ≡ Some j → r.running_children ≡ q.running_children - 1) × (up_in rs x ≢ Some j → r.running_children ≡ q.running_children)) where
   abbrev q : List ℕ
   q = place o rp l
 
-  module _ (j g n : ℕ) (t u : S) (ks : Nodes S) (r : Record) (fork : Has states' (map stands_of behind) j g t (forks n)) (e : slice_get behind j ≡ Some r) (now : at (place o rp t) new ≡ Some (Forked u ks)) where
+  module _ (j g n : ℕ) (t u : S) (ks : Nodes S) (r : Record) (fork : Has states' (map record_view behind) j g t (forks n)) (e : slice_get behind j ≡ Some r) (now : at (place o rp t) new ≡ Some (Forked u ks)) where
     abbrev p : List ℕ
     p = place o rp t
 
-    its : Has states (map stands_of rs) j g t (forks n)
+    its : Has states (map record_view rs) j g t (forks n)
     its = (was_fork j g n t fork).1
 
     known : (w : Record) × (slice_get rs j ≡ Some w) × (up_in rs x ≡ Some j → r.running_children ≡ w.running_children - 1) × (up_in rs x ≢ Some j → r.running_children ≡ w.running_children)
     known = less j r e
 
-    -- the parent stands right above
+    -- the parent is right above
     right_above : up_in rs x ≡ Some j → (b : ℕ) × (q ≡ p ++ b ∷ [])
     right_above up =
-        let y = tied o rp states (map stands_of rs) old kept.represents (up_in rs) kept.linked x f j l lives has up in
+        let y = tied o rp states (map record_view rs) old kept.represents (up_in rs) kept.linked x f j l lives has up in
         let b = y.0 in
-        let same : b.parent ≡ t = one_state states (map stands_of rs) j b.first g b.parent t (forks b.many) (forks n) (subst (λ z. Has states (map stands_of rs) z b.first b.parent (forks b.many)) y.1 b.has) its in
+        let same : b.parent ≡ t = one_state states (map record_view rs) j b.first g b.parent t (forks b.many) (forks n) (subst (λ z. Has states (map record_view rs) z b.first b.parent (forks b.many)) y.1 b.has) its in
         (b.branch, b.is ∙ ap (λ z. place o rp z ++ b.branch ∷ []) same)
 
-    -- and who stands right above is the parent
+    -- and who is right above is the parent
     parent_is : (b : ℕ) → q ≡ p ++ b ∷ [] → up_in rs x ≡ Some j
     parent_is b w =
         let v = fork_above p b [] old (Live l) (ap (λ z. at z old) (sym w) ∙ rep.was) in
@@ -67,16 +67,16 @@ module _ {S : Type 0} (o : Ops S) (rp : Path) (states states' : List S) (rs behi
     before : Was o q (Live l) a old new rep leaf {X = ℕ} (λ js. zero) p u ks
     before = carried o q (Live l) a old new rep leaf (λ js. zero) (λ r v is js above was now. refl) p u ks now
 
-    stood : known.0.running_children ≡ running_of before.children
-    stood = kept.running_children j g n t u before.children known.0 its known.1 before.there
+    children_are : known.0.running_children ≡ running_of before.children
+    children_are = kept.running_children j g n t u before.children known.0 its known.1 before.there
 
     above : (b : ℕ) (rest : List ℕ) → q ≡ p ++ b ∷ rest → r.running_children ≡ running_of ks
     above b [] z = one_less_is (running_of ks) (running_of before.children) known.0.running_children r.running_children
         ((running_follow o).right_above old new (Live l) a p b u before.children ks (subst (λ d. IsReplaced d (Live l) a old new) z rep) before.there now ∙ ap (λ d. running_of before.children + bit d) done)
-        stood (known.2 (parent_is b z))
+        children_are (known.2 (parent_is b z))
     above b (d ∷ rest) z =
         known.3 (λ up. let y = right_above up in no_longer p rest y.0 b d (sym y.1 ∙ z))
-        ∙ (stood ∙ sym ((running_follow o).further_above old new (Live l) a p b d rest u before.children ks (subst (λ d. IsReplaced d (Live l) a old new) z rep) before.there now))
+        ∙ (children_are ∙ sym ((running_follow o).further_above old new (Live l) a p b d rest u before.children ks (subst (λ d. IsReplaced d (Live l) a old new) z rep) before.there now))
 
     beside : IsAside p q → (b : Bool) → is_above p q ≡ b → r.running_children ≡ running_of ks
     beside far false w =

@@ -5,10 +5,10 @@ use Rattle.shim_local.specs.Process.{Ops, StopView, AtQuiet, AtNext, AtPut, AtFo
 use Rattle.shim_local.specs.Laws.{LocalLaws}
 use Rattle.shim_semantics.specs.Trees.{Event, Own, Meet, Poison, Close, End}
 use Rattle.shim_semantics.proofs.HowMany.{clash}
-use Rattle.shim_laws_table.specs.Seen.{ProcessStatus, lives, forks}
+use Rattle.shim_laws_table.specs.NodeStatus.{ProcessStatus, lives, forks}
 use Rattle.shim_laws_table.proofs.OneChange.{one_state}
 use Rattle.shim_laws_table.proofs.SameTrees.{same_or_not}
-use Rattle.shim_laws_table_events.specs.keeping.Tables.{TableView, HasProcessState, stands}
+use Rattle.shim_laws_table_events.specs.keeping.Tables.{TableView, HasProcessState, views}
 use Rattle.shim_laws_table.specs.Enabled.{at_step, at_end, at_close, at_home, at_child}
 use Rattle.shim_laws_table_events.specs.queues.Requeueing.{IsAtNumber}
 use Rattle.shim_laws_table_events.specs.queues.RecordDecisions.{IsQuietStepAt}
@@ -49,10 +49,10 @@ module _ {S : Type 0} (o : Ops S) where
     a_step i f l p has path s e = on s e
       where
         other : (x : StopView) → o.stop l ≡ x → (x ≡ AtQuiet → ⊥) → IsQuietStepAt o v i (Own p) → ⊥
-        other x e no_quiet w = no_quiet (sym e ∙ (ap o.stop (one_state v.states (stands v) i f w.first l w.process lives lives has w.has) ∙ w.stands))
+        other x e no_quiet w = no_quiet (sym e ∙ (ap o.stop (one_state v.states (views v) i f w.first l w.process lives lives has w.has) ∙ w.stop_is))
 
         on : (x : StopView) → o.stop l ≡ x → IsQuietStepAt o v i (Own p) ⊎ (IsQuietStepAt o v i (Own p) → ⊥)
-        on AtQuiet e = inl (record { first = f; process = l; has = has; stands = e; is = ap Own (sym path) })
+        on AtQuiet e = inl (record { first = f; process = l; has = has; stop_is = e; is = ap Own (sym path) })
         on AtPut e = inr (other AtPut e (λ z. absurd cc))
         on AtFork e = inr (other AtFork e (λ z. absurd cc))
         on AtFinish e = inr (other AtFinish e (λ z. absurd cc))
@@ -75,7 +75,7 @@ module _ {S : Type 0} (o : Ops S) where
         elim (to_look i w.first w.process w.status_is w.has) [
           | inl l ↦ l
           | inr no_more ↦
-              let was = no_more e ((record_decides o law).told rp behind u e i keeps can is) other in
+              let was = no_more e ((record_decides o law).found rp behind u e i keeps can is) other in
               let could = (record_decides o law).can rp before t e i kept was.0 in
               more i (listed e i could.0 could.1 was.1)
         ];

@@ -8,9 +8,9 @@ use Rattle.shim_base.specs.PathLaws.{channel_ties}
 use Rattle.shim_base.proofs.Facts.{some_same, none_some}
 use Rattle.shim_base.proofs.SamePaths.{same_channel_is, same_channel_refl}
 use Rattle.shim_laws_table.specs.Agrees.{used}
-use Rattle.shim_laws_table.specs.Seen.{ProcessStatus}
+use Rattle.shim_laws_table.specs.NodeStatus.{ProcessStatus}
 use Rattle.shim_laws_table.specs.Counts.{Tally, tally_ready}
-use Rattle.shim_records.specs.Pairs.{stands_of, tally, chans_of, pair_of, min_label_of, counts_in, counts_ready, counts_at, min_labels_in, min_label_at, IsOrdered}
+use Rattle.shim_records.specs.Pairs.{record_view, tally, chans_of, pair_of, min_label_of, counts_in, counts_ready, counts_at, min_labels_in, min_label_at, IsOrdered}
 use Rattle.shim_records.specs.declared.pair.Pair.{Pair}
 use Rattle.shim_records.specs.declared.record.Record.{Record}
 use Rattle.shim_records.proofs.Representing.{map_get}
@@ -32,7 +32,7 @@ pair_at (x ∷ ps) (suc q) p h e =
     let other : same_channel x.chan.channel p.chan.channel ≡ false = channel_ties x.chan.channel p.chan.channel ∙ ap is_eq less in
     ap (λ b. cond b (Some x) (pair_of p.chan.channel ps)) other ∙ pair_at ps q p (behind_first x ps h) e
 
--- the pair of a channel stands in a place
+-- the pair of a channel is in a place
 pub place_of_pair : (c : Channel) (ps : List Pair) (p : Pair) → pair_of c ps ≡ Some p → (q : ℕ) × (slice_get ps q ≡ Some p) × (p.chan.channel ≡ c)
 place_of_pair c [] p e = none_some p e
 place_of_pair c (x ∷ ps) p e = on (same_channel x.chan.channel c) refl e (λ f. place_of_pair c ps p f)
@@ -47,8 +47,8 @@ from_map f None y e = none_some y e
 from_map f (Some z) y e = (z, refl, some_same (f z) y e)
 
 -- the record of a process
-pub record_of : (rs : List Record) (i f : ℕ) (k : ProcessStatus) → slice_get (map stands_of rs) i ≡ Some (used f k) → (r : Record) × (slice_get rs i ≡ Some r)
-record_of rs i f k e = let w = from_map stands_of (slice_get rs i) (used f k) (sym (map_get stands_of rs i) ∙ e) in (w.0, w.1)
+pub record_of : (rs : List Record) (i f : ℕ) (k : ProcessStatus) → slice_get (map record_view rs) i ≡ Some (used f k) → (r : Record) × (slice_get rs i ≡ Some r)
+record_of rs i f k e = let w = from_map record_view (slice_get rs i) (used f k) (sym (map_get record_view rs i) ∙ e) in (w.0, w.1)
 
 -- what a record has for the channel of one of its pairs
 pub counts_of : (c : Channel) (rs : List Record) (i : ℕ) (r : Record) (p : Pair) → slice_get rs i ≡ Some r → pair_of c r.pairs.items ≡ Some p → counts_in c rs i ≡ Some (tally p)

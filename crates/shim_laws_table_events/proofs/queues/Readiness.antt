@@ -9,7 +9,7 @@ use Rattle.shim_semantics.specs.Places.{at, child_at, IsChild, SoundChildren}
 use Rattle.shim_semantics.proofs.PoisonsListed.{at_child as child_there}
 use Rattle.shim_semantics.proofs.Replaced.{sound_at}
 use Rattle.shim_laws_schedules.proofs.Homes.{NotBelow}
-use Rattle.shim_laws_table.specs.Seen.{ProcessStatus, lives, forks, ends, dies, place}
+use Rattle.shim_laws_table.specs.NodeStatus.{ProcessStatus, lives, forks, ends, dies, place}
 use Rattle.shim_laws_table.specs.Counts.{Tally, tally_ready}
 use Rattle.shim_laws_table.specs.Tallied.{IsCounted}
 use Rattle.shim_laws_table.proofs.Hanging.{given_child, given_place}

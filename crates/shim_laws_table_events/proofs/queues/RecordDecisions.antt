@@ -12,7 +12,7 @@ use Rattle.shim_semantics.specs.Trees.{Tree, Event, Own, Meet, Poison, Close, En
 use Rattle.shim_semantics.proofs.PoisonsListed.{at_child as child_there}
 use Rattle.shim_semantics.proofs.Replaced.{sound_at}
 use Rattle.shim_laws_schedules.proofs.Homes.{NotBelow, no_further, child_further}
-use Rattle.shim_laws_table.specs.Seen.{ProcessStatus, lives, forks, place, how_many_nodes}
+use Rattle.shim_laws_table.specs.NodeStatus.{ProcessStatus, lives, forks, place, how_many_nodes}
 use Rattle.shim_laws_table.specs.Counts.{Tally, tally_of, tally_ready}
 use Rattle.shim_laws_table.specs.Dooms.{min_dead_label_among, is_below}
 use Rattle.shim_laws_table.specs.Enabled.{Can, EnabledByRecords, at_step, at_end, at_close, at_home, at_child}
@@ -24,7 +24,7 @@ use Rattle.shim_laws_table.proofs.SameTrees.{seen_some, seen_fork}
 use Rattle.shim_records.specs.Pairs.{tally, pair_of, counts_in}
 use Rattle.shim_records.specs.declared.pair.Pair.{Pair}
 use Rattle.shim_records.specs.declared.record.Record.{Record}
-use Rattle.shim_laws_table_events.specs.keeping.Tables.{TableView, HasProcessState, TableInvariant, stands}
+use Rattle.shim_laws_table_events.specs.keeping.Tables.{TableView, HasProcessState, TableInvariant, views}
 use Rattle.shim_laws_table_events.specs.queues.Requeueing.{IsAtNumber}
 use Rattle.shim_laws_table_events.specs.queues.RecordDecisions.{CanHappenAt, to_step, to_end, to_meet, to_close, to_meet_below, to_poison}
 use Rattle.shim_laws_table_events.proofs.queues.PairsFound.{pair_at, place_of_pair, record_of, counts_of, label_by, pair_by, counts_there}
@@ -70,7 +70,7 @@ module _ {S : Type 0} (o : Ops S) (law : LocalLaws o) (rp : Path) (v : TableView
   child_of : (i g n b f : ℕ) (l k : S) (x : ProcessStatus) (ks : Nodes S) → HasProcessState v i g l (forks n) → b < n → HasProcessState v (g + b) f k x → at (place o rp l) t.root ≡ Some (Forked l ks) → Child l ks b k
   child_of i g n b f l k x ks fork less has there =
       let w = kept.represents.agrees.below i g n l fork b less in
-      let same : w.1 ≡ k = one_state v.states (stands v) (g + b) w.0 f w.1 k w.2 x w.3 has in
+      let same : w.1 ≡ k = one_state v.states (views v) (g + b) w.0 f w.1 k w.2 x w.3 has in
       let placed : place o rp k ≡ place o rp l ++ b ∷ [] = ap (place o rp) (sym same) ∙ w.4 in
       let m = seen_some (at (place o rp k) t.root) k x (kept.represents.agrees.shown (g + b) f k x has) in
       let child : child_at b [] ks ≡ Some m.0 = sym (child_there (place o rp l) b t.root l ks there) ∙ (ap (λ z. at z t.root) (sym placed) ∙ m.1) in
@@ -83,7 +83,7 @@ module _ {S : Type 0} (o : Ops S) (law : LocalLaws o) (rp : Path) (v : TableView
         further = λ c out y r e. out (s.number, h.0) (y ∷ r) (e ∙ (ap (λ z. o.path z ++ y ∷ r) (sym m.2) ∙ child_further o l (state m.0) s.number h.0 (y ∷ r) h.1));
       }
 
-  -- ---- what a record tells can happen
+  -- ---- what can happen by a record
 
   -- a pair of a fork that has its pairs right
   record Counted (i : ℕ) (l : S) (ks : Nodes S) (y : Pair) (c : Channel) : Type 0 where
@@ -103,21 +103,21 @@ module _ {S : Type 0} (o : Ops S) (law : LocalLaws o) (rp : Path) (v : TableView
       }
 
   pub due_can : {e : Event} (i : ℕ) → CanHappenAt o v i e → Can o t e × IsAtNumber o v e i
-  due_can i (to_step f l p has stop path) = (subst (λ z. Can o t (Own z)) path ((by.steps rp v.states (stands v) t i f l kept.represents has).1 stop), at_step i f l p has path)
-  due_can i (to_end f l p has stop path) = (subst (λ z. Can o t (End z)) path ((by.ends rp v.states (stands v) t i f l kept.represents has).1 stop), at_end i f l p has path)
+  due_can i (to_step f l p has stop path) = (subst (λ z. Can o t (Own z)) path ((by.steps rp v.states (views v) t i f l kept.represents has).1 stop), at_step i f l p has path)
+  due_can i (to_end f l p has stop path) = (subst (λ z. Can o t (End z)) path ((by.ends rp v.states (views v) t i f l kept.represents has).1 stop), at_end i f l p has path)
   due_can i (to_meet f l d c has stop same home) = (
-    (by.meets_alone rp v.states (stands v) t c i f l kept.represents has home).1 (ap (λ z. is_next z c) stop ∙ (subst (λ z. is_next (AtNext d) z ≡ true) same (same_channel_refl d.channel))),
+    (by.meets_alone rp v.states (views v) t c i f l kept.represents has home).1 (ap (λ z. is_next z c) stop ∙ (subst (λ z. is_next (AtNext d) z ≡ true) same (same_channel_refl d.channel))),
     at_home i f l lives c has (inl refl) home,
   )
   due_can i (to_close f n l r p has re none path) =
       let w = fork_node i f n l has in (
-        subst (λ z. Can o t (Close z)) path ((by.closes rp v.states (stands v) t i f n l w.0 kept.represents has w.1).1 (sym (kept.running_children i f n l l w.0 r has re w.1) ∙ none)),
+        subst (λ z. Can o t (Close z)) path ((by.closes rp v.states (views v) t i f n l w.0 kept.represents has w.1).1 (sym (kept.running_children i f n l l w.0 r has re w.1) ∙ none)),
         at_close i f n l p has path,
       )
   due_can i (to_meet_below f n q l r y c has re e same home all) =
       let w = fork_node i f n l has in
       let u = counted i f n q l w.0 r y c has w.1 re e same in (
-        (by.meets_forked rp v.states (stands v) t c i f n l w.0 kept.represents has home w.1).1 (ap tally_ready (sym u.counts) ∙ all),
+        (by.meets_forked rp v.states (views v) t c i f n l w.0 kept.represents has home w.1).1 (ap tally_ready (sym u.counts) ∙ all),
         at_home i f l (forks n) c has (inr (n, refl)) home,
       )
   due_can i (to_poison g n q b f l k x r y p c has re e same low less child ready_on path) =
@@ -126,18 +126,18 @@ module _ {S : Type 0} (o : Ops S) (law : LocalLaws o) (rp : Path) (v : TableView
       let m = child_of i g n b f l k x w.0 has less child w.1 in
       let out : NotBelow c (o.path l) = shared_not_below o t.root (place o rp l) (Forked l w.0) c kept.represents.sound w.1 u.shared in
       let is : ready o c m.node ≡ true = ready_is o law rp v t.root kept (g + b) f k x m.node c child m.there (m.further c out) ∙ ready_on in (
-        subst (λ z. Can o t (Poison z c)) path ((by.poisons rp v.states (stands v) t c i g n b f l k x w.0 m.node kept.represents has child less w.1 m.child).1 (u.shared, is, ap (λ z. is_below z (o.handlers l)) (sym u.label) ∙ low)),
+        subst (λ z. Can o t (Poison z c)) path ((by.poisons rp v.states (views v) t c i g n b f l k x w.0 m.node kept.represents has child less w.1 m.child).1 (u.shared, is, ap (λ z. is_below z (o.handlers l)) (sym u.label) ∙ low)),
         at_child i g n b f l k x p c has less child path,
       )
 
-  -- ---- what can happen is told by a record
+  -- ---- what can happen is decided by a record
 
   forked_due : (i f n : ℕ) (l : S) (c : Channel) → HasProcessState v i f l (forks n) → o.path l ≡ c.home → Can o t (Meet c) → CanHappenAt o v i (Meet c)
   forked_due i f n l c has home can =
       let w = fork_node i f n l has in
-      let all : tally_ready (tally_of o c w.0) ≡ true = (by.meets_forked rp v.states (stands v) t c i f n l w.0 kept.represents has home w.1).0 can in
+      let all : tally_ready (tally_of o c w.0) ≡ true = (by.meets_forked rp v.states (views v) t c i f n l w.0 kept.represents has home w.1).0 can in
       let y = counts_there (counts_in c v.records i) (sym (fork_ready o law rp v t.root kept i f n l w.0 c has w.1 (declared_here c l home)) ∙ (by_counts o c l w.0 ∙ all)) in
-      let r = record_of v.records i f (forks n) has.stands_so in
+      let r = record_of v.records i f (forks n) has.view_is in
       let p = pair_by c v.records i r.0 y.0 r.1 y.1 in
       let q = place_of_pair c r.0.pairs.items p.0 p.1 in
       to_meet_below f n q.0 l r.0 p.0 c has r.1 q.1 q.2 home (all_by p.0 y.0 p.2 y.2)
@@ -158,24 +158,24 @@ module _ {S : Type 0} (o : Ops S) (law : LocalLaws o) (rp : Path) (v : TableView
           low)
 
   pub can_due : {e : Event} {i : ℕ} → Can o t e → IsAtNumber o v e i → CanHappenAt o v i e
-  can_due can (at_step i f l p has path) = to_step f l p has ((by.steps rp v.states (stands v) t i f l kept.represents has).0 (subst (λ z. Can o t (Own z)) (sym path) can)) path
-  can_due can (at_end i f l p has path) = to_end f l p has ((by.ends rp v.states (stands v) t i f l kept.represents has).0 (subst (λ z. Can o t (End z)) (sym path) can)) path
+  can_due can (at_step i f l p has path) = to_step f l p has ((by.steps rp v.states (views v) t i f l kept.represents has).0 (subst (λ z. Can o t (Own z)) (sym path) can)) path
+  can_due can (at_end i f l p has path) = to_end f l p has ((by.ends rp v.states (views v) t i f l kept.represents has).0 (subst (λ z. Can o t (End z)) (sym path) can)) path
   can_due can (at_close i f n l p has path) =
       let w = fork_node i f n l has in
-      let r = record_of v.records i f (forks n) has.stands_so in
-      to_close f n l r.0 p has r.1 (kept.running_children i f n l l w.0 r.0 has r.1 w.1 ∙ (by.closes rp v.states (stands v) t i f n l w.0 kept.represents has w.1).0 (subst (λ z. Can o t (Close z)) (sym path) can)) path
+      let r = record_of v.records i f (forks n) has.view_is in
+      to_close f n l r.0 p has r.1 (kept.running_children i f n l l w.0 r.0 has r.1 w.1 ∙ (by.closes rp v.states (views v) t i f n l w.0 kept.represents has w.1).0 (subst (λ z. Can o t (Close z)) (sym path) can)) path
   can_due can (at_home i f l k c has (inl lively) home) =
       let is : HasProcessState v i f l lives = subst (HasProcessState v i f l) lively has in
-      let d = next_is (o.stop l) c ((by.meets_alone rp v.states (stands v) t c i f l kept.represents is home).0 can) in
+      let d = next_is (o.stop l) c ((by.meets_alone rp v.states (views v) t c i f l kept.represents is home).0 can) in
       to_meet f l d.0 c is d.1 d.2 home
   can_due can (at_home i f l k c has (inr fork) home) = forked_due i f fork.0 l c (subst (HasProcessState v i f l) fork.1 has) home can
   can_due can (at_child i g n b f l k x p c has less child path) =
       let w = fork_node i g n l has in
       let m = child_of i g n b f l k x w.0 has less child w.1 in
-      let h = (by.poisons rp v.states (stands v) t c i g n b f l k x w.0 m.node kept.represents has child less w.1 m.child).0 (subst (λ z. Can o t (Poison z c)) (sym path) can) in
+      let h = (by.poisons rp v.states (views v) t c i g n b f l k x w.0 m.node kept.represents has child less w.1 m.child).0 (subst (λ z. Can o t (Poison z c)) (sym path) can) in
       let out : NotBelow c (o.path l) = shared_not_below o t.root (place o rp l) (Forked l w.0) c kept.represents.sound w.1 h.0 in
       let y = doomed_pair i g n l w.0 c has w.1 h.0 h.2 in
-      let r = record_of v.records i g (forks n) has.stands_so in
+      let r = record_of v.records i g (forks n) has.view_is in
       let z = pair_by c v.records i r.0 y.0 r.1 y.1 in
       let q = place_of_pair c r.0.pairs.items z.0 z.1 in
       let u = counted i g n q.0 l w.0 r.0 z.0 c has w.1 r.1 q.1 q.2 in

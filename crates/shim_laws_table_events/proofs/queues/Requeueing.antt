@@ -6,19 +6,19 @@ use Rattle.shim_local.specs.Laws.{LocalLaws}
 use Rattle.shim_semantics.specs.Nodes.{Node}
 use Rattle.shim_semantics.specs.Places.{branches}
 use Rattle.shim_semantics.specs.Trees.{Event, Own, Meet, Poison, Close, End}
-use Rattle.shim_laws_table.specs.Seen.{ProcessStatus, lives, forks, place}
+use Rattle.shim_laws_table.specs.NodeStatus.{ProcessStatus, lives, forks, place}
 use Rattle.shim_laws_table.specs.Enabled.{at_step, at_end, at_close, at_home, at_child}
 use Rattle.shim_laws_table.proofs.CanHappen.{enabled_are_found}
 use Rattle.shim_laws_table.proofs.Closing.{one_less}
 use Rattle.shim_laws_table.proofs.OneChange.{one_state}
-use Rattle.shim_laws_table_events.specs.keeping.Tables.{TableView, HasProcessState, TableInvariant, stands}
+use Rattle.shim_laws_table_events.specs.keeping.Tables.{TableView, HasProcessState, TableInvariant, views}
 use Rattle.shim_laws_table_events.specs.queues.Requeueing.{IsAtNumber, RequeueingSuffices, EventHasOneOwner}
 use Rattle.shim_laws_table_events.proofs.queues.RecordDecisions.{due_can, can_due}
-use Rattle.shim_laws_table_events.proofs.queues.NoMore.{told_before}
+use Rattle.shim_laws_table_events.proofs.queues.NoMore.{was_possible}
 
 pub requeueing_suffices : {S : Type 0} (o : Ops S) → LocalLaws o → RequeueingSuffices o
 requeueing_suffices o law rp before behind t u again e i kept keeps newly_ready can is out =
-    let w = due_can o law rp before t kept i (told_before o rp before behind u.root again i keeps newly_ready out (can_due o law rp behind u keeps can is)) in
+    let w = due_can o law rp before t kept i (was_possible o rp before behind u.root again i keeps newly_ready out (can_due o law rp behind u keeps can is)) in
     (w.1, w.0)
 
 module _ {S : Type 0} (o : Ops S) (rp : Path) (v : TableView S) where
@@ -56,7 +56,7 @@ module _ {S : Type 0} (o : Ops S) (rp : Path) (v : TableView S) where
     placed (at_home i f l k c has goes home) = record { first = f; process = l; status_is = k; has = has; for = ap to (sym home) }
     placed (at_child i g n b f l k x p c has less child path) =
         let w = kept.represents.agrees.below i g n l has b less in
-        let same : w.1 ≡ k = one_state v.states (stands v) (g + b) w.0 f w.1 k w.2 x w.3 child in
+        let same : w.1 ≡ k = one_state v.states (views v) (g + b) w.0 f w.1 k w.2 x w.3 child in
         record { first = g; process = l; status_is = forks n; has = has; for = (b, ap to (sym path) ∙ (ap (place o rp) (sym same) ∙ w.4)) }
 
     once : (e : Event) (i j : ℕ) → IsAtNumber o v e i → IsAtNumber o v e j → i ≡ j
@@ -67,6 +67,6 @@ module _ {S : Type 0} (o : Ops S) (rp : Path) (v : TableView S) where
 
 pub event_has_one_owner : {S : Type 0} (o : Ops S) → LocalLaws o → EventHasOneOwner o
 event_has_one_owner o law = record {
-  somewhere = λ rp v t e kept can. enabled_are_found o rp v.states (stands v) t e kept.represents can;
+  somewhere = λ rp v t e kept can. enabled_are_found o rp v.states (views v) t e kept.represents can;
   once = λ rp v root e i j kept a b. once o rp v root kept e i j a b;
 }

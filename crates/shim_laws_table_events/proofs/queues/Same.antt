@@ -1,18 +1,18 @@
--- What a record told that says what it said, and numbers to look at again, call by call.
+-- What could happen by a record that says what it said; and numbers to look at again, call by call.
 use Rattle.std.proofs.Common.{◌≡◌, ℕ, Bool, true, false, ◌||◌, Option, Some, None, refl, sym, ap, ◌∙◌}
 use Rattle.std.specs.Prelude.{slice_get}
 use Rattle.std.specs.Option.{option_map}
-use Rattle.shim_laws_table.specs.Seen.{ProcessStatus}
-use Rattle.shim_records.specs.Pairs.{stands_of, stands_by, counts_at, min_label_at, up_in, up_at, rest_of, UncountedRecord}
+use Rattle.shim_laws_table.specs.NodeStatus.{ProcessStatus}
+use Rattle.shim_records.specs.Pairs.{record_view, status_view, counts_at, min_label_at, up_in, up_at, rest_of, UncountedRecord}
 use Rattle.shim_records.specs.declared.record.Record.{Record}
 use Rattle.shim_records.proofs.Representing.{map_get}
 use Rattle.shim_laws_table_events.specs.keeping.Tables.{TableView, HasProcessState}
 use Rattle.shim_laws_table_events.specs.queues.Requeueing.{IsAsBefore}
 use Rattle.shim_laws_table_events.proofs.queues.PairsFound.{from_map}
 
-stands_rest : (x : Option Record) → option_map stands_of x ≡ option_map (λ (z : UncountedRecord). stands_by z.first z.status) (option_map rest_of x)
-stands_rest None = refl
-stands_rest (Some r) = refl
+view_of_rest : (x : Option Record) → option_map record_view x ≡ option_map (λ (z : UncountedRecord). status_view z.first z.status) (option_map rest_of x)
+view_of_rest None = refl
+view_of_rest (Some r) = refl
 
 abbrev parent_of : Option UncountedRecord → Option ℕ
 parent_of None = None
@@ -32,9 +32,9 @@ module _ {S : Type 0} where
     pub was_there : (f : ℕ) (s : S) (k : ProcessStatus) → HasProcessState behind i f s k → HasProcessState before i f s k
     was_there f s k has = record {
       state_is = sym state ∙ has.state_is;
-      stands_so =
-          map_get stands_of before.records i ∙ (stands_rest (slice_get before.records i) ∙ (ap (option_map (λ (z : UncountedRecord). stands_by z.first z.status)) (sym rest)
-          ∙ (sym (stands_rest (slice_get behind.records i)) ∙ (sym (map_get stands_of behind.records i) ∙ has.stands_so))));
+      view_is =
+          map_get record_view before.records i ∙ (view_of_rest (slice_get before.records i) ∙ (ap (option_map (λ (z : UncountedRecord). status_view z.first z.status)) (sym rest)
+          ∙ (sym (view_of_rest (slice_get behind.records i)) ∙ (sym (map_get record_view behind.records i) ∙ has.view_is))));
     }
 
     -- and so was its record, with as many children that go on

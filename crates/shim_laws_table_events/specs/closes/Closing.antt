@@ -4,13 +4,13 @@ use Rattle.shim_base.specs.Paths.{Path, Channel}
 use Rattle.shim_local.specs.Process.{Ops}
 use Rattle.shim_local.specs.Laws.{IsGiven}
 use Rattle.shim_semantics.specs.Nodes.{Death}
-use Rattle.shim_laws_table.specs.Seen.{ProcessStatus, lives, forks, ends, dies}
+use Rattle.shim_laws_table.specs.NodeStatus.{ProcessStatus, lives, forks, ends, dies}
 use Rattle.shim_laws_table.specs.Agrees.{used}
 use Rattle.shim_records.specs.Members.{IsAmong}
 use Rattle.shim_records.specs.Blocks.{IsFreed}
 use Rattle.shim_records.specs.CountingOff.{HasCountedOff}
-use Rattle.shim_records.specs.Pairs.{stands_of}
-use Rattle.shim_records.specs.Recounting.{IsRecounted}
+use Rattle.shim_records.specs.Pairs.{record_view}
+use Rattle.shim_records.specs.Recomputing.{IsRecomputed}
 use Rattle.shim_records.specs.declared.pair.Pair.{Pair}
 use Rattle.shim_records.specs.declared.record.Record.{Record}
 
@@ -34,7 +34,7 @@ pub record AreFreed (g n : ℕ) (before behind : List Record) : Type 0 where
 -- the record of a process whose fork has closed, which has this status now
 pub record HasCome (before behind : Record) (k : ProcessStatus) : Type 0 where
   pub first : ℕ
-  pub stands_so : stands_of behind ≡ used first k
+  pub view_is : record_view behind ≡ used first k
   pub parent : behind.parent ≡ before.parent
   pub path : behind.path ≡ before.path
   pub no_pairs : behind.pairs.items ≡ []
@@ -47,18 +47,18 @@ CountsOffIfOver ends x before behind = HasCountedOff x before behind
 CountsOffIfOver (dies d) x before behind = HasCountedOff x before behind
 
 -- For each of these channels the labels above the record x were read off again.
-pub data AllRecounted {S : Type 0} (o : Ops S) (states : List S) (n x : ℕ) : List Channel → List Record → List Record → Type 0 where
-  none_left : (rs : List Record) → AllRecounted o states n x [] rs rs
-  one_more : (c : Channel) (cs : List Channel) (before between behind : List Record) → IsRecounted o c states n x before between → AllRecounted o states n x cs between behind → AllRecounted o states n x (c ∷ cs) before behind
+pub data AllRecomputed {S : Type 0} (o : Ops S) (states : List S) (n x : ℕ) : List Channel → List Record → List Record → Type 0 where
+  none_left : (rs : List Record) → AllRecomputed o states n x [] rs rs
+  one_more : (c : Channel) (cs : List Channel) (before between behind : List Record) → IsRecomputed o c states n x before between → AllRecomputed o states n x cs between behind → AllRecomputed o states n x (c ∷ cs) before behind
 
 -- so it is for all channels that the process s was given and shares
-pub record GivenRecounted {S : Type 0} (o : Ops S) (states : List S) (s : S) (n x : ℕ) (before behind : List Record) : Type 0 where
+pub record GivenRecomputed {S : Type 0} (o : Ops S) (states : List S) (s : S) (n x : ℕ) (before behind : List Record) : Type 0 where
   pub chans : List Channel
-  pub recounted : AllRecounted o states n x chans before behind
+  pub recomputed : AllRecomputed o states n x chans before behind
   pub all : (c : Channel) → IsGiven o s c → o.shares s c ≡ true → IsAmong c chans
   pub shared : (c : Channel) → IsAmong c chans → o.shares s c ≡ true
 
 -- so it is where a child of it died; else no record has changed
-abbrev pub RecountedIf : {S : Type 0} → Option Death → Ops S → List S → S → ℕ → ℕ → List Record → List Record → Type 0
-RecountedIf None o states s n x before behind = behind ≡ before
-RecountedIf (Some d) o states s n x before behind = GivenRecounted o states s n x before behind
+abbrev pub RecomputedIf : {S : Type 0} → Option Death → Ops S → List S → S → ℕ → ℕ → List Record → List Record → Type 0
+RecomputedIf None o states s n x before behind = behind ≡ before
+RecomputedIf (Some d) o states s n x before behind = GivenRecomputed o states s n x before behind

@@ -1,12 +1,12 @@
--- How a process forks where states and records stand side by side, and what comes of the tree that they show.
+-- How a process forks where states and records are side by side, and what comes of the tree that they show.
 use Rattle.std.specs.Prelude.{◌≡◌, ◌<◌, ◌≤◌, ℕ, ◌+◌, true, false, Some, List, [], ◌∷◌, cond, slice_get, slice_set, length}
 use Rattle.shim_base.specs.Paths.{Channel}
 use Rattle.shim_local.specs.Process.{Ops, AtFork, Parted, Trapped}
 use Rattle.shim_semantics.specs.Trees.{Own}
-use Rattle.shim_laws_table.specs.Seen.{ProcessStatus, lives, forks}
+use Rattle.shim_laws_table.specs.NodeStatus.{ProcessStatus, lives, forks}
 use Rattle.shim_laws_table.specs.Agrees.{used}
 use Rattle.shim_laws_table.specs.Counts.{live_child_status, tally_ready}
-use Rattle.shim_records.specs.Pairs.{tally, child_status_of, stands_of}
+use Rattle.shim_records.specs.Pairs.{tally, child_status_of, record_view}
 use Rattle.shim_records.specs.Ways.{IsUpdatedAbove}
 use Rattle.shim_records.specs.Fresh.{FreshPairs}
 use Rattle.shim_records.specs.Blocks.{with_block}
@@ -18,7 +18,7 @@ use Rattle.shim_laws_table_events.specs.keeping.Moves.{Performs}
 
 -- the record of a child that has done nothing yet, made by the process with the number x
 pub record IsOfChild {S : Type 0} (o : Ops S) (x : ℕ) (k : S) (r : Record) : Type 0 where
-  pub lives_on : stands_of r ≡ used 0 lives
+  pub lives_on : record_view r ≡ used 0 lives
   pub parent : r.parent ≡ Some x
   pub path : r.path ≡ o.path k
   pub no_pairs : r.pairs.items ≡ []
@@ -36,7 +36,7 @@ pub record AreOfChildren {S : Type 0} (o : Ops S) (x : ℕ) (ks : List S) (born 
 
 -- the record of a process that has forked, whose first child has the number g
 pub record IsOfFork {S : Type 0} (o : Ops S) (g : ℕ) (p : S) (ks : List S) (before r : Record) : Type 0 where
-  pub forked : stands_of r ≡ used g (forks (length ks))
+  pub forked : record_view r ≡ used g (forks (length ks))
   pub parent : r.parent ≡ before.parent
   pub path : r.path ≡ before.path
   pub running_children : r.running_children ≡ length ks
@@ -54,7 +54,7 @@ pub data EachUpdatedAbove (n x : ℕ) : List Channel → List Record → List Re
       → child_status_of was ≡ live_child_status false → child_status_of is ≡ live_child_status true
       → IsUpdatedAbove c n x was is before between → EachUpdatedAbove n x cs between behind → EachUpdatedAbove n x (c ∷ cs) before behind
 
--- The process with the number x forked and stands as p: its children's states and records were put together from the number g on, in place of free ones or behind all others, and the counts above follow.
+-- The process with the number x forked and is as p: its children's states and records were put together from the number g on, in place of free ones or behind all others, and the counts above follow.
 pub record ForksAt {S : Type 0} (o : Ops S) (x g : ℕ) (p : S) (ks : List S) (before behind : TableView S) : Type 0 where
   pub was : Record
   pub is : Record

@@ -5,7 +5,7 @@ use Rattle.shim_local.specs.Process.{Ops, StopView, AtQuiet, AtNext, AtPut, AtFo
 use Rattle.shim_semantics.specs.Nodes.{Node, Live, Ended, Dead, goes}
 use Rattle.shim_semantics.specs.Acts.{Effects, act_live}
 use Rattle.shim_semantics.specs.Trees.{Event, Own, End}
-use Rattle.shim_laws_table.specs.Seen.{lives}
+use Rattle.shim_laws_table.specs.NodeStatus.{lives}
 use Rattle.shim_records.specs.Acted.{process_status_of, AllUpdated}
 use Rattle.shim_records.specs.Died.{IsTaken}
 use Rattle.shim_records.specs.CountingOff.{HasCountedOff}
@@ -35,8 +35,8 @@ left_by l code.Live = Live l
 left_by l (code.Forked n) = Live l
 
 -- the record with this status
-abbrev pub marked : Status → Record → Record
-marked k r = record { status = k; first = r.first; parent = r.parent; path = r.path; running_children = r.running_children; pairs = r.pairs }
+abbrev pub with_status : Status → Record → Record
+with_status k r = record { status = k; first = r.first; parent = r.parent; path = r.path; running_children = r.running_children; pairs = r.pairs }
 
 -- the label of a death is taken in above, and where there is none nothing is done
 abbrev pub TakesIn : {S : Type 0} → Ops S → S → Status → ℕ → ℕ → List Record → List Record → Type 0
@@ -52,7 +52,7 @@ pub record Terminates {S : Type 0} (o : Ops S) (s : S) (k : Status) (n x : ℕ) 
   pub there : slice_get before x ≡ Some was
   pub labelled : List Record
   pub counted : List Record
-  pub takes : TakesIn o s k n x (slice_set before x (marked k was)) labelled
+  pub takes : TakesIn o s k n x (slice_set before x (with_status k was)) labelled
   pub updated : AllUpdated o s (process_status_of k) n x labelled counted
   pub left : HasCountedOff x counted behind
 

@@ -6,7 +6,7 @@ use Rattle.shim_local.specs.Laws.{IsGiven}
 use Rattle.shim_semantics.specs.Nodes.{Node, Nodes, Forked, state}
 use Rattle.shim_semantics.specs.Places.{at, child_at}
 use Rattle.shim_semantics.specs.Sound.{carriers}
-use Rattle.shim_laws_table.specs.Seen.{forks, place, how_many_nodes}
+use Rattle.shim_laws_table.specs.NodeStatus.{forks, place, how_many_nodes}
 use Rattle.shim_laws_table.specs.Agrees.{RecordView, Has}
 use Rattle.shim_records.specs.declared.pair.Sharing.{Sharing}
 
@@ -21,4 +21,4 @@ pub record Knows {S : Type 0} (o : Ops S) (c : Channel) (l : S) (ks : Nodes S) (
 
 -- What records know of a channel: a number's knowledge, if it has any. It is that of the node in its place.
 abbrev pub AreKnown : {S : Type 0} → Ops S → Path → List S → List RecordView → Channel → (ℕ → Option Sharing) → Node S → Type 0
-AreKnown {S} o rp records stands c known root = (i f n : ℕ) (s : S) (k : Sharing) (l : S) (ks : Nodes S) → Has records stands i f s (forks n) → known i ≡ Some k → at (place o rp s) root ≡ Some (Forked l ks) → Knows o c l ks k
+AreKnown {S} o rp records views c known root = (i f n : ℕ) (s : S) (k : Sharing) (l : S) (ks : Nodes S) → Has records views i f s (forks n) → known i ≡ Some k → at (place o rp s) root ≡ Some (Forked l ks) → Knows o c l ks k

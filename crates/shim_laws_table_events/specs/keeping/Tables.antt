@@ -4,13 +4,13 @@ use Rattle.shim_base.specs.Paths.{Path, Channel}
 use Rattle.shim_local.specs.Process.{Ops}
 use Rattle.shim_semantics.specs.Nodes.{Node, Nodes, Forked}
 use Rattle.shim_semantics.specs.Places.{at}
-use Rattle.shim_laws_table.specs.Seen.{ProcessStatus, lives, forks, place}
+use Rattle.shim_laws_table.specs.NodeStatus.{ProcessStatus, lives, forks, place}
 use Rattle.shim_laws_table.specs.Agrees.{RecordView, used, Has, Represents}
 use Rattle.shim_laws_table.specs.Counts.{running_of}
 use Rattle.shim_laws_table.specs.Tallied.{Tallied, HaveCounts}
 use Rattle.shim_laws_table.specs.Updating.{AreLinked, AreAtMost}
 use Rattle.shim_laws_table.specs.LoweredLabels.{Labelled}
-use Rattle.shim_records.specs.Pairs.{stands_of, up_in, counts_in, min_labels_in, known_in, AreOrdered}
+use Rattle.shim_records.specs.Pairs.{record_view, up_in, counts_in, min_labels_in, known_in, AreOrdered}
 use Rattle.shim_records.specs.declared.record.Record.{Record}
 use Rattle.shim_laws_table_events.specs.keeping.Knowing.{AreKnown}
 
@@ -20,18 +20,18 @@ pub record TableView (S : Type 0) : Type 0 where
   pub records : List Record
 
 -- what the records say of their processes
-abbrev pub stands : {S : Type 0} → TableView S → List RecordView
-stands v = map stands_of v.records
+abbrev pub views : {S : Type 0} → TableView S → List RecordView
+views v = map record_view v.records
 
 -- The record with this number is in use, with this first child, state and status.
 abbrev pub HasProcessState : {S : Type 0} → TableView S → ℕ → ℕ → S → ProcessStatus → Type 0
-HasProcessState v i first s k = Has v.states (stands v) i first s k
+HasProcessState v i first s k = Has v.states (views v) i first s k
 
 -- what the records keep for a channel is right: there are counts just where they belong, and they and the labels are those of the tree
 pub record IsRight {S : Type 0} (o : Ops S) (rp : Path) (v : TableView S) (root : Node S) (c : Channel) : Type 0 where
-  pub there : HaveCounts o rp v.states (stands v) c (counts_in c v.records) root
-  pub counts : Tallied o rp v.states (stands v) c (counts_in c v.records) root
-  pub labels : Labelled o rp v.states (stands v) c (counts_in c v.records) (min_labels_in c v.records) root
+  pub there : HaveCounts o rp v.states (views v) c (counts_in c v.records) root
+  pub counts : Tallied o rp v.states (views v) c (counts_in c v.records) root
+  pub labels : Labelled o rp v.states (views v) c (counts_in c v.records) (min_labels_in c v.records) root
 
 -- of each fork as many children go on as its record says
 abbrev pub GoRight : {S : Type 0} → Ops S → Path → TableView S → Node S → Type 0
@@ -45,13 +45,13 @@ pub record IsFit {S : Type 0} (o : Ops S) (rp : Path) (s : S) (r : Record) : Typ
 
 -- The records show a sound tree, and all that they say beside that is as it is there. The root's path is rp.
 pub record TableInvariant {S : Type 0} (o : Ops S) (rp : Path) (v : TableView S) (root : Node S) : Type 0 where
-  pub represents : Represents o rp v.states (stands v) root
-  pub linked : AreLinked v.states (stands v) (up_in v.records)
-  pub few : AreAtMost 4294967295 v.states (stands v)
+  pub represents : Represents o rp v.states (views v) root
+  pub linked : AreLinked v.states (views v) (up_in v.records)
+  pub few : AreAtMost 4294967295 v.states (views v)
   pub ordered : AreOrdered v.records
   pub right : (c : Channel) → IsRight o rp v root c
   pub running_children : GoRight o rp v root
-  pub known : (c : Channel) → AreKnown o rp v.states (stands v) c (known_in c v.records) root
+  pub known : (c : Channel) → AreKnown o rp v.states (views v) c (known_in c v.records) root
   pub fit : (i f : ℕ) (s : S) (k : ProcessStatus) (r : Record) → HasProcessState v i f s k → slice_get v.records i ≡ Some r → IsFit o rp s r
   pub beside : length v.states ≡ length v.records
 
@@ -61,7 +61,7 @@ HasTableInvariant {S} o v = (rp : Path) × (root : Node S) × TableInvariant o r
 
 -- the record of a root that lives
 pub record IsOfRoot {S : Type 0} (o : Ops S) (root : S) (r : Record) : Type 0 where
-  pub lives_on : stands_of r ≡ used 0 lives
+  pub lives_on : record_view r ≡ used 0 lives
   pub no_parent : r.parent ≡ None
   pub path : r.path ≡ o.path root
   pub no_pairs : r.pairs.items ≡ []

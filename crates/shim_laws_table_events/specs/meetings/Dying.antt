@@ -14,10 +14,10 @@ dead_record r label = record { status = Dead (death label); first = r.first; par
 
 -- the record x says so, the counts above were updated and the label taken in through at most n forks, and its fork has one child less that goes on
 pub record DiesAt {S : Type 0} (o : Ops S) (s : S) (label n x : ℕ) (before behind : List Record) : Type 0 where
-  pub stood : Record
-  pub there : slice_get before x ≡ Some stood
+  pub old_record : Record
+  pub there : slice_get before x ≡ Some old_record
   pub counted : List Record
   pub labelled : List Record
-  pub killed : IsKilled o s n x (slice_set before x (dead_record stood label)) counted
+  pub killed : IsKilled o s n x (slice_set before x (dead_record old_record label)) counted
   pub taken : IsTaken o s label n x counted labelled
   pub left : HasCountedOff x labelled behind

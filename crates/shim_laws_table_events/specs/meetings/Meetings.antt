@@ -4,17 +4,17 @@ use Rattle.shim_base.specs.Paths.{Path, Channel, NamedChannel}
 use Rattle.shim_local.specs.Process.{Ops, AtNext}
 use Rattle.shim_semantics.specs.Nodes.{Node, is_next, source, value_of}
 use Rattle.shim_semantics.specs.Trees.{Tree, Event, Meet}
-use Rattle.shim_laws_table.specs.Seen.{ProcessStatus, lives}
+use Rattle.shim_laws_table.specs.NodeStatus.{ProcessStatus, lives}
 use Rattle.shim_laws_table.specs.Changes.{HaveReceived}
 use Rattle.shim_laws_table.specs.Enabled.{Can}
-use Rattle.shim_laws_table_events.specs.keeping.Tables.{TableView, stands, HasProcessState, TableInvariant}
+use Rattle.shim_laws_table_events.specs.keeping.Tables.{TableView, views, HasProcessState, TableInvariant}
 use Rattle.shim_laws_table_events.specs.keeping.Moves.{Performs}
 use Rattle.shim_laws_table_events.specs.meetings.Receiving.{MovesOn}
 use Rattle.shim_laws_table_events.specs.meetings.Sharers.{ListsSharers, ListsReceivers}
 
--- the process with this number has received the value, if it lives and stands at the channel
+-- the process with this number has received the value, if it lives and is at the channel
 pub data ReceivesOne {S : Type 0} (o : Ops S) (c : Channel) (v : ℤ) (i : ℕ) (before behind : TableView S) : Type 0 where
-  stands_elsewhere : ((f : ℕ) (l : S) → HasProcessState before i f l lives → is_next (o.stop l) c ≡ false) → behind ≡ before → ReceivesOne o c v i before behind
+  not_at_channel : ((f : ℕ) (l : S) → HasProcessState before i f l lives → is_next (o.stop l) c ≡ false) → behind ≡ before → ReceivesOne o c v i before behind
   received : (f : ℕ) (l : S) (d : NamedChannel) → HasProcessState before i f l lives → o.stop l ≡ AtNext d → d.channel ≡ c → behind.states ≡ slice_set before.states i (o.receive l v)
       → MovesOn o (o.receive l v) d.channel 4294967295 i before.records behind.records → ReceivesOne o c v i before behind
 
@@ -39,11 +39,11 @@ pub record Declares {S : Type 0} (o : Ops S) (v : TableView S) (i : ℕ) (c : Ch
 abbrev pub HasValue : {S : Type 0} → Ops S → TableView S → Channel → ℤ → Type 0
 HasValue {S} o v c x = (rp : Path) (root : Node S) → TableInvariant o rp v root → x ≡ value_of o c (source o c root)
 
--- each live process that stood at the channel has received the value, and nothing else has changed of what is shown
+-- each live process that was at the channel has received the value, and nothing else has changed of what is shown
 abbrev pub AllReceived : {S : Type 0} → Ops S → Channel → ℤ → TableView S → TableView S → Type 0
-AllReceived {S} o c x before behind = (rp : Path) (root : Node S) → TableInvariant o rp before root → (stands behind ≡ stands before) × HaveReceived o c x (stands before) before.states behind.states
+AllReceived {S} o c x before behind = (rp : Path) (root : Node S) → TableInvariant o rp before root → (views behind ≡ views before) × HaveReceived o c x (views before) before.states behind.states
 
--- Where a meeting is enabled, and all that stand at the channel receive the value of its source one after the other, the tree moves by the meeting.
+-- Where a meeting is enabled, and all that are at the channel receive the value of its source one after the other, the tree moves by the meeting.
 abbrev pub MeetingPreserves : {S : Type 0} → Ops S → Type 0
 MeetingPreserves {S} o = (before behind : TableView S) (c : Channel) (numbers : List ℕ) (x : ℤ) → IsEnabled o (Meet c) before → ListsReceivers o before c numbers → HasValue o before c x → ReceiveAll o c x numbers before behind
     → Performs o (Meet c) before behind × AllReceived o c x before behind

@@ -4,12 +4,12 @@ use Rattle.shim_base.specs.Paths.{Path, Channel, NamedChannel}
 use Rattle.shim_local.specs.Process.{Ops, AtNext}
 use Rattle.shim_semantics.specs.Nodes.{Node, is_next, first_name}
 use Rattle.shim_semantics.specs.Trees.{Meet}
-use Rattle.shim_laws_table.specs.Seen.{lives}
+use Rattle.shim_laws_table.specs.NodeStatus.{lives}
 use Rattle.shim_laws_table_events.specs.keeping.Tables.{TableView, HasProcessState, TableInvariant}
 use Rattle.shim_laws_table_events.specs.meetings.Sharers.{ListsSharers}
 use Rattle.shim_laws_table_events.specs.meetings.Meetings.{IsEnabled, Declares}
 
--- the first of these that lives and stands at the channel has this name for it; or none of them lives and stands there
+-- the first of these that lives and is at the channel has this name for it; or none of them lives and is there
 pub data IsFirstName {S : Type 0} (o : Ops S) (v : TableView S) (c : Channel) : List ℕ → Option ℕ → Type 0 where
   nobody : IsFirstName o v c [] None
   later : (i : ℕ) (is : List ℕ) (x : Option ℕ) → ((f : ℕ) (l : S) → HasProcessState v i f l lives → is_next (o.stop l) c ≡ false) → IsFirstName o v c is x → IsFirstName o v c (i ∷ is) x

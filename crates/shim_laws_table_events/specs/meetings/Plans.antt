@@ -4,7 +4,7 @@ use Rattle.shim_base.specs.Paths.{Path, Channel}
 use Rattle.shim_local.specs.Process.{Ops}
 use Rattle.shim_semantics.specs.Nodes.{Node}
 use Rattle.shim_semantics.specs.Trees.{Meet}
-use Rattle.shim_laws_table.specs.Seen.{ProcessStatus, lives, forks, place}
+use Rattle.shim_laws_table.specs.NodeStatus.{ProcessStatus, lives, forks, place}
 use Rattle.shim_records.specs.Pairs.{known_in}
 use Rattle.shim_records.specs.declared.pair.Sharing.{Sharing}
 use Rattle.shim_laws_table_events.specs.keeping.Tables.{TableView, HasProcessState, TableInvariant}
@@ -32,11 +32,11 @@ pub data Plans {S : Type 0} (v : TableView S) (c : Channel) : List ℕ → List 
   finds : (i f : ℕ) (s : S) (ahead found : List ℕ) → HasProcessState v i f s lives → Plans v c ahead found → Plans v c (i ∷ ahead) (i ∷ found)
   goes_below : (i f n : ℕ) (s : S) (k : Sharing) (ahead found : List ℕ) → HasProcessState v i f s (forks n) → known_in c v.records i ≡ Some k → Plans v c (children_between f k ++ ahead) found → Plans v c (i ∷ ahead) found
 
--- What is found from the channel's home on are all that stand at it, and perhaps others that live.
+-- What is found from the channel's home on are all that are at it, and perhaps others that live.
 abbrev pub PlansFind : {S : Type 0} → Ops S → Type 0
 PlansFind {S} o = (v : TableView S) (c : Channel) (i : ℕ) (found : List ℕ) → Declares o v i c → IsEnabled o (Meet c) v → Plans v c (i ∷ []) found → ListsReceivers o v c found
 
--- whoever carries the channel stands at or below the process with this number, which shares it then
+-- whoever carries the channel is at or below the process with this number, which shares it then
 abbrev pub CarriedFrom : {S : Type 0} → Ops S → TableView S → Channel → ℕ → Type 0
 CarriedFrom {S} o v c i = (rp : Path) (root : Node S) → TableInvariant o rp v root → (f : ℕ) × (s : S) × (k : ProcessStatus) × HasProcessState v i f s k
     × ((j g : ℕ) (t : S) (h : ProcessStatus) → HasProcessState v j g t h → o.carries t c ≡ true → (r : List ℕ) × (place o rp t ≡ place o rp s ++ r) × (o.shares s c ≡ true))

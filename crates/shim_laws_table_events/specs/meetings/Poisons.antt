@@ -4,9 +4,9 @@ use Rattle.shim_base.specs.Paths.{Path, Channel}
 use Rattle.shim_local.specs.Process.{Ops}
 use Rattle.shim_semantics.specs.Nodes.{Node, death}
 use Rattle.shim_semantics.specs.Trees.{Poison}
-use Rattle.shim_laws_table.specs.Seen.{ProcessStatus, lives, forks, place}
+use Rattle.shim_laws_table.specs.NodeStatus.{ProcessStatus, lives, forks, place}
 use Rattle.shim_laws_table.specs.Changes.{HaveDied}
-use Rattle.shim_laws_table_events.specs.keeping.Tables.{TableView, stands, HasProcessState, TableInvariant}
+use Rattle.shim_laws_table_events.specs.keeping.Tables.{TableView, views, HasProcessState, TableInvariant}
 use Rattle.shim_laws_table_events.specs.keeping.Moves.{Performs}
 use Rattle.shim_laws_table_events.specs.meetings.Dying.{DiesAt}
 use Rattle.shim_laws_table_events.specs.meetings.Sharers.{ListsSharers}
@@ -38,7 +38,7 @@ pub record IsChildOf {S : Type 0} (v : TableView S) (i : ℕ) (k l : S) : Type 0
 -- each live process that shared the channel at or below the one with this number has died so, and nothing else has changed of what is shown
 abbrev pub AllDied : {S : Type 0} → Ops S → Channel → ℕ → ℕ → TableView S → TableView S → Type 0
 AllDied {S} o c label i before behind = (rp : Path) (root : Node S) (f : ℕ) (k : S) (x : ProcessStatus) → TableInvariant o rp before root → HasProcessState before i f k x
-    → (behind.states ≡ before.states) × HaveDied o rp (place o rp k) c (death label) before.states (stands before) (stands behind)
+    → (behind.states ≡ before.states) × HaveDied o rp (place o rp k) c (death label) before.states (views before) (views behind)
 
 -- Where a child's poison is enabled, and all that live and share the channel at and below it die one after the other of the innermost label in force at its fork, the tree moves by the poison.
 abbrev pub PoisonPreserves : {S : Type 0} → Ops S → Type 0

@@ -3,7 +3,7 @@ use Rattle.std.specs.Prelude.{◌≡◌, ◌≢◌, ℕ, true, List, [], ◌∷�
 use Rattle.shim_base.specs.Paths.{Path, Channel}
 use Rattle.shim_local.specs.Process.{Ops}
 use Rattle.shim_semantics.specs.Nodes.{Node, is_next}
-use Rattle.shim_laws_table.specs.Seen.{ProcessStatus, lives, place}
+use Rattle.shim_laws_table.specs.NodeStatus.{ProcessStatus, lives, place}
 use Rattle.shim_laws_table.specs.Sources.{is_before}
 use Rattle.shim_records.specs.Members.{IsAmong}
 use Rattle.shim_laws_table_events.specs.keeping.Tables.{TableView, HasProcessState, TableInvariant}
@@ -27,7 +27,7 @@ abbrev pub InOrder : {A : Type 0} → (A → A → Type 0) → List A → Type 0
 InOrder R [] = Unit {0}
 InOrder {A} R (x ∷ xs) = ((y : A) → IsAmong y xs → R x y) × InOrder R xs
 
--- none of these stands there twice
+-- none of these is there twice
 abbrev pub AreDistinct : List ℕ → Type 0
 AreDistinct = InOrder (λ x y. x ≢ y)
 
@@ -41,7 +41,7 @@ pub record AreSharers {S : Type 0} (o : Ops S) (rp : Path) (v : TableView S) (c 
 abbrev pub ListsSharers : {S : Type 0} → Ops S → TableView S → Channel → ℕ → List ℕ → Type 0
 ListsSharers {S} o v c i numbers = (rp : Path) (root : Node S) (f : ℕ) (s : S) (k : ProcessStatus) → TableInvariant o rp v root → HasProcessState v i f s k → o.shares s c ≡ true → AreSharers o rp v c (place o rp s) numbers
 
--- each live process that stands at the channel is among these, and none stands there twice
+-- each live process that is at the channel is among these, and none is there twice
 pub record AreReceivers {S : Type 0} (o : Ops S) (v : TableView S) (c : Channel) (numbers : List ℕ) : Type 0 where
   pub distinct : AreDistinct numbers
   pub all : (i f : ℕ) (l : S) → HasProcessState v i f l lives → is_next (o.stop l) c ≡ true → IsAmong i numbers

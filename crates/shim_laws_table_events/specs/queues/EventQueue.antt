@@ -3,7 +3,7 @@ use Rattle.std.specs.Prelude.{◌≡◌, ◌≢◌, ◌⊎◌, ℕ, Bool, true, 
 use Rattle.shim_base.specs.Paths.{Path}
 use Rattle.shim_local.specs.Process.{Ops}
 use Rattle.shim_semantics.specs.Trees.{Tree, Event}
-use Rattle.shim_laws_table.specs.Seen.{ProcessStatus}
+use Rattle.shim_laws_table.specs.NodeStatus.{ProcessStatus}
 use Rattle.shim_laws_table.specs.Enabled.{Can}
 use Rattle.shim_laws_table_events.specs.keeping.Tables.{TableView, HasProcessState, TableInvariant}
 use Rattle.shim_laws_table_events.specs.queues.Requeueing.{IsAtNumber}

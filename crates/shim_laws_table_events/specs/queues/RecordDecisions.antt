@@ -4,7 +4,7 @@ use Rattle.shim_base.specs.Paths.{Path, Channel, NamedChannel}
 use Rattle.shim_local.specs.Process.{Ops, AtQuiet, AtNext}
 use Rattle.shim_semantics.specs.Nodes.{Death, is_next}
 use Rattle.shim_semantics.specs.Trees.{Tree, Event, Own, Meet, Poison, Close, End, Steps, Ends, own_action_at}
-use Rattle.shim_laws_table.specs.Seen.{ProcessStatus, lives, forks, ends, dies}
+use Rattle.shim_laws_table.specs.NodeStatus.{ProcessStatus, lives, forks, ends, dies}
 use Rattle.shim_laws_table.specs.Counts.{Tally, tally_ready}
 use Rattle.shim_laws_table.specs.Dooms.{is_below}
 use Rattle.shim_laws_table.specs.Enabled.{Can}
@@ -27,7 +27,7 @@ IsReady o v c j s k = ready_by o c s k (counts_in c v.records j) ≡ true
 
 -- By the record with this number this event can happen there; it may be a quiet step:
 pub data CanHappenAt {S : Type 0} (o : Ops S) (v : TableView S) (i : ℕ) : Event → Type 0 where
-  -- its process lives, and stands before a step of its own, at its end, or at a channel that it declared
+  -- its process lives, and is before a step of its own, at its end, or at a channel that it declared
   to_step : (f : ℕ) (l : S) (p : Path) → HasProcessState v i f l lives → own_action_at (o.stop l) ≡ Steps → o.path l ≡ p → CanHappenAt o v i (Own p)
   to_end : (f : ℕ) (l : S) (p : Path) → HasProcessState v i f l lives → own_action_at (o.stop l) ≡ Ends → o.path l ≡ p → CanHappenAt o v i (End p)
   to_meet : (f : ℕ) (l : S) (d : NamedChannel) (c : Channel) → HasProcessState v i f l lives → o.stop l ≡ AtNext d → d.channel ≡ c → o.path l ≡ c.home → CanHappenAt o v i (Meet c)
@@ -52,7 +52,7 @@ pub data HasNothingDue {S : Type 0} (o : Ops S) (v : TableView S) (i : ℕ) : Ty
   -- its process has ended or died
   has_ended : (f : ℕ) (l : S) → HasProcessState v i f l ends → HasNothingDue o v i
   has_died : (f : ℕ) (l : S) (d : Death) → HasProcessState v i f l (dies d) → HasNothingDue o v i
-  -- it lives, and stands before a quiet step, or at a channel that another process declared
+  -- it lives, and is before a quiet step, or at a channel that another process declared
   is_quiet : (f : ℕ) (l : S) → HasProcessState v i f l lives → o.stop l ≡ AtQuiet → HasNothingDue o v i
   waits : (f : ℕ) (l : S) (d : NamedChannel) → HasProcessState v i f l lives → o.stop l ≡ AtNext d → o.path l ≢ d.channel.home → HasNothingDue o v i
   -- it has forked, a child goes on, and by each pair nothing can happen
@@ -63,7 +63,7 @@ pub record IsQuietStepAt {S : Type 0} (o : Ops S) (v : TableView S) (i : ℕ) (e
   pub first : ℕ
   pub process : S
   pub has : HasProcessState v i first process lives
-  pub stands : o.stop process ≡ AtQuiet
+  pub stop_is : o.stop process ≡ AtQuiet
   pub is : e ≡ Own (o.path process)
 
 -- Where the table invariant holds, what one record decides:
@@ -71,6 +71,6 @@ pub record RecordDecides {S : Type 0} (o : Ops S) : Type 0 where
   -- what can happen by it is enabled, and is looked for there
   pub can : (rp : Path) (v : TableView S) (t : Tree S) (e : Event) (i : ℕ) → TableInvariant o rp v t.root → CanHappenAt o v i e → Can o t e × IsAtNumber o v e i
   -- what is enabled and is looked for there can happen by it
-  pub told : (rp : Path) (v : TableView S) (t : Tree S) (e : Event) (i : ℕ) → TableInvariant o rp v t.root → Can o t e → IsAtNumber o v e i → CanHappenAt o v i e
+  pub found : (rp : Path) (v : TableView S) (t : Tree S) (e : Event) (i : ℕ) → TableInvariant o rp v t.root → Can o t e → IsAtNumber o v e i → CanHappenAt o v i e
   -- so where nothing but a quiet step can happen by it, nothing else is enabled there
   pub idle : (rp : Path) (v : TableView S) (t : Tree S) (e : Event) (i : ℕ) → TableInvariant o rp v t.root → HasNothingDue o v i → Can o t e → IsAtNumber o v e i → IsQuietStepAt o v i e

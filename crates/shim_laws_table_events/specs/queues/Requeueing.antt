@@ -5,14 +5,14 @@ use Rattle.shim_base.specs.Paths.{Path, Channel}
 use Rattle.shim_local.specs.Process.{Ops}
 use Rattle.shim_semantics.specs.Nodes.{Node}
 use Rattle.shim_semantics.specs.Trees.{Tree, Event}
-use Rattle.shim_laws_table.specs.Seen.{ProcessStatus}
+use Rattle.shim_laws_table.specs.NodeStatus.{ProcessStatus}
 use Rattle.shim_laws_table.specs.Enabled.{Can, IsAt}
 use Rattle.shim_records.specs.Pairs.{up_in, rest_of, counts_in, min_labels_in}
-use Rattle.shim_laws_table_events.specs.keeping.Tables.{TableView, HasProcessState, TableInvariant, stands}
+use Rattle.shim_laws_table_events.specs.keeping.Tables.{TableView, HasProcessState, TableInvariant, views}
 
 -- the event is looked for at the record with this number
 abbrev pub IsAtNumber : {S : Type 0} → Ops S → TableView S → Event → ℕ → Type 0
-IsAtNumber o v e i = IsAt o v.states (stands v) e i
+IsAtNumber o v e i = IsAt o v.states (views v) e i
 
 -- The state with this number is that before, and the record says what it said: of the process, and for each channel.
 pub record IsAsBefore {S : Type 0} (before behind : TableView S) (i : ℕ) : Type 0 where

@@ -8,7 +8,7 @@ use Rattle.shim_answers.proofs.execute.answer_check.Goals as goal
 
 pub returns-in_ok-count_line-in-Ok : goal.returns-in_ok-count_line-in-Ok
 returns-in_ok-count_line-in-Ok c =
-    subst (λ (a : Answer). AnswersDescribedSource Functions c.args.bytes.now a) (sym c.told.ensures)
+    subst (λ (a : Answer). AnswersDescribedSource Functions c.args.bytes.now a) (sym c.described.ensures)
     (of_accepted (AnswersDescription (description_of Functions)) (λ fault a. a ≡ refused fault) c.args.bytes.now c.in-Ok.source _ c.in-Ok.ensures (λ program. (refl, c.in_ok-count_line-in-Ok.ensures)))
 
 pub returns-in-Err : goal.returns-in-Err

@@ -8,7 +8,7 @@ use Rattle.shim_answers.proofs.execute.answer_code.Goals as goal
 
 pub returns-in_ok-listing-in-Ok : goal.returns-in_ok-listing-in-Ok
 returns-in_ok-listing-in-Ok c =
-    subst (λ (a : Answer). AnswersDescribedSource Instructions c.args.bytes.now a) (sym c.told.ensures)
+    subst (λ (a : Answer). AnswersDescribedSource Instructions c.args.bytes.now a) (sym c.described.ensures)
     (of_accepted (AnswersDescription (description_of Instructions)) (λ fault a. a ≡ refused fault) c.args.bytes.now c.in-Ok.source _ c.in-Ok.ensures (λ program. (refl, c.in_ok-listing-in-Ok.ensures)))
 
 pub returns-in-Err : goal.returns-in-Err

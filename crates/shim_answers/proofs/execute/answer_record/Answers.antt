@@ -14,10 +14,10 @@ journal-requires-send-L g c κs = search (body_send, sendable)
 
 pub journal_text-requires : goal.journal_text-requires
 journal_text-requires g c =
-    record { range = journal_in_range (executed c.args.run.job c.args.run.input c.args.run.source) c.in_ok-net.net _ c.in_ok-net.ensures c.journal.ensures }
+    record { range = journal_in_range (executed c.args.run.job c.args.run.input c.args.run.source) c.in_ok-net.net _ c.in_ok-net.ensures c.journal.ensures.entries }
 
 pub returns : goal.returns
 returns g c =
-    record_answered (executed c.args.run.job c.args.run.input c.args.run.source) c.in_ok-net.net _ _ _ _ c.in_ok-net.ensures c.journal.ensures c.in_ok-text.ensures
+    record_answered (executed c.args.run.job c.args.run.input c.args.run.source) c.in_ok-net.net _ _ _ _ c.in_ok-net.ensures c.journal.ensures.entries c.in_ok-text.ensures
     (c.named-end.ensures ∙ (λ i. named (c.main_throws.ensures.value i) (c.in_ok-ended.ensures.ended i)))
     c.of.ensures

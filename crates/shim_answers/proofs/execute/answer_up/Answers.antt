@@ -8,7 +8,7 @@ use Rattle.shim_answers.proofs.execute.answer_up.Goals as goal
 
 pub returns-in_ok-text_in_version_2-in-Ok : goal.returns-in_ok-text_in_version_2-in-Ok
 returns-in_ok-text_in_version_2-in-Ok c =
-    subst (λ (a : Answer). AnswersDescribedSource Version2 c.args.bytes.now a) (sym c.told.ensures)
+    subst (λ (a : Answer). AnswersDescribedSource Version2 c.args.bytes.now a) (sym c.described.ensures)
     (of_accepted_program (AnswersDescription (description_of Version2)) (λ fault a. a ≡ refused fault) c.args.bytes.now c.in-Ok.program _ c.in-Ok.ensures (λ source. (refl, c.in_ok-text_in_version_2-in-Ok.ensures)))
 
 pub returns-in-Err : goal.returns-in-Err

@@ -12,5 +12,5 @@ ended-requires-send-L g c κs = search (body_send, sendable)
 pub returns : goal.returns
 returns g c =
     net_ended (executed c.args.job.now c.args.input c.args.source.now) c.in_ok-net.net c.named.result c.in_ok-net.ensures
-    c.in_ok-ended.ensures.agrees c.in_ok-ended.ensures.told
+    c.in_ok-ended.ensures.agrees c.in_ok-ended.ensures.read_off
     (c.named.ensures ∙ (λ i. named (c.main_throws.ensures.value i) (c.in_ok-ended.ensures.ended i)))

@@ -24,4 +24,4 @@ returns g c =
     let code = c.in_ok-code.ensures ∙ c.in_ok-compile.ensures in
     net_was c.run_net.result (executed c.args.job.now c.args.input c.args.source.now) c.in_ok-main.main c.in_ok-begun.begun
     (c.in_ok-main.ensures.value ∙ (λ i. root (code i) (c.in_ok-input.ensures i)))
-    c.in_ok-begun.ensures c.run_net.ensures.root c.run_net.ensures.budget c.run_net.ensures.keeps c.run_net.ensures.stands
+    c.in_ok-begun.ensures c.run_net.ensures.root c.run_net.ensures.budget c.run_net.ensures.keeps c.run_net.ensures.quiescent_or_spent

@@ -1,6 +1,6 @@
 use Rattle.std.proofs.Common.{◌<◌, slice_index_or, ℕ}
 use Rattle.shim_net.specs.Nets.{OpenGrant}
-use Rattle.shim_net.specs.Taking.{Matches}
+use Rattle.shim_net.specs.Absorbing.{Matches}
 use Rattle.shim_net.proofs.open_grant.place_of.Given as goal
 
 -- the piece is of none before it

@@ -1,28 +1,13 @@
 use Rattle.std.proofs.Common.{refl, arith}
 use Rattle.std.proofs.lemmas.Option.{slice_get_read}
-use Rattle.shim_laws_table.specs.Sufficing.{leaf_status}
-use Rattle.shim_records.specs.Acted.{process_status_of, acting}
-use Rattle.shim_records.proofs.ManyPropagations.{rest_same}
-use Rattle.shim_records.proofs.FullPropagation.{kept_order}
-use Rattle.shim_process_table.proofs.ClosingParts.{settled_order}
+use Rattle.shim_records.specs.Acted.{process_status_of}
 use Rattle.shim_process_table.proofs.Touching.{touches_more}
 use Rattle.shim_process_table.proofs.TouchingCloses.{record_closes}
 use Rattle.shim_process_table.proofs.TouchingOwn.{all_reach}
 use Rattle.shim_process_table.proofs.closing.close_record.Goals as goal
 
-pub update_all_counts-counted-requires-clause-ordered : goal.update_all_counts-counted-requires-clause-ordered
-update_all_counts-counted-requires-clause-ordered g c κs within =
-    settled_order c.args.records.now.items c.count_off_if_over.new.records.items c.args.at c.come_to.new.parent (process_status_of c.args.status) c.requires.ordered c.come_to.ensures.no_pairs c.count_off_if_over.ensures
-
 pub update_all_counts-counted-requires-clause-few : goal.update_all_counts-counted-requires-clause-few
 update_all_counts-counted-requires-clause-few g c κs within = c.requires.few c.index-states-at.result (slice_get_read c.args.states.now _ c.args.at c.index-states-at.result refl c.requires.of_state c.index-states-at.is)
-
-pub recompute_if-labelled-requires-clause-ordered : goal.recompute_if-labelled-requires-clause-ordered
-recompute_if-labelled-requires-clause-ordered g c κs within =
-    let o = g.L.Local.ops in
-    let s = c.index-states-at.result in
-    kept_order c.count_off_if_over.new.records.items c.update_all_counts-counted.new.records.items (rest_same (acting o s) (λ d. leaf_status o d s (process_status_of c.args.status)) 4294967295 c.args.at c.update_all_counts-counted.ensures.counts.updated)
-    (settled_order c.args.records.now.items c.count_off_if_over.new.records.items c.args.at c.come_to.new.parent (process_status_of c.args.status) c.requires.ordered c.come_to.ensures.no_pairs c.count_off_if_over.ensures)
 
 pub returns-clause-closes : goal.returns-clause-closes
 returns-clause-closes g c =
@@ -39,7 +24,7 @@ returns-clause-closes g c =
       come = c.come_to.ensures;
       leaves = c.count_off_if_over.ensures;
       walked = c.update_all_counts-counted.ensures.counts;
-      again = c.recompute_if-labelled.ensures.recounts s there;
+      again = c.recompute_if-labelled.ensures.recomputes s there;
     }
 
 pub returns-clause-touches : goal.returns-clause-touches

@@ -1,11 +1,9 @@
-use Rattle.std.proofs.Common.{rules, refl, sym, subst, arith, ◌≡◌, ◌≤◌, length, get_or, slice_set}
+use Rattle.std.proofs.Common.{rules, refl, subst, arith, ◌≡◌, ◌≤◌, length, get_or, slice_set}
 use Rattle.std.proofs.lemmas.Option.{slice_get_read}
-use Rattle.shim_records.specs.Pairs.{chans_of, IsOrdered, AreOrdered}
 use Rattle.shim_records.specs.Blocks.{with_block}
 use Rattle.shim_records.specs.Fresh.{channels, FreshPairs}
 use Rattle.shim_laws_table_events.specs.forks.Forking.{AreOfChildren, EachUpdatedAbove, ready_chans}
 use Rattle.shim_process_table.specs.Forking.{IsFreeBlock}
-use Rattle.shim_laws_table_events.proofs.forks.Orders.{put_ordered}
 use Rattle.shim_process_table.specs.Touching.{ChangesOnlyRecords}
 use Rattle.shim_process_table.proofs.ForkPut.{put, its_record}
 use Rattle.shim_process_table.proofs.TouchingForks.{forks_touch}
@@ -45,13 +43,3 @@ returns-clause-touches g c =
     let touched = subst (λ z. ChangesOnlyRecords c.update_ready-forks.result x z behind) records c.update_ready-forks.ensures.touches in
     forks_touch o c.update_ready-forks.result x c.in_ok-first.first c.args.fork.parent c.args.fork.children.items c.note_fork.new.parent c.in_ok-born.born.items (record { states = c.args.states.now.items; records = c.args.records.now.items })
     (record { states = c.put_block.new.items.items; records = behind }) c.requires.beside block.inside children put_in touched
-
-pub update_ready-forks-requires : goal.update_ready-forks-requires
-update_ready-forks-requires g c =
-    let o = g.L.Local.ops in
-    let rs = c.args.records.now in
-    let children : AreOfChildren o c.args.fork.number c.args.fork.children.items c.in_ok-born.born.items = search rules in
-    let fresh : FreshPairs o c.args.fork.parent c.args.fork.children.items c.in_ok-pairs.pairs.items = search rules in
-    let records : c.put_block-2.new.items.items ≡ with_block c.in_ok-first.first c.in_ok-born.born.items (slice_set rs.items c.args.fork.number c.note_fork.new.parent) = search rules in
-    subst AreOrdered (sym records)
-    (put_ordered o c.args.fork.number c.in_ok-first.first c.args.fork.children.items rs.items c.in_ok-born.born.items c.note_fork.new.parent c.requires.ordered (subst (λ z. IsOrdered (chans_of z)) (sym c.note_fork.ensures.pairs) fresh.ordered) children)

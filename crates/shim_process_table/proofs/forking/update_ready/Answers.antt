@@ -1,11 +1,7 @@
 use Rattle.std.proofs.Common.{refl, arith}
 use Rattle.std.proofs.lemmas.Option.{slice_get_read}
-use Rattle.shim_records.proofs.FullPropagation.{kept_order}
 use Rattle.shim_process_table.proofs.ReadyWays.{one_way, one_further, all_walked}
 use Rattle.shim_process_table.proofs.forking.update_ready.Goals as goal
-
-pub update_counts_above-reached-requires : goal.update_counts_above-reached-requires
-update_counts_above-reached-requires c = kept_order c.args.records.now.items c.loop-i.records.items c.loop-i.invariant.0.rest c.requires
 
 pub loop-i-preserved : goal.loop-i-preserved
 loop-i-preserved c =

@@ -1,8 +1,7 @@
 use Rattle.std.proofs.Common.{◌≡◌, false, sym, ap, rules}
 use Rattle.shim_base.specs.Paths.{Channel}
 use Rattle.shim_semantics.specs.Nodes.{is_next}
-use Rattle.shim_records.proofs.FullPropagation.{kept_order}
-use Rattle.shim_process_table.proofs.HereMeets.{stays_there, stands_elsewhere}
+use Rattle.shim_process_table.proofs.HereMeets.{stays_there, at_other_channel}
 use Rattle.shim_process_table.proofs.Readied.{stayed_there, moved_there, moved_nowhere}
 use Rattle.shim_process_table.proofs.meeting.move_on.Goals as goal
 
@@ -15,14 +14,11 @@ returns-then-eq-clause-newly_ready g c = stayed_there g.L.Local.ops c.args.proce
 pub returns-then-eq-clause-queue : goal.returns-then-eq-clause-queue
 returns-then-eq-clause-queue g c v i f has = c.queue_at-queue.ensures v i f has (sym c.in-Next.ensures)
 
-pub propagate_stop_above-forks-requires : goal.propagate_stop_above-forks-requires
-propagate_stop_above-forks-requires g c = kept_order c.args.records.now.items c.leave_channel.new.records.items c.leave_channel.ensures.leaves.4.1.rest c.requires
-
 pub returns-else-eq-clause-moves : goal.returns-else-eq-clause-moves
 returns-else-eq-clause-moves g c =
     let come = c.propagate_stop_above-forks in
     let way = come.ensures.counts in
-    stands_elsewhere g.L.Local.ops c.args.process.now c.args.c.now.channel 4294967295 c.args.at c.in-Next.chan.now way.0 way.1 c.args.records.now.items c.leave_channel.new.records.items come.new.records.items (sym c.in-Next.ensures) c.if-eq.ensures
+    at_other_channel g.L.Local.ops c.args.process.now c.args.c.now.channel 4294967295 c.args.at c.in-Next.chan.now way.0 way.1 c.args.records.now.items c.leave_channel.new.records.items come.new.records.items (sym c.in-Next.ensures) c.if-eq.ensures
     c.leave_channel.ensures.leaves way.2 way.3 way.4
 
 pub returns-else-eq-clause-newly_ready : goal.returns-else-eq-clause-newly_ready

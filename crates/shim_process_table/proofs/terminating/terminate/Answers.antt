@@ -1,22 +1,9 @@
 use Rattle.std.proofs.Common.{arith}
 use Rattle.std.proofs.lemmas.Option.{slice_get_read}
 use Rattle.shim_records.specs.Acted.{process_status_of}
-use Rattle.shim_process_table.proofs.Does.{marked_order, taken_order}
 use Rattle.shim_process_table.proofs.Touching.{touches_more}
 use Rattle.shim_process_table.proofs.TouchingOwn.{all_reach, leaves}
 use Rattle.shim_process_table.proofs.terminating.terminate.Goals as goal
-
-pub take_label-labelled-requires-clause-ordered : goal.take_label-labelled-requires-clause-ordered
-take_label-labelled-requires-clause-ordered g c κs within =
-    let rs = c.args.records.now in
-    let r = c.index_mut.result.now in
-    marked_order rs.items c.args.at r c.args.status (slice_get_read rs.items rs.len c.args.at r rs.ok.0 c.requires.within c.index_mut.ensures.value) c.requires.ordered
-
-pub update_all_counts-counted-requires-clause-ordered : goal.update_all_counts-counted-requires-clause-ordered
-update_all_counts-counted-requires-clause-ordered g c κs within =
-    let rs = c.args.records.now in
-    let r = c.index_mut.result.now in
-    taken_order g.L.Local.ops c.args.process.now rs.items c.take_label-labelled.new.records.items 4294967295 c.args.at r c.args.status (slice_get_read rs.items rs.len c.args.at r rs.ok.0 c.requires.within c.index_mut.ensures.value) c.requires.ordered c.take_label-labelled.ensures.takes
 
 pub returns-clause-leaves : goal.returns-clause-leaves
 returns-clause-leaves g c =

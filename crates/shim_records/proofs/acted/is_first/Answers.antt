@@ -2,7 +2,7 @@ use Rattle.std.proofs.Common.{ap, sym, ◌∙◌, arith}
 use Rattle.shim_base.specs.Paths.{same_channel}
 use Rattle.shim_base.proofs.SamePaths.{same_channel_is, same_channel_refl}
 use Rattle.shim_semantics.proofs.HowMany.{clash}
-use Rattle.shim_records.proofs.Walked.{none_earlier, still_none, another, stood_before}
+use Rattle.shim_records.proofs.Walked.{none_earlier, still_none, another, declared_before}
 use Rattle.shim_records.proofs.acted.is_first.Goals.{in-None, in-Some+else-eq}
 use Rattle.shim_records.proofs.acted.is_first.Goals as goal
 
@@ -12,7 +12,7 @@ loop-at-init g c = none_earlier g.L.Local.ops c.args.process.now c.args.c.now.ch
 pub returns-then-eq-clause-again : goal.returns-then-eq-clause-again
 returns-then-eq-clause-again g c same =
     let ch = c.args.c.now.channel in
-    stood_before g.L.Local.ops c.args.process.now ch c.loop-at.at c.args.place c.in-Some.chan.now c.loop-at-test.true (sym c.in-Some.ensures) (same_channel_is c.in-Some.chan.now.channel ch (sym c.if-eq.ensures))
+    declared_before g.L.Local.ops c.args.process.now ch c.loop-at.at c.args.place c.in-Some.chan.now c.loop-at-test.true (sym c.in-Some.ensures) (same_channel_is c.in-Some.chan.now.channel ch (sym c.if-eq.ensures))
 
 pub loop-at-preserved : goal.loop-at-preserved
 loop-at-preserved g c =

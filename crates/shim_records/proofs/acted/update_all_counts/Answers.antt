@@ -1,6 +1,6 @@
 use Rattle.std.proofs.Common.{sym, arith, refl}
 use Rattle.shim_records.specs.Acted.{process_status_of}
-use Rattle.shim_records.proofs.FullPropagation.{kept_order, rest_ups}
+use Rattle.shim_records.proofs.FullPropagation.{rest_ups}
 use Rattle.shim_records.proofs.Walked.{ways, at_first, next, no_more, at_end}
 use Rattle.shim_records.proofs.Reaching.{both_ways}
 use Rattle.shim_records.proofs.acted.update_all_counts.Goals as goal
@@ -11,11 +11,6 @@ loop-place-init g c = (at_first g.L.Local.ops c.args.process.now (process_status
 pub returns-in-None-clause-counts : goal.returns-in-None-clause-counts
 returns-in-None-clause-counts g c =
     no_more g.L.Local.ops c.args.process.now (process_status_of c.args.status) c.args.forks c.args.at c.args.records.now.items c.loop-place.place c.loop-place.records.items (sym c.in-None.ensures) c.loop-place.invariant.0
-
-pub update_for_one-reached-requires-after_bounds : goal.update_for_one-reached-requires-after_bounds
-update_for_one-reached-requires-after_bounds g c κs within =
-    kept_order c.args.records.now.items c.loop-place.records.items
-    (ways g.L.Local.ops c.args.process.now (process_status_of c.args.status) c.args.forks c.args.at c.args.records.now.items c.loop-place.place c.loop-place.records.items c.loop-place.invariant.0) c.requires.ordered
 
 pub loop-place-preserved : goal.loop-place-preserved
 loop-place-preserved g c =

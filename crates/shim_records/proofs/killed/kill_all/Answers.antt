@@ -1,6 +1,5 @@
 use Rattle.std.proofs.Common.{sym, arith}
-use Rattle.shim_records.proofs.FullPropagation.{kept_order}
-use Rattle.shim_records.proofs.AllKilled.{ways, at_first, next, no_more, at_end}
+use Rattle.shim_records.proofs.AllKilled.{at_first, next, no_more, at_end}
 use Rattle.shim_records.proofs.killed.kill_all.Goals as goal
 
 pub loop-place-init : goal.loop-place-init
@@ -9,11 +8,6 @@ loop-place-init g c = at_first g.L.Local.ops c.args.process.now c.args.forks c.a
 pub returns-in-None : goal.returns-in-None
 returns-in-None g c =
     no_more g.L.Local.ops c.args.process.now c.args.forks c.args.at c.args.records.now.items c.loop-place.place c.loop-place.records.items (sym c.in-None.ensures) c.loop-place.invariant
-
-pub kill_one-requires-after_bounds : goal.kill_one-requires-after_bounds
-kill_one-requires-after_bounds g c κs within =
-    kept_order c.args.records.now.items c.loop-place.records.items
-    (ways g.L.Local.ops c.args.process.now c.args.forks c.args.at c.args.records.now.items c.loop-place.place c.loop-place.records.items c.loop-place.invariant) c.requires.ordered
 
 pub loop-place-preserved : goal.loop-place-preserved
 loop-place-preserved g c =

@@ -1,5 +1,4 @@
 use Rattle.std.proofs.Common.{arith}
-use Rattle.shim_records.proofs.FullPropagation.{kept_order}
 use Rattle.shim_records.proofs.Lowering.{ended, further, stopped}
 use Rattle.shim_records.proofs.labels.lower_min_labels.Goals as goal
 
@@ -15,6 +14,3 @@ loop-walked-preserved c =
 pub returns : goal.returns
 returns c =
     stopped c.args.c.now.channel c.args.label c.args.forks c.args.at c.args.records.now.items c.loop-walked.records.items c.loop-walked.here c.loop-walked.walked (omega (arith, c.loop-walked-test.false)) c.loop-walked.invariant
-
-pub lower_one-requires : goal.lower_one-requires
-lower_one-requires c = kept_order c.args.records.now.items c.loop-walked.records.items c.loop-walked.invariant.1.rest c.requires

@@ -1,6 +1,6 @@
 use Rattle.std.proofs.Common.{sym, ap, ◌∙◌, arith, subst, None, slice_set}
 use Rattle.std.proofs.lemmas.Option.{slice_get_read}
-use Rattle.shim_records.specs.Pairs.{pair_index, counts_at, up_at, IsOrdered, chans_of}
+use Rattle.shim_records.specs.Pairs.{pair_index, counts_at, up_at}
 use Rattle.shim_records.specs.Labels.{LowersOne}
 use Rattle.shim_records.proofs.Pairing.{place_within, no_place}
 use Rattle.shim_records.proofs.Stepping.{past_end, same_items, with_pair}
@@ -15,24 +15,24 @@ returns-then-at-len c =
 pub returns-in-None : goal.returns-in-None
 returns-in-None c =
     let rs = c.args.records.now in
-    let stood = slice_get_read rs.items c.len.result c.args.at c.index.result.now (c.len.ensures ∙ rs.ok.0) (omega (arith, c.if-at-len.false)) c.index.ensures in
-    top c.args.c.now.channel c.args.label rs.items c.args.at (ap up_at stood ∙ c.in-None.is)
+    let record_before = slice_get_read rs.items c.len.result c.args.at c.index.result.now (c.len.ensures ∙ rs.ok.0) (omega (arith, c.if-at-len.false)) c.index.ensures in
+    top c.args.c.now.channel c.args.label rs.items c.args.at (ap up_at record_before ∙ c.in-None.is)
 
 pub returns-then-above-len : goal.returns-then-above-len
 returns-then-above-len c =
     let rs = c.args.records.now in
-    let stood = slice_get_read rs.items c.len.result c.args.at c.index.result.now (c.len.ensures ∙ rs.ok.0) (omega (arith, c.if-at-len.false)) c.index.ensures in
-    without c.args.c.now.channel c.args.label rs.items c.args.at c.in-Some.above (ap up_at stood ∙ c.in-Some.is)
+    let record_before = slice_get_read rs.items c.len.result c.args.at c.index.result.now (c.len.ensures ∙ rs.ok.0) (omega (arith, c.if-at-len.false)) c.index.ensures in
+    without c.args.c.now.channel c.args.label rs.items c.args.at c.in-Some.above (ap up_at record_before ∙ c.in-Some.is)
     (ap (counts_at c.args.c.now.channel) (past_end rs.items c.in-Some.above (let len = c.len-2.ensures in let same = rs.ok.0 in let past = c.if-above-len.true in omega (arith, len, same, past))))
 
 pub returns-in-None-place_in : goal.returns-in-None-place_in
 returns-in-None-place_in c =
     let rs = c.args.records.now in
     let ch = c.args.c.now.channel in
-    let stood = slice_get_read rs.items c.len.result c.args.at c.index.result.now (c.len.ensures ∙ rs.ok.0) (omega (arith, c.if-at-len.false)) c.index.ensures in
+    let record_before = slice_get_read rs.items c.len.result c.args.at c.index.result.now (c.len.ensures ∙ rs.ok.0) (omega (arith, c.if-at-len.false)) c.index.ensures in
     let fork = slice_get_read rs.items c.len-2.result c.in-Some.above c.index_mut-record.result.now (c.len-2.ensures ∙ rs.ok.0) (omega (arith, c.if-above-len.false)) c.index_mut-record.ensures.value in
     subst (LowersOne ch c.args.label rs.items c.args.at None) (sym (same_items rs.items c.in-Some.above c.index_mut-record.result.now fork))
-    (without ch c.args.label rs.items c.args.at c.in-Some.above (ap up_at stood ∙ c.in-Some.is)
+    (without ch c.args.label rs.items c.args.at c.in-Some.above (ap up_at record_before ∙ c.in-Some.is)
     (ap (counts_at ch) fork ∙ no_place ch c.index_mut-record.result.now.pairs.items (ap (pair_index ch) (sym c.as_slice.ensures.value) ∙ (sym c.place_in.ensures ∙ c.in-None-place_in.is))))
 
 pub index_mut-requires : goal.index_mut-requires
@@ -46,9 +46,9 @@ pub returns-then-lower : goal.returns-then-lower
 returns-then-lower c =
     let rs = c.args.records.now in
     let ch = c.args.c.now.channel in
-    let stood = slice_get_read rs.items c.len.result c.args.at c.index.result.now (c.len.ensures ∙ rs.ok.0) (omega (arith, c.if-at-len.false)) c.index.ensures in
+    let record_before = slice_get_read rs.items c.len.result c.args.at c.index.result.now (c.len.ensures ∙ rs.ok.0) (omega (arith, c.if-at-len.false)) c.index.ensures in
     let fork = slice_get_read rs.items c.len-2.result c.in-Some.above c.index_mut-record.result.now (c.len-2.ensures ∙ rs.ok.0) (omega (arith, c.if-above-len.false)) c.index_mut-record.ensures.value in
-    goes ch c.args.label rs.items c.args.at c.in-Some.above (slice_set rs.items c.in-Some.above (with_pair c.index_mut-record.result.now c.in-Some-place_in.place c.lower_label-lower.new.pair)) c.index_mut.result.now.min_dead_label c.lower_label-lower.new.pair.min_dead_label (ap up_at stood ∙ c.in-Some.is)
+    goes ch c.args.label rs.items c.args.at c.in-Some.above (slice_set rs.items c.in-Some.above (with_pair c.index_mut-record.result.now c.in-Some-place_in.place c.lower_label-lower.new.pair)) c.index_mut.result.now.min_dead_label c.lower_label-lower.new.pair.min_dead_label (ap up_at record_before ∙ c.in-Some.is)
     (relabelled ch rs.items c.in-Some.above c.in-Some-place_in.place c.index_mut-record.result.now c.index_mut.result.now c.lower_label-lower.new.pair fork
     (ap (pair_index ch) (sym c.as_slice.ensures.value) ∙ (sym c.place_in.ensures ∙ c.in-Some-place_in.is)) c.index_mut.ensures.value c.lower_label-lower.ensures.chan c.lower_label-lower.ensures.sharing c.lower_label-lower.ensures.counts)
     c.lower_label-lower.ensures.taken
@@ -57,15 +57,9 @@ pub returns-else-lower : goal.returns-else-lower
 returns-else-lower c =
     let rs = c.args.records.now in
     let ch = c.args.c.now.channel in
-    let stood = slice_get_read rs.items c.len.result c.args.at c.index.result.now (c.len.ensures ∙ rs.ok.0) (omega (arith, c.if-at-len.false)) c.index.ensures in
+    let record_before = slice_get_read rs.items c.len.result c.args.at c.index.result.now (c.len.ensures ∙ rs.ok.0) (omega (arith, c.if-at-len.false)) c.index.ensures in
     let fork = slice_get_read rs.items c.len-2.result c.in-Some.above c.index_mut-record.result.now (c.len-2.ensures ∙ rs.ok.0) (omega (arith, c.if-above-len.false)) c.index_mut-record.ensures.value in
-    stops ch c.args.label rs.items c.args.at c.in-Some.above (slice_set rs.items c.in-Some.above (with_pair c.index_mut-record.result.now c.in-Some-place_in.place c.lower_label-lower.new.pair)) c.index_mut.result.now.min_dead_label c.lower_label-lower.new.pair.min_dead_label (ap up_at stood ∙ c.in-Some.is)
+    stops ch c.args.label rs.items c.args.at c.in-Some.above (slice_set rs.items c.in-Some.above (with_pair c.index_mut-record.result.now c.in-Some-place_in.place c.lower_label-lower.new.pair)) c.index_mut.result.now.min_dead_label c.lower_label-lower.new.pair.min_dead_label (ap up_at record_before ∙ c.in-Some.is)
     (relabelled ch rs.items c.in-Some.above c.in-Some-place_in.place c.index_mut-record.result.now c.index_mut.result.now c.lower_label-lower.new.pair fork
     (ap (pair_index ch) (sym c.as_slice.ensures.value) ∙ (sym c.place_in.ensures ∙ c.in-Some-place_in.is)) c.index_mut.ensures.value c.lower_label-lower.ensures.chan c.lower_label-lower.ensures.sharing c.lower_label-lower.ensures.counts)
     c.lower_label-lower.ensures.taken (c.lower_label-lower.ensures.stays c.if-lower.false)
-
-pub place_in-requires : goal.place_in-requires
-place_in-requires c =
-    let rs = c.args.records.now in
-    let fork = slice_get_read rs.items c.len-2.result c.in-Some.above c.index_mut-record.result.now (c.len-2.ensures ∙ rs.ok.0) (omega (arith, c.if-above-len.false)) c.index_mut-record.ensures.value in
-    subst (λ ps. IsOrdered (chans_of ps)) (sym c.as_slice.ensures.value) (c.requires c.in-Some.above c.index_mut-record.result.now fork)

@@ -1,6 +1,6 @@
 use Rattle.std.proofs.Common.{sym, subst, arith, ◌+◌}
 use Rattle.shim_records.specs.Ways.{StepsUp, MovesParent, ReadiesWithin}
-use Rattle.shim_records.proofs.FullPropagation.{begun, ended, further, stopped, kept_order}
+use Rattle.shim_records.proofs.FullPropagation.{begun, ended, further, stopped}
 use Rattle.shim_records.proofs.Reaching.{at_start, led_on}
 use Rattle.shim_records.proofs.Readying.{SoReady, ready_at_first, readied, readied_on, all_again}
 use Rattle.shim_records.proofs.upward.propagate_stop_above.Goals as goal
@@ -54,6 +54,3 @@ pub returns-clause-readies : goal.returns-clause-readies
 returns-clause-readies c =
     all_again c.args.c.now.channel c.args.at c.args.records.now.items c.loop-walked.walked c.loop-walked.again c.loop-walked.records.items c.loop-walked.here c.loop-walked.invariant.2 c.loop-walked.invariant.1 c.loop-walked.invariant.0.1 4294967295
     c.loop-walked.auto.walked-end (omega (arith, c.loop-walked-test.false))
-
-pub step_up-next-requires : goal.step_up-next-requires
-step_up-next-requires c = kept_order c.args.records.now.items c.loop-walked.records.items c.loop-walked.invariant.0.1.rest c.requires

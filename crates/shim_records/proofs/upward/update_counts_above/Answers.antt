@@ -1,6 +1,6 @@
 use Rattle.std.proofs.Common.{subst, arith}
 use Rattle.shim_records.specs.Ways.{StepsUp, MovesParent}
-use Rattle.shim_records.proofs.FullPropagation.{begun, ended, further, stopped, kept_order}
+use Rattle.shim_records.proofs.FullPropagation.{begun, ended, further, stopped}
 use Rattle.shim_records.proofs.Reaching.{at_start, farther, led_to, led_on}
 use Rattle.shim_records.proofs.Readying.{falls_at_first, no_more_fall, still_falls}
 use Rattle.shim_records.proofs.upward.update_counts_above.Goals as goal
@@ -46,6 +46,3 @@ returns-clause-reaches c =
 
 pub returns-clause-falls : goal.returns-clause-falls
 returns-clause-falls c = λ e f. (c.loop-walked.invariant.2 e f).1
-
-pub step_up-next-requires : goal.step_up-next-requires
-step_up-next-requires c = kept_order c.args.records.now.items c.loop-walked.records.items c.loop-walked.invariant.0.1.rest c.requires

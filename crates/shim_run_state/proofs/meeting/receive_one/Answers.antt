@@ -1,6 +1,6 @@
 use Rattle.std.proofs.Common.{refl, subst, w64, to_z, of_z, FitsSigned, rules}
 use Rattle.std.proofs.lemmas.Int.{to_z-of_z}
-use Rattle.shim_laws_table.specs.Seen.{lives}
+use Rattle.shim_laws_table.specs.NodeStatus.{lives}
 use Rattle.shim_laws_table_events.specs.meetings.Meetings.{ReceivesOne}
 use Rattle.shim_run_state.proofs.OneMoved.{was_used}
 use Rattle.shim_run_state.proofs.Passing.{passes_none, one_passes}

@@ -1,7 +1,7 @@
 use Rattle.std.proofs.Common.{rules, ◌≡◌, ◌≤◌, ◌-◌, suc, Some}
 use Rattle.std.specs.Prelude.{slice_get}
 use Rattle.std.proofs.lemmas.Result.{on_ok_weaker}
-use Rattle.shim_laws_table.specs.Seen.{lives, forks, ends, dies}
+use Rattle.shim_laws_table.specs.NodeStatus.{lives, forks, ends, dies}
 use Rattle.shim_laws_table.specs.Agrees.{used, free}
 use Rattle.shim_run_state.proofs.Gathering as lemmas
 use Rattle.shim_run_state.proofs.waits.+gather.Goals as goal

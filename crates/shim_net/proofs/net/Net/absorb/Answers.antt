@@ -1,7 +1,7 @@
 use Rattle.std.proofs.Common.{◌≡◌, ◌<◌, List, length, sym, ap, subst, ◌∙◌}
 use Rattle.std.specs.Prelude.{slice_index_or}
 use Rattle.shim_net.specs.Nets.{OpenGrant}
-use Rattle.shim_net.specs.Taking.{Matches}
+use Rattle.shim_net.specs.Absorbing.{Matches}
 use Rattle.shim_net.proofs.net.Net.absorb.Goals as goal
 
 pub returns-then-short : goal.returns-then-short

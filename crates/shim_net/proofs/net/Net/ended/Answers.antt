@@ -4,7 +4,7 @@ use Rattle.shim_run_state.specs.RunStates.{tree_in}
 use Rattle.shim_net.specs.Entries.{entry_of}
 use Rattle.shim_net.specs.Nets.{NetView, IsNet}
 use Rattle.shim_net.specs.Standings.{IsQuiescentNet, IsSpentNet}
-use Rattle.shim_net.proofs.Ends.{may_end, none_open, nobody_out, agrees, told}
+use Rattle.shim_net.proofs.Ends.{may_end, none_open, nobody_out, agrees, read_off}
 use Rattle.shim_net.proofs.net.Net.ended.Goals as goal
 
 pub ended-requires-clause-none : goal.ended-requires-clause-none
@@ -24,8 +24,8 @@ returns-clause-agrees g c =
     let o = g.L.Local.ops in
     agrees o c.args.self.now (subst (IsNet o) c.self.view_is c.self.invariant.0) c.requires law
 
-pub returns-clause-told : goal.returns-clause-told
-returns-clause-told g c =
+pub returns-clause-read_off : goal.returns-clause-read_off
+returns-clause-read_off g c =
     let law = (g.met.L.Local g.world.𝓛 g.world.𝓜 g.world.𝓡 ((λ s x. x), (λ x. x), (λ x. x), λ x. x)).laws in
     let o = g.L.Local.ops in
-    told o c.args.self.now (subst (IsNet o) c.self.view_is c.self.invariant.0) c.requires law
+    read_off o c.args.self.now (subst (IsNet o) c.self.view_is c.self.invariant.0) c.requires law

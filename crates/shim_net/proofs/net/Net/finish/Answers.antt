@@ -21,7 +21,7 @@ step_next-requires-clause-can g c κs within =
     let o = g.L.Local.ops in
     let i = c.loop-self.invariant in
     let at : c.standing.result ≡ Running = search rules in
-    let run = subst (StandsAs o c.loop-self.self) at c.standing.ensures.stands in
+    let run = subst (StandsAs o c.loop-self.self) at c.standing.ensures.standing_is in
     can_give o c.loop-self.self c.standing.ensures.keeps i.home i.settled run.0 run.1
 
 pub loop-self-preserved : goal.loop-self-preserved
@@ -43,7 +43,7 @@ loop-self-smaller g c =
     let o = g.L.Local.ops in
     let i = c.loop-self.invariant in
     let at : c.standing.result ≡ Running = search rules in
-    let run = subst (StandsAs o c.loop-self.self) at c.standing.ensures.stands in
+    let run = subst (StandsAs o c.loop-self.self) at c.standing.ensures.standing_is in
     let can = can_give o c.loop-self.self c.standing.ensures.keeps i.home i.settled run.0 run.1 in
     let stepped = c.step_next.new.self in
     let t = c.in_ok-step_next.ensures in
@@ -88,5 +88,5 @@ returns-in_err-settle-2-clause-left g c =
 pub returns-clause-left : goal.returns-clause-left
 returns-clause-left g c = none_among c.loop-self.self.grants c.args.self.now.grants c.loop-self.invariant.home
 
-pub returns-clause-stands : goal.returns-clause-stands
-returns-clause-stands g c = stopped g.L.Local.ops c.loop-self.self c.standing.result c.standing.ensures.stands (search rules)
+pub returns-clause-quiescent_or_spent : goal.returns-clause-quiescent_or_spent
+returns-clause-quiescent_or_spent g c = stopped g.L.Local.ops c.loop-self.self c.standing.result c.standing.ensures.standing_is (search rules)

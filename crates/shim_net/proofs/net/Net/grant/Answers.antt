@@ -1,7 +1,7 @@
 use Rattle.std.proofs.Common.{rules, ◌≡◌, ◌≤◌, ◌+◌, ◌-◌, ◌∷◌, [], ◌++◌, refl, sym, ap, subst, ◌∙◌}
 use Rattle.std.specs.Prelude.{map, min}
 use Rattle.shim_semantics.specs.Trees.{steps}
-use Rattle.shim_laws_table.specs.Seen.{lives}
+use Rattle.shim_laws_table.specs.NodeStatus.{lives}
 use Rattle.shim_run_state.specs.RunStates.{tree_in}
 use Rattle.shim_net.specs.Entries.{entry_of}
 use Rattle.shim_net.specs.Nets.{OpenGrant, NetView, IsNet, IsOpen, reserved_in}
@@ -96,18 +96,18 @@ invariant_of-self-2 g c =
     let home = is_home o law i.tree k i.grants.items c.self.invariant.3 number l next in
     let tree : tree_in o u ≡ tree_in o i.tree = holds.tree ∙ same.tree in
     let n = c.min-grant.result in
-    let told : OpenGrant g.row.L.Denot = record { pid = number; slot = c.args.slot; round = c.args.round; most = n; start = l } in
-    let items : c.push_reserved.new.self.items ≡ i.grants.items ++ told ∷ [] = c.push_reserved.ensures.items ∙ (ap (λ z. z ++ c.in_ok-given.given ∷ []) c.in_ok-reserve-2.ensures.items ∙ ap (λ z. i.grants.items ++ z ∷ []) c.in_ok-given.ensures) in
+    let opened : OpenGrant g.row.L.Denot = record { pid = number; slot = c.args.slot; round = c.args.round; most = n; start = l } in
+    let items : c.push_reserved.new.self.items ≡ i.grants.items ++ opened ∷ [] = c.push_reserved.ensures.items ∙ (ap (λ z. z ++ c.in_ok-given.given ∷ []) c.in_ok-reserve-2.ensures.items ∙ ap (λ z. i.grants.items ++ z ∷ []) c.in_ok-given.ensures) in
     let some : 1 ≤ n = search rules in
-    let least : n ≡ min c.args.most c.left_in-left.result = search rules in
-    let room : steps (tree_in o i.tree) + reserved_in i.grants.items + n ≤ i.budget = has_room c.left_in-left.result i.budget (steps (tree_in o i.tree)) (reserved_in i.grants.items) c.args.most n (c.left_in-left.ensures.left ∙ ap (λ z. i.budget - (steps (tree_in o i.tree) + z)) c.self.invariant.1) c.self.invariant.0.keeps.fits least in
+    let is_min : n ≡ min c.args.most c.left_in-left.result = search rules in
+    let room : steps (tree_in o i.tree) + reserved_in i.grants.items + n ≤ i.budget = has_room c.left_in-left.result i.budget (steps (tree_in o i.tree)) (reserved_in i.grants.items) c.args.most n (c.left_in-left.ensures.left ∙ ap (λ z. i.budget - (steps (tree_in o i.tree) + z)) c.self.invariant.1) c.self.invariant.0.keeps.fits is_min in
     let fresh = subst (λ (z : NetView g.row.L.Denot). IsOpen c.args.slot c.args.round z.grants → ⊥) (sym c.self.view_is) c.requires.numbers in
     let other = other_pids o law i.tree k i.grants.items c.self.invariant.3 number l next in (
       same_net o i.root.value i.budget (tree_in o i.tree) (tree_in o u) (map entry_of i.journal.items) (map entry_of c.reserve.new.self.items) c.push_reserved.new.self.items c.push_reserved.new.self.items tree (ap (map entry_of) c.in_ok-reserve.ensures.items) refl
-          (given o law _ told c.self.invariant.0 home.grantable some home.free fresh other room c.push_reserved.new.self.items items),
-      more_reserved o law i.reserved i.grants.items c.push_reserved.new.self.items told c.self.invariant.1 items,
+          (given o law _ opened c.self.invariant.0 home.grantable some home.free fresh other room c.push_reserved.new.self.items items),
+      more_reserved o law i.reserved i.grants.items c.push_reserved.new.self.items opened c.self.invariant.1 items,
       search rules,
-      one_more_out o v u i.grants.items c.push_reserved.new.self.items number l told (passed_out o i.tree v i.grants.items i.grants.items same refl c.self.invariant.3) holds other items refl refl,
+      one_more_out o v u i.grants.items c.push_reserved.new.self.items number l opened (passed_out o i.tree v i.grants.items i.grants.items same refl c.self.invariant.3) holds other items refl refl,
     )
 
 pub returns-clause-given : goal.returns-clause-given
@@ -127,21 +127,21 @@ returns-clause-given g c =
     let home = is_home o law i.tree k i.grants.items c.self.invariant.3 number l next in
     let tree : tree_in o u ≡ tree_in o i.tree = holds.tree ∙ same.tree in
     let n = c.min-grant.result in
-    let told : OpenGrant g.row.L.Denot = record { pid = number; slot = c.args.slot; round = c.args.round; most = n; start = l } in
-    let items : c.push_reserved.new.self.items ≡ i.grants.items ++ told ∷ [] = c.push_reserved.ensures.items ∙ (ap (λ z. z ++ c.in_ok-given.given ∷ []) c.in_ok-reserve-2.ensures.items ∙ ap (λ z. i.grants.items ++ z ∷ []) c.in_ok-given.ensures) in
+    let opened : OpenGrant g.row.L.Denot = record { pid = number; slot = c.args.slot; round = c.args.round; most = n; start = l } in
+    let items : c.push_reserved.new.self.items ≡ i.grants.items ++ opened ∷ [] = c.push_reserved.ensures.items ∙ (ap (λ z. z ++ c.in_ok-given.given ∷ []) c.in_ok-reserve-2.ensures.items ∙ ap (λ z. i.grants.items ++ z ∷ []) c.in_ok-given.ensures) in
     let some : 1 ≤ n = search rules in
     let net = c.args.self.now in
-    let least : n ≡ min c.args.most c.left_in-left.result = search rules in
+    let is_min : n ≡ min c.args.most c.left_in-left.result = search rules in
     let left : c.left_in-left.result ≡ net.budget - (steps net.tree + reserved_in net.grants) =
     c.left_in-left.ensures.left ∙ (ap (λ z. i.budget - (steps (tree_in o i.tree) + z)) c.self.invariant.1 ∙ ap (λ (z : NetView g.row.L.Denot). z.budget - (steps z.tree + reserved_in z.grants)) c.self.view_is) in
     let is = c.in_ok-given.ensures in (
       c.in_ok-parcel.ensures.numbers.1 ∙ ap (λ z. z.slot) is,
       c.in_ok-parcel.ensures.numbers.2 ∙ ap (λ z. z.round) is,
-      gives o net (subst (IsNet o) c.self.view_is c.self.invariant.0) l (subst (λ (z : NetView g.row.L.Denot). IsAtHome o z.tree z.grants l) c.self.view_is home) c.args.most c.args.slot c.args.round c.left_in-left.result n left least some
+      gives o net (subst (IsNet o) c.self.view_is c.self.invariant.0) l (subst (λ (z : NetView g.row.L.Denot). IsAtHome o z.tree z.grants l) c.self.view_is home) c.args.most c.args.slot c.args.round c.left_in-left.result n left is_min some
           number (zero_at_root o law i.tree k number next.at_quiet.first l lives next.at_quiet.has)
           c.in_ok-parcel.parcel.pid c.in_ok-parcel.parcel.start c.in_ok-parcel.parcel.grant
           (c.in_ok-parcel.ensures.numbers.0 ∙ ap (λ z. z.pid) is) (c.in_ok-parcel.ensures.work.0 ∙ ap (λ z. z.start) is) (c.in_ok-parcel.ensures.work.1 ∙ ap (λ z. z.most) is)
           (record { root = i.root.value; budget = i.budget; tree = tree_in o u; journal = map entry_of c.reserve.new.self.items; grants = c.push_reserved.new.self.items })
-          (subst (λ (z : NetView g.row.L.Denot). record { root = i.root.value; budget = i.budget; tree = tree_in o u; journal = map entry_of c.reserve.new.self.items; grants = c.push_reserved.new.self.items } ≡ record { root = z.root; budget = z.budget; tree = z.tree; journal = z.journal; grants = z.grants ++ told ∷ [] }) c.self.view_is
+          (subst (λ (z : NetView g.row.L.Denot). record { root = i.root.value; budget = i.budget; tree = tree_in o u; journal = map entry_of c.reserve.new.self.items; grants = c.push_reserved.new.self.items } ≡ record { root = z.root; budget = z.budget; tree = z.tree; journal = z.journal; grants = z.grants ++ opened ∷ [] }) c.self.view_is
           (λ j. record { root = i.root.value; budget = i.budget; tree = tree j; journal = map entry_of (c.in_ok-reserve.ensures.items j); grants = items j })),
     )

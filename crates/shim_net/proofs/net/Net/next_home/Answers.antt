@@ -2,7 +2,7 @@ use Rattle.std.proofs.Common.{rules, ◌≡◌, ◌≤◌, ◌+◌, ◌-◌, ref
 use Rattle.std.specs.Prelude.{map}
 use Rattle.shim_run_state.specs.RunStates.{tree_in}
 use Rattle.shim_semantics.specs.Trees.{steps}
-use Rattle.shim_laws_table.specs.Seen.{lives}
+use Rattle.shim_laws_table.specs.NodeStatus.{lives}
 use Rattle.shim_net.specs.Entries.{entry_of}
 use Rattle.shim_net.specs.Nets.{NetView, reserved_in}
 use Rattle.shim_net.specs.Stepping.{IsNextHome, IsHomeNumber, left_of}

@@ -1,6 +1,6 @@
 use Rattle.std.proofs.Common.{ap, sym, subst, ◌∙◌}
 use Rattle.shim_net.specs.Nets.{NetView}
-use Rattle.shim_net.specs.Taking.{RedoesOne, RedoesSome, redid_none, redid_one}
+use Rattle.shim_net.specs.Absorbing.{RedoesOne, RedoesSome, redid_none, redid_one}
 use Rattle.shim_net.specs.Progress.{AreAmong}
 use Rattle.shim_net.proofs.Progress.{stays, same_net, on_and_on, among, none_among, redid_on, redid_fewer, redid_among}
 use Rattle.shim_net.proofs.net.Net.redo_all.Goals as goal

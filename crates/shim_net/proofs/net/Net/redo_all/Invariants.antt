@@ -1,5 +1,5 @@
 use Rattle.std.proofs.Common.{length}
-use Rattle.shim_net.specs.Taking.{RedoesSome}
+use Rattle.shim_net.specs.Absorbing.{RedoesSome}
 use Rattle.shim_net.specs.Progress.{GoesOn, AreAmong}
 use Rattle.shim_net.proofs.net.Net.redo_all.Given as goal
 

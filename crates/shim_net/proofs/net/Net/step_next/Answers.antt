@@ -9,26 +9,26 @@ returns-in-None-clause-more g c =
     let none = subst (StepsHome o c.args.self.now c.step.new.self 18446744073709551615) c.in-None.is c.in_ok-step.ensures.ok in
     absurd (gave_none o c.args.self.now c.step.new.self none c.requires.can)
 
-pub returns-then-quiet-clause-goes_on : goal.returns-then-quiet-clause-goes_on
-returns-then-quiet-clause-goes_on g c =
+pub returns-then-burst-clause-goes_on : goal.returns-then-burst-clause-goes_on
+returns-then-burst-clause-goes_on g c =
     let o = g.L.Local.ops in
     let did = subst (StepsHome o c.args.self.now c.step.new.self 18446744073709551615) c.in-Some.is c.in_ok-step.ensures.ok in
-    stepped_on o c.args.self.now c.step.new.self 18446744073709551615 c.in-Some.quiet did
+    stepped_on o c.args.self.now c.step.new.self 18446744073709551615 c.in-Some.burst did
 
-pub returns-else-quiet-clause-goes_on : goal.returns-else-quiet-clause-goes_on
-returns-else-quiet-clause-goes_on g c =
+pub returns-else-burst-clause-goes_on : goal.returns-else-burst-clause-goes_on
+returns-else-burst-clause-goes_on g c =
     let o = g.L.Local.ops in
     let did = subst (StepsHome o c.args.self.now c.step.new.self 18446744073709551615) c.in-Some.is c.in_ok-step.ensures.ok in
-    stepped_on o c.args.self.now c.step.new.self 18446744073709551615 c.in-Some.quiet did
+    stepped_on o c.args.self.now c.step.new.self 18446744073709551615 c.in-Some.burst did
 
-pub returns-else-quiet-clause-same : goal.returns-else-quiet-clause-same
-returns-else-quiet-clause-same g c =
+pub returns-else-burst-clause-same : goal.returns-else-burst-clause-same
+returns-else-burst-clause-same g c =
     let o = g.L.Local.ops in
     let did = subst (StepsHome o c.args.self.now c.step.new.self 18446744073709551615) c.in-Some.is c.in_ok-step.ensures.ok in
-    stepped_same o c.args.self.now c.step.new.self 18446744073709551615 c.in-Some.quiet did
+    stepped_same o c.args.self.now c.step.new.self 18446744073709551615 c.in-Some.burst did
 
-pub returns-else-quiet-clause-more : goal.returns-else-quiet-clause-more
-returns-else-quiet-clause-more g c =
+pub returns-else-burst-clause-more : goal.returns-else-burst-clause-more
+returns-else-burst-clause-more g c =
     let o = g.L.Local.ops in
     let did = subst (StepsHome o c.args.self.now c.step.new.self 18446744073709551615) c.in-Some.is c.in_ok-step.ensures.ok in
-    stepped_more o c.args.self.now c.step.new.self 18446744073709551615 c.in-Some.quiet did (omega arith) c.if-quiet.false
+    stepped_more o c.args.self.now c.step.new.self 18446744073709551615 c.in-Some.burst did (omega arith) c.if-burst.false

@@ -1,5 +1,5 @@
 use Rattle.std.proofs.Common.{sym, subst}
-use Rattle.shim_laws_table.specs.Seen.{forks}
+use Rattle.shim_laws_table.specs.NodeStatus.{forks}
 use Rattle.shim_laws_table_events.specs.keeping.Tables.{HasProcessState}
 use Rattle.shim_process_table.proofs.ClosingMoves.{children_read}
 use Rattle.shim_process_table.proofs.process_table.ProcessTable.children.Goals as goal

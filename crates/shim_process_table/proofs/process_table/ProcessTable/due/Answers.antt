@@ -38,6 +38,6 @@ returns-in-Forked g c =
     let one = slice_get_read v.records.items c.len-2.result n c.index.result.now (c.len-2.ensures ∙ v.records.ok.0) (omega (arith, c.if-at-len-2.false)) c.index.ensures in
     let other = slice_get_read v.records.items c.len-2.result n c.index-in-Forked-2.result.now (c.len-2.ensures ∙ v.records.ok.0) (omega (arith, c.if-at-len-2.false)) c.index-in-Forked-2.ensures in
     let same = some_same c.index-in-Forked-2.result.now c.index.result.now (sym other ∙ one) in
-    let told = c.due_below.ensures n (ap (λ z. slice_get z n) c.as_slice.ensures.value ∙ state) (ap (λ z. slice_get z n) c.as_slice-in-Forked.ensures.value ∙ other) (ap (λ z. z.status) same ∙ c.in-Forked.is) in
+    let found_due = c.due_below.ensures n (ap (λ z. slice_get z n) c.as_slice.ensures.value ∙ state) (ap (λ z. slice_get z n) c.as_slice-in-Forked.ensures.value ∙ other) (ap (λ z. z.status) same ∙ c.in-Forked.is) in
     subst (λ z. DueIs o z n c.due_below.result) c.self.view_is
-    (of_lists o n c.due_below.result c.as_slice.result.now v.states.items c.as_slice-in-Forked.result.now v.records.items c.as_slice.ensures.value c.as_slice-in-Forked.ensures.value told)
+    (of_lists o n c.due_below.result c.as_slice.result.now v.states.items c.as_slice-in-Forked.result.now v.records.items c.as_slice.ensures.value c.as_slice-in-Forked.ensures.value found_due)

@@ -1,7 +1,7 @@
 use Rattle.std.proofs.Common.{◌+◌, refl, sym, subst}
 use Rattle.shim_local.specs.Process.{AtFinish}
 use Rattle.shim_semantics.specs.Acts.{nothing}
-use Rattle.shim_laws_table.specs.Seen.{ends}
+use Rattle.shim_laws_table.specs.NodeStatus.{ends}
 use Rattle.shim_records.specs.declared.record.Status.TheVariants as code
 use Rattle.shim_laws_table_events.specs.keeping.Tables.{HasTableInvariant}
 use Rattle.shim_process_table.specs.Stepping.{LivesAt}

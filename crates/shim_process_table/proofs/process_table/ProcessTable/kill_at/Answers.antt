@@ -2,27 +2,15 @@ use Rattle.std.proofs.Common.{true, refl, sym, subst}
 use Rattle.shim_laws_table_events.specs.keeping.Tables.{TableView, HasTableInvariant}
 use Rattle.shim_process_table.specs.Poisoning.{IsKilledBy}
 use Rattle.shim_laws_table_events.specs.meetings.Poisons.{DiesOne}
-use Rattle.shim_process_table.proofs.HerePoisons.{dead_ordered, few_given, killed_ordered, dies_one, still_kept}
+use Rattle.shim_process_table.proofs.HerePoisons.{few_given, dies_one, still_kept}
 use Rattle.shim_process_table.proofs.TouchingMeets.{same_view, dies_touch}
 use Rattle.shim_process_table.proofs.process_table.ProcessTable.kill_at.Goals as goal
-
-pub kill_all-requires-clause-ordered : goal.kill_all-requires-clause-ordered
-kill_all-requires-clause-ordered g c κs within =
-    let v = c.self.inside in
-    let before = subst (λ z. IsKilledBy g.L.Local.ops c.args.label c.args.at z true) (sym c.self.view_is) c.if-not-is_killed_by.ensures in
-    dead_ordered g.L.Local.ops c.args.label v.states.items v.records.items c.args.at c.index-process.result.now c.index_mut.result.now before c.index_mut.ensures.value c.index-process.ensures c.self.invariant
 
 pub kill_all-requires-clause-few : goal.kill_all-requires-clause-few
 kill_all-requires-clause-few g c κs within =
     let v = c.self.inside in
     let before = subst (λ z. IsKilledBy g.L.Local.ops c.args.label c.args.at z true) (sym c.self.view_is) c.if-not-is_killed_by.ensures in
     few_given g.L.Local.ops c.args.label v.states.items v.records.items c.args.at c.index-process.result.now c.index_mut.result.now before c.index_mut.ensures.value c.index-process.ensures c.self.invariant
-
-pub lower_all_labels-requires-clause-ordered : goal.lower_all_labels-requires-clause-ordered
-lower_all_labels-requires-clause-ordered g c κs within =
-    let v = c.self.inside in
-    let before = subst (λ z. IsKilledBy g.L.Local.ops c.args.label c.args.at z true) (sym c.self.view_is) c.if-not-is_killed_by.ensures in
-    killed_ordered g.L.Local.ops c.args.label v.states.items v.records.items c.args.at c.index-process.result.now c.index_mut.result.now before c.index_mut.ensures.value c.index-process.ensures c.kill_all.new.records.items c.self.invariant c.kill_all.ensures
 
 pub lower_all_labels-requires-clause-few : goal.lower_all_labels-requires-clause-few
 lower_all_labels-requires-clause-few g c κs within =

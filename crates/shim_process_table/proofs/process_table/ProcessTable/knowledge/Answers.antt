@@ -3,7 +3,7 @@ use Rattle.std.proofs.lemmas.Option.{slice_get_read}
 use Rattle.shim_laws_table.proofs.Forking.{there_is}
 use Rattle.shim_records.proofs.Stepping.{past_end}
 use Rattle.shim_process_table.specs.Planning.{KnowledgeAt}
-use Rattle.shim_process_table.proofs.Visiting.{past_states, past_records, no_fork, nothing_known, is_known, its_order}
+use Rattle.shim_process_table.proofs.Visiting.{past_states, past_records, no_fork, nothing_known, is_known}
 use Rattle.shim_process_table.proofs.process_table.ProcessTable.knowledge.Goals as goal
 
 pub returns-then-at-len : goal.returns-then-at-len
@@ -25,13 +25,6 @@ returns-in-None g c =
     subst (λ z. KnowledgeAt z c.args.c.now.channel c.args.at None) c.self.view_is
     (no_fork (record { states = v.states.items; records = v.records.items }) c.args.c.now.channel c.args.at r (slice_get_read v.records.items c.len-2.result c.args.at r (c.len-2.ensures ∙ v.records.ok.0) (omega (arith, c.if-at-len-2.false)) c.index-fork.ensures)
     (sym c.forked_into.ensures ∙ c.in-None.is))
-
-pub sharing_of-requires : goal.sharing_of-requires
-sharing_of-requires g c =
-    let v = c.self.inside in
-    let r = c.index-fork.result.now in
-    its_order g.L.Local.ops (record { states = v.states.items; records = v.records.items }) c.args.at r c.self.invariant
-    (slice_get_read v.records.items c.len-2.result c.args.at r (c.len-2.ensures ∙ v.records.ok.0) (omega (arith, c.if-at-len-2.false)) c.index-fork.ensures)
 
 pub returns-in-None-sharing_of : goal.returns-in-None-sharing_of
 returns-in-None-sharing_of g c =

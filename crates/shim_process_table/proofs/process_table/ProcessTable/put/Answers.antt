@@ -1,7 +1,7 @@
 use Rattle.std.proofs.Common.{sym, subst, slice_set}
 use Rattle.shim_local.specs.Process.{AtPut}
 use Rattle.shim_semantics.specs.Acts.{putting}
-use Rattle.shim_laws_table.specs.Seen.{lives}
+use Rattle.shim_laws_table.specs.NodeStatus.{lives}
 use Rattle.shim_laws_table_events.specs.keeping.Tables.{HasTableInvariant}
 use Rattle.shim_process_table.specs.Stepping.{LivesAt}
 use Rattle.shim_process_table.specs.Acting.{ActsAlone}
@@ -15,11 +15,11 @@ returns-clause-acts g c =
     let v = c.self.inside in
     let l = c.index_mut.result.now in
     let s = c.put-byte.new.self in
-    let told = putting c.put-byte.result in
+    let put_effects = putting c.put-byte.result in
     let forks = c.propagate_stop-to_requeue.result.forks in
     let here = subst (λ z. LivesAt o z c.args.number AtPut) (sym c.self.view_is) c.requires in
-    subst (λ z. ActsAlone o forks c.args.number AtPut lives told z (record { states = slice_set v.states.items c.args.number s; records = c.propagate_stop-to_requeue.new.records.items })) c.self.view_is
-    (lives_here o law v.states.items v.records.items c.propagate_stop-to_requeue.new.records.items c.args.number AtPut told l here c.index_mut.ensures.value forks s c.index.result.now c.index.ensures c.propagate_stop-to_requeue.ensures.propagates c.propagate_stop-to_requeue.ensures.newly_ready
+    subst (λ z. ActsAlone o forks c.args.number AtPut lives put_effects z (record { states = slice_set v.states.items c.args.number s; records = c.propagate_stop-to_requeue.new.records.items })) c.self.view_is
+    (lives_here o law v.states.items v.records.items c.propagate_stop-to_requeue.new.records.items c.args.number AtPut put_effects l here c.index_mut.ensures.value forks s c.index.result.now c.index.ensures c.propagate_stop-to_requeue.ensures.propagates c.propagate_stop-to_requeue.ensures.newly_ready
     (puts o l s c.put-byte.result c.put-byte.ensures.byte c.put-byte.ensures.after))
 
 pub returns-clause-queue : goal.returns-clause-queue

@@ -2,7 +2,7 @@ use Rattle.std.proofs.Common.{sym, subst, slice_set}
 use Rattle.shim_local.specs.Process.{AtQuiet}
 use Rattle.shim_process_table.specs.Stepping.{LivesAt, StepsAt}
 use Rattle.shim_process_table.specs.Touching.{ReadiesAbove}
-use Rattle.shim_process_table.proofs.HereSteps.{steps_here, still_kept, other_stop, stands_then, readies_here}
+use Rattle.shim_process_table.proofs.HereSteps.{steps_here, still_kept, other_stop, lives_then, readies_here}
 use Rattle.shim_process_table.proofs.process_table.ProcessTable.step.Goals as goal
 
 pub returns-clause-steps : goal.returns-clause-steps
@@ -52,6 +52,6 @@ returns-clause-queue g c =
     let v = c.self.inside in
     let s = c.quiet-quiet.new.self in
     let before = subst (λ z. LivesAt o z c.args.number AtQuiet) (sym c.self.view_is) c.requires in
-    let then = stands_then o law v.states.items v.records.items c.propagate_stop-to_requeue.new.records.items c.args.number c.quiet-quiet.result.taken c.index_mut.result.now s c.index.result.now before c.index_mut.ensures.value c.quiet-quiet.ensures.steps c.index.ensures
+    let then = lives_then o law v.states.items v.records.items c.propagate_stop-to_requeue.new.records.items c.args.number c.quiet-quiet.result.taken c.index_mut.result.now s c.index.result.now before c.index_mut.ensures.value c.quiet-quiet.ensures.steps c.index.ensures
     c.propagate_stop-to_requeue.ensures.propagates in
     c.propagate_stop-to_requeue.ensures.queue (record { states = slice_set v.states.items c.args.number s; records = c.propagate_stop-to_requeue.new.records.items }) c.args.number then.0 then.1

@@ -3,7 +3,7 @@ use Rattle.std.specs.Prelude.{Some}
 use Rattle.shim_local.specs.Process.{AtThrow}
 use Rattle.shim_semantics.specs.Nodes.{Dead}
 use Rattle.shim_semantics.specs.Acts.{nothing, act_live}
-use Rattle.shim_laws_table.specs.Seen.{dies}
+use Rattle.shim_laws_table.specs.NodeStatus.{dies}
 use Rattle.shim_records.specs.declared.record.Status.TheVariants as code
 use Rattle.shim_laws_table_events.specs.keeping.Tables.{HasTableInvariant}
 use Rattle.shim_process_table.specs.Stepping.{LivesAt}

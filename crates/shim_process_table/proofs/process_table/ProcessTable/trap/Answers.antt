@@ -2,7 +2,7 @@ use Rattle.std.proofs.Common.{◌≤◌, ◌+◌, pos, refl, sym, subst, rules}
 use Rattle.shim_local.specs.Process.{AtTrap}
 use Rattle.shim_semantics.specs.Nodes.{death_with}
 use Rattle.shim_semantics.specs.Acts.{trapping}
-use Rattle.shim_laws_table.specs.Seen.{dies}
+use Rattle.shim_laws_table.specs.NodeStatus.{dies}
 use Rattle.shim_records.specs.declared.record.Status.TheVariants as code
 use Rattle.shim_laws_table_events.specs.keeping.Tables.{HasTableInvariant}
 use Rattle.shim_process_table.specs.Stepping.{LivesAt}

@@ -4,7 +4,7 @@ use Rattle.std.specs.List.{slice_get}
 use Rattle.std.proofs.lemmas.List.{append_assoc}
 use Rattle.std.proofs.lemmas.Option.{slice_get_read}
 use Rattle.shim_semantics.specs.Endings.{history_of}
-use Rattle.shim_run_log.proofs.Listed.{EachWithin, each_leads, each_within, history_at, history_there, in_order, told_each}
+use Rattle.shim_run_log.proofs.Listed.{EachWithin, each_leads, each_within, history_at, history_there, in_order, histories_of_each}
 use Rattle.shim_run_log.proofs.histories.Histories.list.Goals as goal
 
 pub loop-number-init : goal.loop-number-init
@@ -14,7 +14,7 @@ loop-number-init c =
     let leads = each_leads numbers kept c.self.invariant.numbered c.values-number-items.ensures.ordered in
     let gives = c.into_iter-number-iterator.ensures.into_iter_gives ∙ c.values-number-items.ensures.rest in (
       (λ i. c.new-list.ensures i ++ map (history_at kept) (gives i))
-          ∙ sym (told_each kept numbers.entries leads)
+          ∙ sym (histories_of_each kept numbers.entries leads)
           ∙ ap (map history_of) (sym (in_order numbers kept c.values-number-items.ensures.ordered))
           ∙ ap (λ m. map history_of (finite.entries m)) c.self.view_is,
       subst (EachWithin kept) (sym gives) (each_within kept numbers.entries leads),

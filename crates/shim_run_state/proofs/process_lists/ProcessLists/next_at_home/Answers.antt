@@ -1,6 +1,6 @@
 use Rattle.std.proofs.Common.{◌<◌, length, refl, sym, subst}
 use Rattle.shim_run_state.specs.ProcessLists.{ProcessListsView, Serves}
-use Rattle.shim_run_state.specs.Enqueueing.{KeepsQuietListed, IsFirstHome, IsButReadyQueue}
+use Rattle.shim_run_state.specs.Enqueueing.{KeepsQuietListed, IsListedHome, IsButReadyQueue}
 use Rattle.shim_run_state.proofs.ProcessLists.{in_checked_out, still_even}
 use Rattle.shim_run_state.proofs.process_lists.ProcessLists.next_at_home.Goals as goal
 
@@ -26,8 +26,8 @@ returns-clause-still g c =
 
 pub returns-clause-first : goal.returns-clause-first
 returns-clause-first g c =
-    subst (λ (z : ProcessListsView). IsFirstHome g.L.Local.ops c.args.table.now z.checked_out c.first_at_home.new.ready_queue c.first_at_home.result) c.self.view_is
-    (subst (λ z. IsFirstHome g.L.Local.ops c.args.table.now z c.first_at_home.new.ready_queue c.first_at_home.result) c.as_slice.ensures.value c.first_at_home.ensures.first)
+    subst (λ (z : ProcessListsView). IsListedHome g.L.Local.ops c.args.table.now z.checked_out c.first_at_home.new.ready_queue c.first_at_home.result) c.self.view_is
+    (subst (λ z. IsListedHome g.L.Local.ops c.args.table.now z c.first_at_home.new.ready_queue c.first_at_home.result) c.as_slice.ensures.value c.first_at_home.ensures.first)
 
 pub returns-clause-rest : goal.returns-clause-rest
 returns-clause-rest g c =

@@ -34,7 +34,7 @@ set_out-requires-clause-used g c κs within =
     let checked_out = subst (λ z. CheckedOutReaches o z n c.args.taken l c.args.last) (sym c.self.view_is) c.requires.did.1 in
     let taken = c.args.taken in
     let table = c.advance-to_requeue.new.self in
-    let comes : QuietlyReaches o w.table n taken c.args.last = record { first = checked_out.checked_out.at_quiet.first; process = l; has = checked_out.checked_out.at_quiet.has; stands = checked_out.checked_out.at_quiet.stands; chain = checked_out.chain } in
+    let comes : QuietlyReaches o w.table n taken c.args.last = record { first = checked_out.checked_out.at_quiet.first; process = l; has = checked_out.checked_out.at_quiet.has; stop_is = checked_out.checked_out.at_quiet.stop_is; chain = checked_out.chain } in
     let d = does_steps o w.table table n taken l checked_out.checked_out.at_quiet (c.advance-to_requeue.ensures.steps taken comes) in
     still_used o v table n taken l checked_out.checked_out.at_quiet d
 
@@ -48,7 +48,7 @@ acted-requires-clause-used g c κs within =
     let checked_out = subst (λ z. CheckedOutReaches o z n c.args.taken l c.args.last) (sym c.self.view_is) c.requires.did.1 in
     let taken = c.args.taken in
     let table = c.advance-to_requeue.new.self in
-    let comes : QuietlyReaches o w.table n taken c.args.last = record { first = checked_out.checked_out.at_quiet.first; process = l; has = checked_out.checked_out.at_quiet.has; stands = checked_out.checked_out.at_quiet.stands; chain = checked_out.chain } in
+    let comes : QuietlyReaches o w.table n taken c.args.last = record { first = checked_out.checked_out.at_quiet.first; process = l; has = checked_out.checked_out.at_quiet.has; stop_is = checked_out.checked_out.at_quiet.stop_is; chain = checked_out.chain } in
     let d = does_steps o w.table table n taken l checked_out.checked_out.at_quiet (c.advance-to_requeue.ensures.steps taken comes) in
     still_used o v table n taken l checked_out.checked_out.at_quiet d
 
@@ -62,7 +62,7 @@ set_out-requires-clause-serves g c κs within =
     let checked_out = subst (λ z. CheckedOutReaches o z n c.args.taken l c.args.last) (sym c.self.view_is) c.requires.did.1 in
     let taken = c.args.taken in
     let table = c.advance-to_requeue.new.self in
-    let comes : QuietlyReaches o w.table n taken c.args.last = record { first = checked_out.checked_out.at_quiet.first; process = l; has = checked_out.checked_out.at_quiet.has; stands = checked_out.checked_out.at_quiet.stands; chain = checked_out.chain } in
+    let comes : QuietlyReaches o w.table n taken c.args.last = record { first = checked_out.checked_out.at_quiet.first; process = l; has = checked_out.checked_out.at_quiet.has; stop_is = checked_out.checked_out.at_quiet.stop_is; chain = checked_out.chain } in
     let d = does_steps o w.table table n taken l checked_out.checked_out.at_quiet (c.advance-to_requeue.ensures.steps taken comes) in
     still_serves o v table n taken l checked_out.checked_out.at_quiet d w.process_lists c.self.invariant.0.serves
 
@@ -76,7 +76,7 @@ acted-requires-clause-serves g c κs within =
     let checked_out = subst (λ z. CheckedOutReaches o z n c.args.taken l c.args.last) (sym c.self.view_is) c.requires.did.1 in
     let taken = c.args.taken in
     let table = c.advance-to_requeue.new.self in
-    let comes : QuietlyReaches o w.table n taken c.args.last = record { first = checked_out.checked_out.at_quiet.first; process = l; has = checked_out.checked_out.at_quiet.has; stands = checked_out.checked_out.at_quiet.stands; chain = checked_out.chain } in
+    let comes : QuietlyReaches o w.table n taken c.args.last = record { first = checked_out.checked_out.at_quiet.first; process = l; has = checked_out.checked_out.at_quiet.has; stop_is = checked_out.checked_out.at_quiet.stop_is; chain = checked_out.chain } in
     let d = does_steps o w.table table n taken l checked_out.checked_out.at_quiet (c.advance-to_requeue.ensures.steps taken comes) in
     subst (Serves table) (sym c.set_out.ensures.is) (still_serves o v table n taken l checked_out.checked_out.at_quiet d w.process_lists c.self.invariant.0.serves)
 
@@ -92,17 +92,17 @@ invariant_of-self g c =
     let few = subst (λ z. steps (tree_in o z) + c.args.taken ≤ 4000000) (sym c.self.view_is) c.requires.few in
     let taken = c.args.taken in
     let table = c.advance-to_requeue.new.self in
-    let comes : QuietlyReaches o w.table n taken c.args.last = record { first = checked_out.checked_out.at_quiet.first; process = l; has = checked_out.checked_out.at_quiet.has; stands = checked_out.checked_out.at_quiet.stands; chain = checked_out.chain } in
+    let comes : QuietlyReaches o w.table n taken c.args.last = record { first = checked_out.checked_out.at_quiet.first; process = l; has = checked_out.checked_out.at_quiet.has; stop_is = checked_out.checked_out.at_quiet.stop_is; chain = checked_out.chain } in
     let d = does_steps o w.table table n taken l checked_out.checked_out.at_quiet (c.advance-to_requeue.ensures.steps taken comes) in
     let mid = c.set_out.ensures.is in
     let counted : HasCounted n taken w.process_lists.own c.acted.new.self.own = subst (λ (z : ProcessListsView). HasCounted n taken z.own c.acted.new.self.own) mid c.acted.ensures.counted in
     let out_is : c.acted.new.self.checked_out ≡ slice_set w.process_lists.checked_out n false = c.acted.ensures.requeues.checked_out ∙ ap (λ (z : ProcessListsView). z.checked_out) mid in
     let u = view_of w.begun.value table w.output.items w.histories (logged w.logs.items) c.acted.new.self w.past.items w.events in
-    let told : SameEffects v u = record { output = refl; histories = refl; logs = refl; past = refl; events = refl } in
+    let unchanged : SameEffects v u = record { output = refl; histories = refl; logs = refl; past = refl; events = refl } in
     let far : (i : ℕ) → i ≢ n → is_listed c.acted.new.self.checked_out i ≡ is_listed w.process_lists.checked_out i = λ i apart. ap (λ z. is_listed z i) out_is ∙ far_flag w.process_lists.checked_out i n false apart in
     let free = ap (λ z. is_listed z n) out_is ∙ flag_put w.process_lists.checked_out n false c.set_out.ensures.within in
-    let a = advanced_by o law v u c.self.invariant.0 n taken l checked_out.checked_out.at_quiet d far free told counted in (
-      steps_keep o law v u c.self.invariant.0 n taken l checked_out.checked_out.at_quiet d far free told counted c.advance-to_requeue.result.forks few c.advance-to_requeue.ensures.newly_ready (subst (λ (z : ProcessListsView). ListsInEventQueue o table c.advance-to_requeue.result.forks n z.event_queue c.acted.new.self.event_queue) mid c.acted.ensures.requeues.event_queue)
+    let a = advanced_by o law v u c.self.invariant.0 n taken l checked_out.checked_out.at_quiet d far free unchanged counted in (
+      steps_keep o law v u c.self.invariant.0 n taken l checked_out.checked_out.at_quiet d far free unchanged counted c.advance-to_requeue.result.forks few c.advance-to_requeue.ensures.newly_ready (subst (λ (z : ProcessListsView). ListsInEventQueue o table c.advance-to_requeue.result.forks n z.event_queue c.acted.new.self.event_queue) mid c.acted.ensures.requeues.event_queue)
           (subst (λ (z : ProcessListsView). ListsInReadyQueue o table n z.ready_queue c.acted.new.self.ready_queue) mid c.acted.ensures.requeues.ready_queue),
       ap (λ z. z + taken) c.self.invariant.1 ∙ sym a.counts,
     )
@@ -117,14 +117,14 @@ returns g c l h =
     let checked_out = subst (λ z. CheckedOutReaches o z n c.args.taken l c.args.last) (sym c.self.view_is) h in
     let taken = c.args.taken in
     let table = c.advance-to_requeue.new.self in
-    let comes : QuietlyReaches o w.table n taken c.args.last = record { first = checked_out.checked_out.at_quiet.first; process = l; has = checked_out.checked_out.at_quiet.has; stands = checked_out.checked_out.at_quiet.stands; chain = checked_out.chain } in
+    let comes : QuietlyReaches o w.table n taken c.args.last = record { first = checked_out.checked_out.at_quiet.first; process = l; has = checked_out.checked_out.at_quiet.has; stop_is = checked_out.checked_out.at_quiet.stop_is; chain = checked_out.chain } in
     let d = does_steps o w.table table n taken l checked_out.checked_out.at_quiet (c.advance-to_requeue.ensures.steps taken comes) in
     let mid = c.set_out.ensures.is in
     let counted : HasCounted n taken w.process_lists.own c.acted.new.self.own = subst (λ (z : ProcessListsView). HasCounted n taken z.own c.acted.new.self.own) mid c.acted.ensures.counted in
     let out_is : c.acted.new.self.checked_out ≡ slice_set w.process_lists.checked_out n false = c.acted.ensures.requeues.checked_out ∙ ap (λ (z : ProcessListsView). z.checked_out) mid in
     let u = view_of w.begun.value table w.output.items w.histories (logged w.logs.items) c.acted.new.self w.past.items w.events in
-    let told : SameEffects v u = record { output = refl; histories = refl; logs = refl; past = refl; events = refl } in
+    let unchanged : SameEffects v u = record { output = refl; histories = refl; logs = refl; past = refl; events = refl } in
     let far : (i : ℕ) → i ≢ n → is_listed c.acted.new.self.checked_out i ≡ is_listed w.process_lists.checked_out i = λ i apart. ap (λ z. is_listed z i) out_is ∙ far_flag w.process_lists.checked_out i n false apart in
     let free = ap (λ z. is_listed z n) out_is ∙ flag_put w.process_lists.checked_out n false c.set_out.ensures.within in
     subst (λ z. ChecksIn o z u n taken l c.args.last) c.self.view_is
-    (checks_in o law v u c.self.invariant.0 n taken l checked_out.checked_out.at_quiet d far free told counted checked_out.checked_out c.args.last checked_out.chain)
+    (checks_in o law v u c.self.invariant.0 n taken l checked_out.checked_out.at_quiet d far free unchanged counted checked_out.checked_out c.args.last checked_out.chain)

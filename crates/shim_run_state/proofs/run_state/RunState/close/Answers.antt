@@ -81,5 +81,5 @@ returns-clause-ok g c =
     let its : gathered ≡ counts_from (only_block h.first h.many (path_at o w.table)) w.process_lists.own = c.in_ok-gathered.ensures ∙ (λ j. counts_from (only_block (are.0 j) (are.1 j) (path_at o w.table)) (c.own.ensures j)) in
     let one : OneClose o m n r v behind h = record { output = refl; histories = refl; logs = logs; own = c.requeue.ensures.own; gathered = gathered; past = past; are = its; events = refl; again = c.requeue.ensures.requeues } in
     let went = closes_go o law v behind c.self.invariant.0 m n r h one few in
-    let told : c.in_ok-copy.field-0 ≡ c.in_ok-path.path = search rules in
-    subst (λ z. HappensIn o c.args.self.now behind (Close z)) (sym (told ∙ path)) (subst (λ z. HappensIn o z behind (Close (o.path h.process))) c.self.view_is went.happens)
+    let path_found : c.in_ok-copy.field-0 ≡ c.in_ok-path.path = search rules in
+    subst (λ z. HappensIn o c.args.self.now behind (Close z)) (sym (path_found ∙ path)) (subst (λ z. HappensIn o z behind (Close (o.path h.process))) c.self.view_is went.happens)

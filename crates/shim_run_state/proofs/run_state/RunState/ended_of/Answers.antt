@@ -10,7 +10,7 @@ use Rattle.shim_run_log.specs.Logged.{logged}
 use Rattle.shim_run_log.specs.Counted.{counted}
 use Rattle.shim_run_state.specs.Fields.{view_of, count_in}
 use Rattle.shim_run_state.specs.RunStates.{tree_in, path_at, counts_from}
-use Rattle.shim_run_state.proofs.RootRead.{root_is, root_in_use, told_empty}
+use Rattle.shim_run_state.proofs.RootRead.{root_is, root_in_use, empty_where_quiescent}
 use Rattle.shim_run_state.proofs.Summing.{counts_are_few}
 use Rattle.shim_run_state.proofs.run_state.RunState.ended_of.Goals as goal
 
@@ -38,7 +38,7 @@ returns-clause-ended g c =
     let root = (tree_in o v).root in
     let is_root = root_is o w.table root kept.represents in
     let rests = subst (λ z. IsTrue c.args.quiescent ↔ IsQuiescent o (tree_in o z)) (sym c.self.view_is) c.requires in
-    read_off o (tree_in o v) _ c.args.quiescent (told_empty o v c.args.quiescent kept rests)
+    read_off o (tree_in o v) _ c.args.quiescent (empty_where_quiescent o v c.args.quiescent kept rests)
     (c.in_ok-from_slice.ensures ∙ c.as_slice.ensures.value)
     c.in_ok-list.ensures
     (c.in_ok-logs_by_path.ensures ∙ ap (λ z. endings.all_logs (finite.entries (logged z))) c.as_slice-2.ensures.value)

@@ -3,7 +3,7 @@ use Rattle.std.proofs.lemmas.List.{append-nil}
 use Rattle.shim_local.specs.Process.{AtFinish}
 use Rattle.shim_semantics.specs.Acts.{nothing}
 use Rattle.shim_semantics.specs.Trees.{End, steps}
-use Rattle.shim_laws_table.specs.Seen.{ends}
+use Rattle.shim_laws_table.specs.NodeStatus.{ends}
 use Rattle.shim_run_log.specs.Logged.{logged}
 use Rattle.shim_run_state.specs.Fields.{view_of}
 use Rattle.shim_run_state.specs.RunStates.{tree_in}
@@ -38,13 +38,13 @@ invariant_of-self g c =
     let few = subst (λ z. steps (tree_in o z) < 4000000) (sym c.self.view_is) c.requires.few in
     let a = c.end_process-forks.ensures in
     let u = view_of w.begun.value c.end_process-forks.new.self w.output.items w.histories (logged w.logs.items) c.requeue.new.self w.past.items (w.events + 1) in
-    let told : AddsEffects o law v u c.self.invariant.0 (c.end_process-forks.result + 1) n AtFinish ends nothing a = record {
+    let added : AddsEffects o law v u c.self.invariant.0 (c.end_process-forks.result + 1) n AtFinish ends nothing a = record {
       output = sym (append-nil w.output.items);
       histories = refl;
       logs = refl;
       past = refl;
     } in
-    let r = end_done o law v u c.self.invariant.0 (c.end_process-forks.result + 1) n AtFinish ends nothing a refl (λ e. absurd cc) told c.requeue.ensures.own c.requeue.ensures.requeues refl few in
+    let r = end_done o law v u c.self.invariant.0 (c.end_process-forks.result + 1) n AtFinish ends nothing a refl (λ e. absurd cc) added c.requeue.ensures.own c.requeue.ensures.requeues refl few in
     (r.0, ap (λ z. z + 1) c.self.invariant.1 ∙ sym r.2)
 
 pub returns-clause-ok : goal.returns-clause-ok
@@ -57,12 +57,12 @@ returns-clause-ok g c =
     let few = subst (λ z. steps (tree_in o z) < 4000000) (sym c.self.view_is) c.requires.few in
     let a = c.end_process-forks.ensures in
     let u = view_of w.begun.value c.end_process-forks.new.self w.output.items w.histories (logged w.logs.items) c.requeue.new.self w.past.items (w.events + 1) in
-    let told : AddsEffects o law v u c.self.invariant.0 (c.end_process-forks.result + 1) n AtFinish ends nothing a = record {
+    let added : AddsEffects o law v u c.self.invariant.0 (c.end_process-forks.result + 1) n AtFinish ends nothing a = record {
       output = sym (append-nil w.output.items);
       histories = refl;
       logs = refl;
       past = refl;
     } in
-    let r = end_done o law v u c.self.invariant.0 (c.end_process-forks.result + 1) n AtFinish ends nothing a refl (λ e. absurd cc) told c.requeue.ensures.own c.requeue.ensures.requeues refl few in
+    let r = end_done o law v u c.self.invariant.0 (c.end_process-forks.result + 1) n AtFinish ends nothing a refl (λ e. absurd cc) added c.requeue.ensures.own c.requeue.ensures.requeues refl few in
     let path = c.in_ok-copy.ensures ∙ c.path.ensures a.process a.has.state_is in
     subst (λ z. HappensIn o z u (End c.in_ok-copy.field-0)) c.self.view_is (subst (λ z. HappensIn o v u (End z)) (sym path) r.1)

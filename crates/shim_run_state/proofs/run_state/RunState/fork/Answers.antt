@@ -2,7 +2,7 @@ use Rattle.std.proofs.Common.{◌≡◌, ◌<◌, ◌+◌, length, Some, sym, ap
 use Rattle.std.specs.Prelude.{slice_get}
 use Rattle.shim_base.proofs.Facts.{at_fault}
 use Rattle.shim_semantics.specs.Trees.{Own, steps}
-use Rattle.shim_laws_table.specs.Seen.{lives}
+use Rattle.shim_laws_table.specs.NodeStatus.{lives}
 use Rattle.shim_laws_table_events.specs.keeping.Tables.{HasProcessState}
 use Rattle.shim_process_table.specs.Forking.{forked_count}
 use Rattle.shim_run_state.specs.CheckingOut.{HappensIn}
@@ -50,7 +50,7 @@ returns-clause-ok g c =
     let v = c.args.self.now in
     let m = c.make_room.new.self in
     let same = c.make_room.ensures.same in
-    let s = c.requires.stands in
+    let s = c.requires.lives_at in
     let there = subst (λ z. slice_get z.table.states c.args.number ≡ Some s.1) (sym c.self.view_is) s.2.state_is in
     let copied : c.in_ok-copy.field-0 ≡ c.path.result.now = search rules in
     let path : o.path s.1 ≡ c.in_ok-copy.field-0 = sym (copied ∙ c.path.ensures s.1 there) in

@@ -12,7 +12,7 @@ unreachable-requires g c =
     let o = g.L.Local.ops in
     let w = c.requires.alone in
     let process : c.process.result.now ≡ w.process = some_same c.process.result.now w.process (sym c.process.ensures ∙ (ap (λ z. slice_get z.table.states c.args.number) c.self.view_is ∙ w.has.state_is)) in
-    none_some w.chan (c.in-None.ensures ∙ (ap (λ z. next_channel (o.stop z)) process ∙ ap next_channel w.stands))
+    none_some w.chan (c.in-None.ensures ∙ (ap (λ z. next_channel (o.stop z)) process ∙ ap next_channel w.stop_is))
 
 pub meet_on-requires-clause-enabled : goal.meet_on-requires-clause-enabled
 meet_on-requires-clause-enabled g c κs within =
@@ -21,6 +21,6 @@ meet_on-requires-clause-enabled g c κs within =
     let v = c.args.self.now.table in
     let w = c.requires.alone in
     let process : c.process.result.now ≡ w.process = some_same c.process.result.now w.process (sym c.process.ensures ∙ (ap (λ z. slice_get z.table.states c.args.number) c.self.view_is ∙ w.has.state_is)) in
-    let next : Some c.in-Some.chan.now ≡ Some w.chan = c.in-Some.ensures ∙ (ap (λ z. next_channel (o.stop z)) process ∙ ap next_channel w.stands) in
+    let next : Some c.in-Some.chan.now ≡ Some w.chan = c.in-Some.ensures ∙ (ap (λ z. next_channel (o.stop z)) process ∙ ap next_channel w.stop_is) in
     let is : w.chan ≡ c.in_ok-chan-in-Some.chan = sym (c.in_ok-chan-in-Some.ensures ∙ some_same c.in-Some.chan.now w.chan next) in
     subst (λ z. IsEnabled o (Meet z.channel) v) is (due_enabled o v c.args.number law (Meet w.chan.channel) (due_alone o v c.args.number w))

@@ -28,9 +28,9 @@ invariant_of-self-2 g c =
     let enabled = subst (λ z. IsEnabled o (Meet ch) z.table) (sym c.self.view_is) c.requires.enabled in
     let moves = (meeting_preserves o law w.table now ch sharers x enabled (c.in_ok-record.ensures.receivers c.in_ok-value.ensures.lists) c.in_ok-value.ensures.value all).0 in
     let changes = all_receive_changed o law ch x sharers w.table now all in
-    let told : RecordsValue o w.table ch x w.histories c.record.new.histories = subst (λ z. RecordsValue o w.table ch z w.histories c.record.new.histories) (to_z-of_z w64 x fits) c.in_ok-record.ensures.ok in
+    let recorded_value : RecordsValue o w.table ch x w.histories c.record.new.histories = subst (λ z. RecordsValue o w.table ch z w.histories c.record.new.histories) (to_z-of_z w64 x fits) c.in_ok-record.ensures.ok in
     let passes = c.receive_each.ensures.passes in
-    let went = met_goes o law before c.self.invariant.0 few ch x sharers now c.receive_each.new.process_lists c.record.new.histories (passes.keeps before c.self.invariant.0) passes.own passes.checked_out moves changes c.in_ok-value.ensures.value told in
+    let went = met_goes o law before c.self.invariant.0 few ch x sharers now c.receive_each.new.process_lists c.record.new.histories (passes.keeps before c.self.invariant.0) passes.own passes.checked_out moves changes c.in_ok-value.ensures.value recorded_value in
     (went.keeps, ap (λ z. z + 1) c.self.invariant.1 ∙ sym went.steps_are)
 
 pub returns-clause-ok : goal.returns-clause-ok
@@ -49,8 +49,8 @@ returns-clause-ok g c =
     let enabled = subst (λ z. IsEnabled o (Meet ch) z.table) (sym c.self.view_is) c.requires.enabled in
     let moves = (meeting_preserves o law w.table now ch sharers x enabled (c.in_ok-record.ensures.receivers c.in_ok-value.ensures.lists) c.in_ok-value.ensures.value all).0 in
     let changes = all_receive_changed o law ch x sharers w.table now all in
-    let told : RecordsValue o w.table ch x w.histories c.record.new.histories = subst (λ z. RecordsValue o w.table ch z w.histories c.record.new.histories) (to_z-of_z w64 x fits) c.in_ok-record.ensures.ok in
+    let recorded_value : RecordsValue o w.table ch x w.histories c.record.new.histories = subst (λ z. RecordsValue o w.table ch z w.histories c.record.new.histories) (to_z-of_z w64 x fits) c.in_ok-record.ensures.ok in
     let passes = c.receive_each.ensures.passes in
-    let went = met_goes o law before c.self.invariant.0 few ch x sharers now c.receive_each.new.process_lists c.record.new.histories (passes.keeps before c.self.invariant.0) passes.own passes.checked_out moves changes c.in_ok-value.ensures.value told in
+    let went = met_goes o law before c.self.invariant.0 few ch x sharers now c.receive_each.new.process_lists c.record.new.histories (passes.keeps before c.self.invariant.0) passes.own passes.checked_out moves changes c.in_ok-value.ensures.value recorded_value in
     let behind = view_of w.begun.value now w.output.items c.record.new.histories (logged w.logs.items) c.receive_each.new.process_lists w.past.items (w.events + 1) in
     subst (λ z. HappensIn o z behind (Meet ch)) c.self.view_is went.happens

@@ -1,9 +1,9 @@
 use Rattle.std.proofs.Common.{◌≡◌, ◌≤◌, ◌<◌, ◌+◌, length, refl, sym, ap, subst, ◌∙◌, arith}
 use Rattle.shim_semantics.specs.Trees.{Own, steps}
 use Rattle.shim_run_log.specs.Logged.{logged}
-use Rattle.shim_laws_table.specs.Seen.{lives}
+use Rattle.shim_laws_table.specs.NodeStatus.{lives}
 use Rattle.shim_laws_table.proofs.OneChange.{one_state}
-use Rattle.shim_laws_table_events.specs.keeping.Tables.{HasProcessState, stands}
+use Rattle.shim_laws_table_events.specs.keeping.Tables.{HasProcessState, views}
 use Rattle.shim_process_table.specs.Forking.{ForksHere, forked_count}
 use Rattle.shim_run_state.specs.Fields.{view_of}
 use Rattle.shim_run_state.specs.RunStates.{tree_in}
@@ -157,5 +157,5 @@ returns-clause-ok g c f l has =
     let one : OneOwnStep v behind = record { output = refl; histories = refl; logs = refl; past = refl; events = refl } in
     let did = fork_goes o law v behind kept m n s c.acted.ensures.counted c.acted.ensures.requeues one few end most room r h new in
     let mine : HasProcessState w.table n f l lives = subst (λ z. HasProcessState z n f l lives) (sym (ap (λ z. z.table) c.self.view_is)) has in
-    let same : did.was ≡ l = one_state w.table.states (stands w.table) n did.first f did.was l lives lives did.lived mine in
+    let same : did.was ≡ l = one_state w.table.states (views w.table) n did.first f did.was l lives lives did.lived mine in
     subst (λ z. HappensIn o c.args.self.now behind (Own (o.path z))) same (subst (λ z. HappensIn o z behind (Own (o.path did.was))) c.self.view_is did.goes.happens)

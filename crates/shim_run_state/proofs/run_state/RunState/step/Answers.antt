@@ -12,7 +12,7 @@ pub step-requires-after_bounds : goal.step-requires-after_bounds
 step-requires-after_bounds g c κs within =
     let l = c.requires.home.0 in
     let home = subst (λ z. IsHomeAt g.L.Local.ops z c.args.number l) (sym c.self.view_is) c.requires.home.1 in
-    (home.at_quiet.first, l, home.at_quiet.has, home.at_quiet.stands)
+    (home.at_quiet.first, l, home.at_quiet.has, home.at_quiet.stop_is)
 
 pub acted-requires-clause-few : goal.acted-requires-clause-few
 acted-requires-clause-few g c κs within count e =
@@ -65,10 +65,10 @@ invariant_of-self g c =
     let table = c.step.new.self in
     let d = does_steps o w.table table n taken l home.at_quiet c.step.ensures.steps in
     let u = view_of w.begun.value table w.output.items w.histories (logged w.logs.items) c.acted.new.self w.past.items w.events in
-    let told : SameEffects v u = record { output = refl; histories = refl; logs = refl; past = refl; events = refl } in
+    let unchanged : SameEffects v u = record { output = refl; histories = refl; logs = refl; past = refl; events = refl } in
     let most = c.step.ensures.most in
-    let a = advanced_by o law v u c.self.invariant.0 n taken l home.at_quiet d (λ i far. ap (λ z. is_listed z i) c.acted.ensures.requeues.checked_out) (ap (λ z. is_listed z n) c.acted.ensures.requeues.checked_out ∙ home.free) told c.acted.ensures.counted in (
-      steps_keep o law v u c.self.invariant.0 n taken l home.at_quiet d (λ i far. ap (λ z. is_listed z i) c.acted.ensures.requeues.checked_out) (ap (λ z. is_listed z n) c.acted.ensures.requeues.checked_out ∙ home.free) told c.acted.ensures.counted c.step.result.1.forks (omega (arith, few, most)) c.step.ensures.newly_ready c.acted.ensures.requeues.event_queue c.acted.ensures.requeues.ready_queue,
+    let a = advanced_by o law v u c.self.invariant.0 n taken l home.at_quiet d (λ i far. ap (λ z. is_listed z i) c.acted.ensures.requeues.checked_out) (ap (λ z. is_listed z n) c.acted.ensures.requeues.checked_out ∙ home.free) unchanged c.acted.ensures.counted in (
+      steps_keep o law v u c.self.invariant.0 n taken l home.at_quiet d (λ i far. ap (λ z. is_listed z i) c.acted.ensures.requeues.checked_out) (ap (λ z. is_listed z n) c.acted.ensures.requeues.checked_out ∙ home.free) unchanged c.acted.ensures.counted c.step.result.1.forks (omega (arith, few, most)) c.step.ensures.newly_ready c.acted.ensures.requeues.event_queue c.acted.ensures.requeues.ready_queue,
       ap (λ z. z + taken) c.self.invariant.1 ∙ sym a.counts,
     )
 
@@ -84,6 +84,6 @@ returns g c l h =
     let table = c.step.new.self in
     let d = does_steps o w.table table n taken l home.at_quiet c.step.ensures.steps in
     let u = view_of w.begun.value table w.output.items w.histories (logged w.logs.items) c.acted.new.self w.past.items w.events in
-    let told : SameEffects v u = record { output = refl; histories = refl; logs = refl; past = refl; events = refl } in
+    let unchanged : SameEffects v u = record { output = refl; histories = refl; logs = refl; past = refl; events = refl } in
     subst (λ z. StepsIn o z u n c.args.most c.step.result.0 l) c.self.view_is
-    (steps_in o law v u c.self.invariant.0 n taken l home.at_quiet d (λ i far. ap (λ z. is_listed z i) c.acted.ensures.requeues.checked_out) (ap (λ z. is_listed z n) c.acted.ensures.requeues.checked_out ∙ home.free) told c.acted.ensures.counted c.args.most c.step.result.0 refl c.step.ensures.most c.step.ensures.fewer home.free)
+    (steps_in o law v u c.self.invariant.0 n taken l home.at_quiet d (λ i far. ap (λ z. is_listed z i) c.acted.ensures.requeues.checked_out) (ap (λ z. is_listed z n) c.acted.ensures.requeues.checked_out ∙ home.free) unchanged c.acted.ensures.counted c.args.most c.step.result.0 refl c.step.ensures.most c.step.ensures.fewer home.free)

@@ -1,7 +1,7 @@
 use Rattle.std.proofs.Common.{◌<◌, ◌+◌, refl, sym, ap, subst, ◌∙◌}
 use Rattle.shim_local.specs.Process.{AtThrow}
 use Rattle.shim_semantics.specs.Trees.{Own, steps, with_logs}
-use Rattle.shim_laws_table.specs.Seen.{lives}
+use Rattle.shim_laws_table.specs.NodeStatus.{lives}
 use Rattle.shim_run_log.specs.Logged.{logged}
 use Rattle.shim_process_table.specs.Acting.{status_by_throw, throw_effects}
 use Rattle.shim_run_state.specs.Fields.{view_of}
@@ -43,13 +43,13 @@ invariant_of-self-2 g c =
     let a = c.throw-thrown.ensures.acts in
     let u = view_of w.begun.value c.throw-thrown.new.self w.output.items w.histories (logged c.log_catch.new.logs.items) c.acted.new.self w.past.items w.events in
     let at_path = c.in_ok-path.ensures ∙ c.path.ensures a.process a.has.state_is in
-    let told : AddsEffects o law v u c.self.invariant.0 c.throw-thrown.result.1.forks n (AtThrow c.args.label) (status_by_throw c.throw-thrown.result.0) (throw_effects c.throw-thrown.result.0) a = record {
+    let added : AddsEffects o law v u c.self.invariant.0 c.throw-thrown.result.1.forks n (AtThrow c.args.label) (status_by_throw c.throw-thrown.result.0) (throw_effects c.throw-thrown.result.0) a = record {
       output = throw_puts_none w.output.items c.throw-thrown.result.0;
       histories = refl;
       logs = c.log_catch.ensures ∙ (λ j. with_logs (logged (c.in_ok-reserve.ensures.items j)) (at_path j) (throw_effects c.throw-thrown.result.0).logs);
       past = refl;
     } in
-    let r = own_done o law v u c.self.invariant.0 c.throw-thrown.result.1.forks n (AtThrow c.args.label) (status_by_throw c.throw-thrown.result.0) (throw_effects c.throw-thrown.result.0) a refl (λ e. absurd cc) told c.acted.ensures.counted c.acted.ensures.requeues refl few in
+    let r = own_done o law v u c.self.invariant.0 c.throw-thrown.result.1.forks n (AtThrow c.args.label) (status_by_throw c.throw-thrown.result.0) (throw_effects c.throw-thrown.result.0) a refl (λ e. absurd cc) added c.acted.ensures.counted c.acted.ensures.requeues refl few in
     (r.0, ap (λ z. z + 1) c.self.invariant.1 ∙ sym r.2)
 
 pub returns-clause-ok : goal.returns-clause-ok
@@ -63,12 +63,12 @@ returns-clause-ok g c =
     let a = c.throw-thrown.ensures.acts in
     let u = view_of w.begun.value c.throw-thrown.new.self w.output.items w.histories (logged c.log_catch.new.logs.items) c.acted.new.self w.past.items w.events in
     let at_path = c.in_ok-path.ensures ∙ c.path.ensures a.process a.has.state_is in
-    let told : AddsEffects o law v u c.self.invariant.0 c.throw-thrown.result.1.forks n (AtThrow c.args.label) (status_by_throw c.throw-thrown.result.0) (throw_effects c.throw-thrown.result.0) a = record {
+    let added : AddsEffects o law v u c.self.invariant.0 c.throw-thrown.result.1.forks n (AtThrow c.args.label) (status_by_throw c.throw-thrown.result.0) (throw_effects c.throw-thrown.result.0) a = record {
       output = throw_puts_none w.output.items c.throw-thrown.result.0;
       histories = refl;
       logs = c.log_catch.ensures ∙ (λ j. with_logs (logged (c.in_ok-reserve.ensures.items j)) (at_path j) (throw_effects c.throw-thrown.result.0).logs);
       past = refl;
     } in
-    let r = own_done o law v u c.self.invariant.0 c.throw-thrown.result.1.forks n (AtThrow c.args.label) (status_by_throw c.throw-thrown.result.0) (throw_effects c.throw-thrown.result.0) a refl (λ e. absurd cc) told c.acted.ensures.counted c.acted.ensures.requeues refl few in
+    let r = own_done o law v u c.self.invariant.0 c.throw-thrown.result.1.forks n (AtThrow c.args.label) (status_by_throw c.throw-thrown.result.0) (throw_effects c.throw-thrown.result.0) a refl (λ e. absurd cc) added c.acted.ensures.counted c.acted.ensures.requeues refl few in
     let path = c.in_ok-copy.ensures ∙ at_path in
     subst (λ z. HappensIn o z u (Own c.in_ok-copy.field-0)) c.self.view_is (subst (λ z. HappensIn o v u (Own z)) (sym path) r.1)

@@ -1,12 +1,8 @@
-use Rattle.shim_records.proofs.FullPropagation.{kept_order}
 use Rattle.shim_records.proofs.ReadOff.{begun, ended, further, stopped}
-use Rattle.shim_records.proofs.recounting.recompute_min_labels.Goals as goal
+use Rattle.shim_records.proofs.recomputing.recompute_min_labels.Goals as goal
 
 pub loop-walked-init : goal.loop-walked-init
 loop-walked-init g c = begun g.L.Local.ops c.args.c.now.channel c.args.states.now c.args.forks c.args.at c.args.records.now.items
-
-pub recompute_one-requires-after_bounds : goal.recompute_one-requires-after_bounds
-recompute_one-requires-after_bounds g c κs within = kept_order c.args.records.now.items c.loop-walked.records.items c.loop-walked.invariant.1.rest c.requires
 
 pub returns-in-None : goal.returns-in-None
 returns-in-None g c =

@@ -10,10 +10,10 @@ use Rattle.shim_semantics.specs.Trees.{Tree, Event, Own, Close, End, after, met,
 use Rattle.shim_semantics.proofs.Alone.{doer, IsAlone}
 use Rattle.shim_semantics.proofs.Routes.{route_of}
 use Rattle.shim_semantics.proofs.ReplacedNodes.{put}
-use Rattle.shim_laws_schedules.proofs.Opened.{told, opened}
+use Rattle.shim_laws_schedules.proofs.EventParts.{with_effects, split_event}
 use Rattle.shim_laws_schedules.proofs.PoisonDiamond.{with_root, nodes_changed_some}
 use Rattle.shim_base.proofs.Facts.{some_same, cond_some}
-use Rattle.shim_laws_table.specs.Seen.{lives, forks, place}
+use Rattle.shim_laws_table.specs.NodeStatus.{lives, forks, place}
 use Rattle.shim_laws_table.specs.Agrees.{RecordView, Represents}
 use Rattle.shim_laws_table.specs.Changes.{segment, prevailing_among}
 use Rattle.shim_laws_table.specs.EventEffects.{EffectsOfEvents}
@@ -22,30 +22,30 @@ use Rattle.shim_laws_table.proofs.Children.{children_are_represented}
 
 module _ {S : Type 0} (o : Ops S) where
   -- the same tree with its own root written out
-  told_root : (e : Event) (t u : Tree S) (n : Node S) (s : Effects) → told e t n s ≡ u → u ≡ told e t u.root s
-  told_root e t u n s h = sym h ∙ ap (λ z. told e t z s) (ap (λ (z : Tree S). z.root) h)
+  effects_root : (e : Event) (t u : Tree S) (n : Node S) (s : Effects) → with_effects e t n s ≡ u → u ≡ with_effects e t u.root s
+  effects_root e t u n s h = sym h ∙ ap (λ z. with_effects e t z s) (ap (λ (z : Tree S). z.root) h)
 
-  module _ (rp : Path) (records : List S) (stands : List RecordView) (t u : Tree S) (l : S) (m : Node S) (a : Acted S) (s : Represents o rp records stands t.root) (there : at (place o rp l) t.root ≡ Some m) (is : state m ≡ l) where
-    tells : (e : Event) → IsAlone e → doer e ≡ o.path l → after o e t ≡ Some u → ((b : Acted S) → act_here o m ≡ Some b → b ≡ a) → u ≡ told e t u.root a.effects
-    tells e d its h one =
-        let x = opened o e t u d h in
+  module _ (rp : Path) (records : List S) (views : List RecordView) (t u : Tree S) (l : S) (m : Node S) (a : Acted S) (s : Represents o rp records views t.root) (there : at (place o rp l) t.root ≡ Some m) (is : state m ≡ l) where
+    own_effects : (e : Event) → IsAlone e → doer e ≡ o.path l → after o e t ≡ Some u → ((b : Acted S) → act_here o m ≡ Some b → b ≡ a) → u ≡ with_effects e t u.root a.effects
+    own_effects e d its h one =
+        let x = split_event o e t u d h in
         let led = route_of o t.root m (place o rp l) (o.path l) s.sound.below there (ap o.path is) in
         let place_is : x.place ≡ place o rp l = some_same x.place (place o rp l) (sym x.route_is ∙ (ap (route (o.path (state t.root))) its ∙ led)) in
         let same : x.old ≡ m = some_same x.old m (sym x.there ∙ (ap (λ z. at z t.root) place_is ∙ there)) in
         let acted : x.new ≡ a = one x.new (ap (act_here o) (sym same) ∙ x.here) in
-        told_root e t u (put x.place x.new.node t.root) x.new.effects x.is ∙ ap (λ (z : Acted S). told e t u.root z.effects) acted
+        effects_root e t u (put x.place x.new.node t.root) x.new.effects x.is ∙ ap (λ (z : Acted S). with_effects e t u.root z.effects) acted
 
   pub effects_of_events : EffectsOfEvents o
   effects_of_events = record {
-    own = λ rp records stands t u i f l a s has act h.
-        tells rp records stands t u l (Live l) a s (seen_live (at (place o rp l) t.root) l (s.agrees.shown i f l lives has)) refl (Own (o.path l)) (λ z. cc) refl h (λ b e. some_same b a (sym e ∙ act));
-    end = λ rp records stands t u i f l a s has act h.
-        tells rp records stands t u l (Live l) a s (seen_live (at (place o rp l) t.root) l (s.agrees.shown i f l lives has)) refl (End (o.path l)) (λ z. cc) refl h (λ b e. some_same b a (sym e ∙ act));
-    close = λ rp records stands t u i g n l s has h.
+    own = λ rp records views t u i f l a s has act h.
+        own_effects rp records views t u l (Live l) a s (seen_live (at (place o rp l) t.root) l (s.agrees.shown i f l lives has)) refl (Own (o.path l)) (λ z. cc) refl h (λ b e. some_same b a (sym e ∙ act));
+    end = λ rp records views t u i f l a s has act h.
+        own_effects rp records views t u l (Live l) a s (seen_live (at (place o rp l) t.root) l (s.agrees.shown i f l lives has)) refl (End (o.path l)) (λ z. cc) refl h (λ b e. some_same b a (sym e ∙ act));
+    close = λ rp records views t u i g n l s has h.
         let k = seen_fork (at (place o rp l) t.root) l n (s.agrees.shown i g l (forks n) has) in
-        let kids = children_are_represented o rp records stands t.root i g n l k.0 s.agrees has k.1 in
-        let a : Acted S = closed o l (segment g n records) (prevailing_among (segment g n stands)) in
-        tells rp records stands t u l (Forked l k.0) a s k.1 refl (Close (o.path l)) (λ z. cc) refl h
+        let kids = children_are_represented o rp records views t.root i g n l k.0 s.agrees has k.1 in
+        let a : Acted S = closed o l (segment g n records) (prevailing_among (segment g n views)) in
+        own_effects rp records views t u l (Forked l k.0) a s k.1 refl (Close (o.path l)) (λ z. cc) refl h
         (λ b e. sym (cond_some (all_done k.0) (closed o l (states k.0) (prevailing_death k.0)) b e).1 ∙ (λ j. closed o l (kids.1 j) (kids.2 j)));
     meet = λ t u c h. same_met t u c (cond_some (meets o c t.root) (met o c (value_of o c (source o c t.root)) t) u h).1;
     poison = λ t u p c h. let x = nodes_changed_some t u (poisons o p c t.root) h in same_changed t u x.0 x.2;

@@ -1,4 +1,4 @@
--- The way up from a place: what stands above it, and what doesn't.
+-- The forks above a place: which nodes are above it, and which aren't.
 use Rattle.std.proofs.Common.{◌≡◌, ◌≢◌, ℕ, zero, suc, Bool, true, false, ◌&&◌, Option, Some, List, [], ◌∷◌, ◌++◌, cond, refl, sym, ap, ◌∙◌}
 use Rattle.std.specs.Prelude.{eqb}
 use Rattle.std.proofs.lemmas.Bool.{eqb-true, eq-eqb}
@@ -8,7 +8,7 @@ use Rattle.shim_semantics.specs.Nodes.{Node, Nodes, Live, Forked, Ended, Dead, n
 use Rattle.shim_semantics.specs.Places.{at, child_at}
 use Rattle.shim_semantics.proofs.ReplacedNodes.{put, put_child}
 use Rattle.shim_base.proofs.Facts.{some_same, none_some}
-use Rattle.shim_laws_table.specs.Seen.{is_leaf, place, IsAside}
+use Rattle.shim_laws_table.specs.NodeStatus.{is_leaf, place, IsAside}
 use Rattle.shim_laws_table.specs.Agrees.{RecordView}
 use Rattle.shim_laws_table.specs.Counts.{Tally, tally_of, child_status}
 use Rattle.shim_laws_table.specs.Tallied.{Tallied, is_above, OnTheWay}
@@ -60,18 +60,18 @@ above_same (y ∷ x) (z ∷ r) b h = on (eqb y z) refl (λ g. above_same x r b g
     on false e f = ap (λ w. w && is_above x (r ++ b ∷ [])) e ∙ sym (ap (λ w. w && is_above x r) e)
 
 -- a fork above a place: the branches from there go on through a child
-pub record Above (x p : List ℕ) : Type 0 where
+pub record PlaceAbove (x p : List ℕ) : Type 0 where
   pub branch : ℕ
   pub rest : List ℕ
   pub is : p ≡ x ++ branch ∷ rest
 
-pub way_from : (x p : List ℕ) → is_above x p ≡ true → Above x p
+pub way_from : (x p : List ℕ) → is_above x p ≡ true → PlaceAbove x p
 way_from [] [] e = absurd cc
 way_from [] (b ∷ p) e = record { branch = b; rest = p; is = refl }
 way_from (y ∷ x) [] e = absurd cc
 way_from (y ∷ x) (z ∷ p) e = on (eqb y z) refl e (λ g. way_from x p g)
   where
-    on : (d : Bool) → eqb y z ≡ d → d && is_above x p ≡ true → (is_above x p ≡ true → Above x p) → Above (y ∷ x) (z ∷ p)
+    on : (d : Bool) → eqb y z ≡ d → d && is_above x p ≡ true → (is_above x p ≡ true → PlaceAbove x p) → PlaceAbove (y ∷ x) (z ∷ p)
     on true w h f = let a = f h in record { branch = a.branch; rest = a.rest; is = (λ i. sym (eqb-true y z w) i ∷ a.is i) }
     on false w h f = absurd cc
 
@@ -92,7 +92,7 @@ leaf_no_fork [] (Dead m x) l ks h e = absurd cc
 leaf_no_fork (i ∷ x) a l ks h e = none_some (Forked l ks) (sym (none_below i x a h) ∙ e)
 
 mutual
-  -- what stands aside of a place and not above it is untouched by another node there
+  -- what is aside of a place and not above it is untouched by another node there
   pub untouched : {S : Type 0} (q x : List ℕ) (m a n : Node S) → at q n ≡ Some m → is_above x q ≡ false → IsAside x q → at x (put q a n) ≡ at x n
   untouched [] x m a n e f h = absurd (h x refl)
   untouched (i ∷ q) x m a (Live z) e f h = none_some m e
@@ -108,7 +108,7 @@ mutual
   untouched_in (suc i) zero q x m a (node_and k js) e f h = refl
   untouched_in (suc i) (suc j) q x m a (node_and k js) e f h = untouched_in i j q x m a js e (λ w. f (ap suc w)) (λ w. h (ap suc w))
 
--- what stands above a node is a fork
+-- what is above a node is a fork
 pub record ForkAbove {S : Type 0} (x : List ℕ) (b : ℕ) (rest : List ℕ) (n m : Node S) : Type 0 where
   pub state : S
   pub children : Nodes S
@@ -137,8 +137,8 @@ mutual
   fork_in zero x b rest (node_and k ks) m e = let w = fork_above x b rest k m e in record { state = w.state; children = w.children; there = w.there; child = w.child }
   fork_in (suc i) x b rest (node_and k ks) m e = let w = fork_in i x b rest ks m e in record { state = w.state; children = w.children; there = w.there; child = w.child }
 
-module _ {S : Type 0} (o : Ops S) (rp : Path) (states : List S) (stands : List RecordView) (c : Channel) where
-  pub topped : (counts : ℕ → Option Tally) (old new : Node S) → OnTheWay o rp states stands c counts old new [] → Tallied o rp states stands c counts new
+module _ {S : Type 0} (o : Ops S) (rp : Path) (states : List S) (views : List RecordView) (c : Channel) where
+  pub topped : (counts : ℕ → Option Tally) (old new : Node S) → OnTheWay o rp states views c counts old new [] → Tallied o rp states views c counts new
   topped counts old new t i f n s y l ks has w g = t i f n s y l ks has w (ap (λ d. at (place o rp s) (cond d old new)) (not_above_root (place o rp s)) ∙ g)
 
   -- a fork above a node that is seen as before has the same counts
@@ -157,7 +157,7 @@ module _ {S : Type 0} (o : Ops S) (rp : Path) (states : List S) (stands : List R
       )
 
   pub ended : (counts : ℕ → Option Tally) (root m a : Node S) (p t : List ℕ) → at p root ≡ Some m → child_status o c m ≡ child_status o c (put t a m)
-      → OnTheWay o rp states stands c counts root (put (p ++ t) a root) p → Tallied o rp states stands c counts (put (p ++ t) a root)
+      → OnTheWay o rp states views c counts root (put (p ++ t) a root) p → Tallied o rp states views c counts (put (p ++ t) a root)
   ended counts root m a p t e like way i f n s y l ks has w g = on (is_above (place o rp s) p) refl
     where
       given : (d : Bool) → is_above (place o rp s) p ≡ d → (k : S) (js : Nodes S) → at (place o rp s) (cond d root (put (p ++ t) a root)) ≡ Some (Forked k js) → y ≡ tally_of o c js

@@ -1,4 +1,4 @@
--- Who stands below a fork stands at or below one of its children, and what is known of that child.
+-- Who is below a fork is at or below one of its children, and what is known of that child.
 use Rattle.std.proofs.Common.{◌≡◌, ◌≢◌, ◌<◌, ◌≤◌, ℕ, ◌+◌, true, Some, None, List, [], ◌∷◌, ◌++◌, map, inl, inr, refl, sym, ap, subst, ◌∙◌}
 use Rattle.std.proofs.lemmas.List.{append_assoc, append-nil}
 use Rattle.std.specs.Prelude.{slice_get}
@@ -8,12 +8,12 @@ use Rattle.shim_local.specs.Process.{Ops}
 use Rattle.shim_local.specs.Laws.{LocalLaws, IsGiven}
 use Rattle.shim_semantics.specs.Nodes.{Node, Nodes, Forked, state}
 use Rattle.shim_semantics.specs.Places.{at, child_at}
-use Rattle.shim_laws_table.specs.Seen.{ProcessStatus, forks, seen, place, how_many_nodes}
+use Rattle.shim_laws_table.specs.NodeStatus.{ProcessStatus, forks, seen, place, how_many_nodes}
 use Rattle.shim_laws_table.proofs.SameTrees.{child_counted, through}
 use Rattle.shim_laws_table.proofs.Aside.{at_split}
-use Rattle.shim_laws_table.proofs.Way.{fork_above}
+use Rattle.shim_laws_table.proofs.PlacesAbove.{fork_above}
 use Rattle.shim_laws_table.proofs.Hanging.{given_place, given_child}
-use Rattle.shim_records.specs.Pairs.{stands_of, known_in}
+use Rattle.shim_records.specs.Pairs.{record_view, known_in}
 use Rattle.shim_records.specs.declared.pair.Sharing.{Sharing}
 use Rattle.shim_laws_table_events.proofs.keeping.Knowing.{counted_known}
 use Rattle.shim_laws_table_events.specs.keeping.Tables.{TableView, HasProcessState, TableInvariant}
@@ -39,7 +39,7 @@ module _ {S : Type 0} (o : Ops S) (law : LocalLaws o) (rp : Path) (v : TableView
 
   pub fork_over : (i f : ℕ) (s : S) (k : ProcessStatus) → HasProcessState v i f s k → (j g : ℕ) (t : S) (h : ProcessStatus) → HasProcessState v j g t h → (b : ℕ) (r : List ℕ) → place o rp t ≡ place o rp s ++ b ∷ r → ForkOver i f s k b
   fork_over i f s k has j g t h below b r is =
-      let m = node_at o rp v.states (map stands_of v.records) root kept.represents j g t h below in
+      let m = node_at o rp v.states (map record_view v.records) root kept.represents j g t h below in
       let w = fork_above (place o rp s) b r root m.0 (ap (λ z. at z root) (sym is) ∙ m.1) in
       let see : (w.state, forks (how_many_nodes w.children)) ≡ (s, k) = some_same _ _ (sym (ap seen w.there) ∙ kept.represents.agrees.shown i f s k has) in
       let is_s : w.state ≡ s = ap (λ z. z.0) see in
@@ -49,7 +49,7 @@ module _ {S : Type 0} (o : Ops S) (law : LocalLaws o) (rp : Path) (v : TableView
       let z = kept.represents.agrees.below i f (how_many_nodes w.children) s fork b less in
       let c = through b r w.children m.0 w.child in
       let here : at (place o rp s ++ b ∷ []) root ≡ Some c.0 = at_split (place o rp s) (b ∷ []) root (Forked w.state w.children) w.there ∙ c.1 in
-      let n = node_at o rp v.states (map stands_of v.records) root kept.represents (f + b) z.0 z.1 z.2 z.3 in
+      let n = node_at o rp v.states (map record_view v.records) root kept.represents (f + b) z.0 z.1 z.2 z.3 in
       let same : state c.0 ≡ z.1 = ap state (some_same c.0 n.0 (sym here ∙ (ap (λ y. at y root) (sym z.4) ∙ n.1))) ∙ n.2 in
       record {
         many = how_many_nodes w.children;
@@ -67,7 +67,7 @@ module _ {S : Type 0} (o : Ops S) (law : LocalLaws o) (rp : Path) (v : TableView
         is_there = ap (place o rp) same ∙ z.4;
       }
 
-  -- where the process of the fork shares the channel, and who stands below does, the child shares it, too, and was given it
+  -- where the process of the fork shares the channel, and who is below does, the child shares it, too, and was given it
   module _ (c : Channel) (i f : ℕ) (s : S) (k : ProcessStatus) (has : HasProcessState v i f s k) (shares : o.shares s c ≡ true) (j g : ℕ) (t : S) (h : ProcessStatus) (below : HasProcessState v j g t h) (shares_below : o.shares t c ≡ true)
       (b : ℕ) (r : List ℕ) (is : place o rp t ≡ place o rp s ++ b ∷ r) where
     abbrev pub over : ForkOver i f s k b

@@ -1,9 +1,9 @@
 // The least labels of dead sharers, read off the forks' children again on the way up from a close.
 ghost use Rattle.std.specs.Prelude.{◌≡◌, false, map};
 ghost use Rattle.shim_laws_table.specs.Dooms.{lesser};
-ghost use Rattle.shim_laws_table.specs.Recounting.{label_at, min_label_among};
-ghost use Rattle.shim_records.specs.Pairs.{tally, min_label_of, pair_of, chans_of, stands_of, min_labels_in, IsOrdered, AreOrdered};
-ghost use Rattle.shim_records.specs.Recounting.{RecountsOne, IsRecounted};
+ghost use Rattle.shim_laws_table.specs.Recomputing.{label_at, min_label_among};
+ghost use Rattle.shim_records.specs.Pairs.{tally, min_label_of, pair_of, record_view, min_labels_in};
+ghost use Rattle.shim_records.specs.Recomputing.{RecomputesOne, IsRecomputed};
 
 use crate::pair::{Pair, place_in};
 use crate::record::{Record, Status, fork_size};
@@ -25,7 +25,6 @@ fn lesser_of(one: Option<u32>, other: Option<u32>) -> Option<u32>
 
 // The label that a fork keeps for the channel.
 fn kept(fork: &Record, c: &Chan) -> Option<u32>
-    requires { IsOrdered (chans_of fork.now.pairs.items) }
     ensures { result ≡ min_label_of (pair_of c.now.channel fork.now.pairs.items) }
 {
     match place_in(fork.pairs.as_slice(), c) {
@@ -36,8 +35,7 @@ fn kept(fork: &Record, c: &Chan) -> Option<u32>
 
 // The label that its fork reads of the record with this number.
 fn label_of_child<L: Local>(states: &[L], records: &[Record], at: usize, c: &Chan) -> Option<u32>
-    requires { AreOrdered records.now }
-    ensures { result ≡ label_at L.ops c.now.channel states.now (map stands_of records.now) (min_labels_in c.now.channel records.now) at }
+    ensures { result ≡ label_at L.ops c.now.channel states.now (map record_view records.now) (min_labels_in c.now.channel records.now) at }
 {
     if at >= states.len() {
         return None;
@@ -64,8 +62,7 @@ fn label_of_children<L: Local>(
     count: u32,
     c: &Chan,
 ) -> Option<u32>
-    requires { AreOrdered records.now }
-    ensures { result ≡ min_label_among L.ops c.now.channel states.now (map stands_of records.now) (min_labels_in c.now.channel records.now) first count }
+    ensures { result ≡ min_label_among L.ops c.now.channel states.now (map record_view records.now) (min_labels_in c.now.channel records.now) first count }
 {
     let mut min_dead_label = None;
     for i in 0..count {
@@ -98,8 +95,7 @@ fn recompute_one<L: Local>(
     at: usize,
     c: &Chan,
 ) -> Option<usize>
-    requires { AreOrdered records.old.items }
-    ensures { RecountsOne L.ops c.now.channel states.now records.old.items at result records.new.items }
+    ensures { RecomputesOne L.ops c.now.channel states.now records.old.items at result records.new.items }
 {
     if at >= records.len() {
         return None;
@@ -132,8 +128,7 @@ pub fn recompute_min_labels<L: Local>(
     c: &Chan,
     forks: u32,
 )
-    requires { AreOrdered records.old.items }
-    ensures { IsRecounted L.ops c.now.channel states.now forks at records.old.items records.new.items }
+    ensures { IsRecomputed L.ops c.now.channel states.now forks at records.old.items records.new.items }
 {
     let mut here = at;
     for walked in 0..forks {

@@ -10,13 +10,13 @@ use Rattle.shim_semantics.specs.Nodes.{Node, Nodes, Forked, Death, no_node, node
 use Rattle.shim_semantics.specs.Places.{at, IsFork, SoundChildren}
 use Rattle.shim_semantics.proofs.CloseStays.{label_below}
 use Rattle.shim_semantics.proofs.Replaced.{sound_at, states_sound}
-use Rattle.shim_laws_table.specs.Seen.{forks, place, how_many_nodes}
+use Rattle.shim_laws_table.specs.NodeStatus.{forks, place, how_many_nodes}
 use Rattle.shim_laws_table.specs.Agrees.{Has}
 use Rattle.shim_laws_table.specs.Changes.{segment, prevailing_among}
 use Rattle.shim_laws_table.proofs.Children.{children_are_represented}
 use Rattle.shim_laws_table.proofs.Forking.{no_shorter}
 use Rattle.shim_laws_table.proofs.SameTrees.{seen_fork}
-use Rattle.shim_records.specs.Pairs.{stands_of}
+use Rattle.shim_records.specs.Pairs.{record_view}
 use Rattle.shim_records.specs.declared.record.Record.{Record}
 use Rattle.shim_laws_table_events.specs.keeping.Tables.{TableInvariant}
 
@@ -48,26 +48,26 @@ within_all g zero m some h = absurd (some refl)
 within_all g (suc n) m some h = let w = h n (omega arith) in omega (arith, w)
 
 module _ {S : Type 0} (o : Ops S) (law : LocalLaws o) (rp : Path) (states : List S) (rs : List Record) (root : Node S) (i g n : ℕ) (l : S) (kept : TableInvariant o rp (record { states = states; records = rs }) root)
-    (has : Has states (map stands_of rs) i g l (forks n)) where
+    (has : Has states (map record_view rs) i g l (forks n)) where
   fork : (ks : Nodes S) × (at (place o rp l) root ≡ Some (Forked l ks)) × (how_many_nodes ks ≡ n)
   fork = seen_fork (at (place o rp l) root) l n (kept.represents.agrees.shown i g l (forks n) has)
 
-  told : (how_many_nodes fork.0 ≡ n) × (states_of fork.0 ≡ segment g n states) × (prevailing_death fork.0 ≡ prevailing_among (segment g n (map stands_of rs)))
-  told = children_are_represented o rp states (map stands_of rs) root i g n l fork.0 kept.represents.agrees has fork.1
+  children_say : (how_many_nodes fork.0 ≡ n) × (states_of fork.0 ≡ segment g n states) × (prevailing_death fork.0 ≡ prevailing_among (segment g n (map record_view rs)))
+  children_say = children_are_represented o rp states (map record_view rs) root i g n l fork.0 kept.represents.agrees has fork.1
 
   sound : IsFork o l fork.0 (λ f. SoundChildren o l f 0 fork.0)
   sound = sound_at o (place o rp l) root (Forked l fork.0) kept.represents.sound.below fork.1
 
   -- they are born of it
   pub born : o.born l (segment g n states)
-  born = subst (o.born l) told.1 sound.born
+  born = subst (o.born l) children_say.1 sound.born
 
   -- and the label that prevails is one of its exception places
-  pub below : (d : Death) → prevailing_among (segment g n (map stands_of rs)) ≡ Some d → d.label < o.handlers (o.join l (segment g n states) false)
+  pub below : (d : Death) → prevailing_among (segment g n (map record_view rs)) ≡ Some d → d.label < o.handlers (o.join l (segment g n states) false)
   below d e =
       let all : AllOf o.sound (states_of fork.0) = states_sound o l sound.number 0 fork.0 sound.children in
       let is = law.join_handlers l (states_of fork.0) sound.sound all sound.born in
-      subst (λ z. d.label < o.handlers (o.join l z false)) told.1 (subst (λ z. d.label < z) (sym is) (label_below o l sound.number 0 fork.0 d sound.children (told.2 ∙ e)))
+      subst (λ z. d.label < o.handlers (o.join l z false)) children_say.1 (subst (λ z. d.label < z) (sym is) (label_below o l sound.number 0 fork.0 d sound.children (children_say.2 ∙ e)))
 
   -- the states and records of its children are there, and none of them is its own
   pub within : g + n ≤ length states

@@ -2,7 +2,7 @@ use Rattle.std.proofs.Common.{ap, sym, ◌∙◌, arith}
 use Rattle.shim_records.specs.Pairs.{pair_index}
 use Rattle.shim_records.proofs.Pairing.{place_within}
 use Rattle.shim_records.proofs.ReadOff.{its_label, no_label}
-use Rattle.shim_records.proofs.recounting.kept.Goals as goal
+use Rattle.shim_records.proofs.recomputing.kept.Goals as goal
 
 pub index-requires : goal.index-requires
 index-requires c =

@@ -11,14 +11,14 @@ use Rattle.shim_laws_schedules.specs.Laws.{IsPrefixOf}
 use Rattle.shim_laws_replay.specs.Journals.{Entry, replay, IsReachedBy}
 use Rattle.shim_laws_replay.specs.Ends.{HasEnded}
 
--- a schedule's end is told as spent exactly where the meaning's is, and then the steps of the budget led to it; else just what is told of the meaning is told of it
-pub record IsToldAs {S : Type 0} (o : Ops S) (root : S) (b : ℕ) (t : Tree S) : Type 0 where
+-- a schedule's end is reported as spent exactly where the meaning's is, and then the steps of the budget led to it; else just what is reported of the meaning is reported of it
+pub record IsReadOffAs {S : Type 0} (o : Ops S) (root : S) (b : ℕ) (t : Tree S) : Type 0 where
   pub spent : ((ended o t).outcome ≡ Spent) ↔ ((ended o (meaning o b (start root))).outcome ≡ Spent)
   pub same : (ended o (meaning o b (start root))).outcome ≢ Spent → ended o t ≡ ended o (meaning o b (start root))
   pub whole : (ended o t).outcome ≡ Spent → IsReachedBy o root b t × (steps t ≡ b)
 
-abbrev pub EndsAreTold : {S : Type 0} → Ops S → Type 0
-EndsAreTold {S} o = (root : S) (b : ℕ) (journal : List Entry) (t : Tree S) → o.sound root → SharesItsOwn o root → replay o root journal ≡ Some t → HasEnded o b t → IsToldAs o root b t
+abbrev pub EndsAreReadOff : {S : Type 0} → Ops S → Type 0
+EndsAreReadOff {S} o = (root : S) (b : ℕ) (journal : List Entry) (t : Tree S) → o.sound root → SharesItsOwn o root → replay o root journal ≡ Some t → HasEnded o b t → IsReadOffAs o root b t
 
 -- each tree to which a journal leads is reached by as many events as its steps, and what was put and met in it is a prefix of what as many rounds give
 abbrev pub MomentsLead : {S : Type 0} → Ops S → Type 0

@@ -1,0 +1,5 @@
+use Rattle.shim_laws_journals.proofs.Accepting.{accepted_is_read_off}
+use Rattle.shim_laws_journals.proofs.laws.accepted_is_read_off.Goals as goal
+
+pub returns : goal.returns
+returns g c = accepted_is_read_off g.L.Local.ops (g.met.L.Local g.world.𝓛 g.world.𝓜 g.world.𝓡 ((λ s x. x), (λ x. x), (λ x. x), λ x. x)).laws

@@ -1,5 +1,0 @@
-use Rattle.shim_laws_journals.proofs.Accepting.{accepted_is_told}
-use Rattle.shim_laws_journals.proofs.laws.accepted_is_told.Goals as goal
-
-pub returns : goal.returns
-returns g c = accepted_is_told g.L.Local.ops (g.met.L.Local g.world.𝓛 g.world.𝓜 g.world.𝓡 ((λ s x. x), (λ x. x), (λ x. x), λ x. x)).laws

@@ -1,5 +1,0 @@
-use Rattle.shim_laws_table.proofs.Recounts.{labels_recount}
-use Rattle.shim_laws_table.proofs.enabled.labels_recount.Goals as goal
-
-pub returns : goal.returns
-returns g c = labels_recount g.L.Local.ops (g.met.L.Local g.world.𝓛 g.world.𝓜 g.world.𝓡 ((λ s x. x), (λ x. x), (λ x. x), λ x. x)).laws
