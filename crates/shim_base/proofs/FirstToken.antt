@@ -200,7 +200,7 @@ no_spacing_first b bytes (Key key) h = letter-no_spacing b (name-head b bytes h.
 no_spacing_first b bytes (Number n) h = digit-no_spacing b (numeral-head b bytes h.0 h.1)
 no_spacing_first b bytes (SignKind sign) h = (sign_like b bytes sign h).no_spacing
 
--- the bytes of a token tell its kind
+-- the bytes of a token determine its kind
 pub same_kind : (text : List ℕ) (kind other : TokenKind) → Spells text kind → Spells text other → kind ≡ other
 same_kind [] kind other h k = absurd (no_empty_token kind h)
 same_kind (b ∷ bytes) kind other h k = by_letter (is_letter b) (is_digit b) refl refl where
@@ -502,12 +502,12 @@ no_sign_no_first b bytes text rest kind l d none h =
 abbrev pub is_on_line : ℕ → Bool
 is_on_line b = not (b == 10)
 
--- where every byte passes one test, and this one tells another, every byte passes the other
+-- where every byte passes one test, and this one implies another, every byte passes the other
 all_weaker : (p q : ℕ → Bool) → ((b : ℕ) → p b ≡ true → q b ≡ true) → (bytes : List ℕ) → list_all p bytes ≡ true → list_all q bytes ≡ true
-all_weaker p q tells [] h = refl
-all_weaker p q tells (b ∷ bytes) h =
+all_weaker p q implies [] h = refl
+all_weaker p q implies (b ∷ bytes) h =
     let k = both_true (p b) (list_all p bytes) h in
-    rw (tells b k.0, all_weaker p q tells bytes k.1) refl
+    rw (implies b k.0, all_weaker p q implies bytes k.1) refl
 
 -- a byte of a name is no line feed
 name_byte-on_line : (b : ℕ) → is_name_byte b ≡ true → is_on_line b ≡ true

@@ -6,4 +6,4 @@ pub mod Stored
 pub mod FirstToken
 pub mod Passing
 pub mod Cutting
-pub mod Front
+pub mod TextPrefix

@@ -1,4 +1,4 @@
--- The tests of paths and channels tell whether they are the same.
+-- The tests of paths and channels decide whether they are the same.
 use Rattle.std.proofs.Common.{◌≡◌, ℕ, true, [], ◌∷◌, refl, eq-eqb, eqb-true, eqb}
 use Rattle.shim_base.specs.Paths.{Path, Channel, same_pair, same_path, same_channel}
 use Rattle.shim_base.proofs.Facts.{first_holds, second_holds, both_hold}

@@ -127,7 +127,7 @@ pub record Place : Type 0 where
   pub at : ℕ
   pub line : ℕ
 
--- the place after these bytes: lines are told apart by line feeds
+-- the place after these bytes: lines are set apart by line feeds
 abbrev pub place_after : Place → List ℕ → Place
 place_after place bytes = record { at = place.at + length bytes; line = place.line + count_by (λ b. b == 10) bytes }
 

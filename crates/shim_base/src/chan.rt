@@ -78,7 +78,7 @@ impl PartialEq for Chan {
     ghost laws = { same_channel_laws };
 
     fn eq(&self, other: &Chan) -> bool {
-        // the serial first, since it tells most channels apart
+        // the serial first, since it distinguishes most channels
         self.serial == other.serial && *self.home == *other.home
     }
 }

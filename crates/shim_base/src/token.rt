@@ -1,6 +1,6 @@
 // The kinds of tokens, and of faults in a text.
 
-/// What a token is. Which bytes make which token is told by the definition of tokens.
+/// What a token is. The definition of tokens says which bytes make which token.
 #[derive(Clone, Copy, Debug, PartialEq, Eq)]
 pub enum TokenKind {
     /// A name that is no keyword.

@@ -37,15 +37,15 @@ numbered_within : (least most : ℕ) (given : Option Text) (default : ℕ) → I
 numbered_within least most None default fits low high = (low, high)
 numbered_within least most (Some t) default fits low high = (fits.2, fits.3)
 
-held : (m n : ℕ) → nat_le m n ≡ true → m ≤ n
-held m n is = leb→le m n (subst T (sym is) tt)
+le_of_true : (m n : ℕ) → nat_le m n ≡ true → m ≤ n
+le_of_true m n is = leb→le m n (subst T (sym is) tt)
 
 -- a mode that runs its source on several inputs takes 1 to 64 of them
 few_inputs : (job : Job) → suits job ≡ true → (row_of job.mode).beside ≡ Inputs → (1 ≤ length job.inputs) × (length job.inputs ≤ 64)
 few_inputs job fits are =
     let extra : has_extra (row_of job.mode).beside job ≡ true = second_holds (has_origin (row_of job.mode).origin job) (has_extra (row_of job.mode).beside job) fits in
     let both = subst (λ (e : Extra). has_extra e job ≡ true) are extra in
-    (held 1 (length job.inputs) (first_holds (nat_le 1 (length job.inputs)) (nat_le (length job.inputs) 64) both), held (length job.inputs) 64 (second_holds (nat_le 1 (length job.inputs)) (nat_le (length job.inputs) 64) both))
+    (le_of_true 1 (length job.inputs) (first_holds (nat_le 1 (length job.inputs)) (nat_le (length job.inputs) 64) both), le_of_true (length job.inputs) 64 (second_holds (nat_le 1 (length job.inputs)) (nat_le (length job.inputs) 64) both))
 
 with_within : (mode : Mode) (rows : List Row) → FitAll rows → suits (job_with mode rows) ≡ true → IsWithin (job_with mode rows)
 with_within how rows fit fits = record {

@@ -12,7 +12,7 @@ use Rattle.shim_command.specs.declared.mode.Course.TheVariants.{ByFirstEvents, I
 use Rattle.shim_command.specs.declared.mode.Showing.TheVariants.{Report, Summary}
 use Rattle.shim_command.specs.declared.mode.Task.{Task}
 use Rattle.shim_command.specs.declared.mode.Task.TheVariants.{Describes, Runs, Explains, Records, Replays, RunsEach}
-use Rattle.shim_command.specs.declared.mode.ModeRow.{ModeRow as Made}
+use Rattle.shim_command.specs.declared.mode.ModeRow.{ModeRow as CodeModeRow}
 
 pub record ModeRow : Type 0 where
   -- the word that asks for the mode
@@ -37,7 +37,7 @@ row_of Why = record { word = codes "why"; origin = Stored; beside = Input; task 
 row_of Batch = record { word = codes "batch"; origin = Stored; beside = Inputs; task = RunsEach }
 
 -- a row that was made, as the definition names it
-abbrev pub row_view : Made → ModeRow
+abbrev pub row_view : CodeModeRow → ModeRow
 row_view row = record { word = row.word.now; origin = row.origin; beside = row.beside; task = row.task }
 
 abbrev pub modes : List Mode

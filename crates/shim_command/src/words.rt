@@ -146,7 +146,7 @@ fn job_in(alloc: Global, matches: &ArgMatches<'_>) -> Result<Job, WordsFault>
     }
 }
 
-// Why `clap` took no words: memory was wanted, or it refuses them.
+// Why `clap` took no words: memory ran out, or it refuses them.
 fn fault_of(error: &Error) -> WordsFault
     ensures { IsErrorOf (kind_of error.now) result }
 {
@@ -159,8 +159,8 @@ fn fault_of(error: &Error) -> WordsFault
 /// Reads the arguments, the first of which is the program's own name. `Refused` comes exactly where they have no job:
 /// `clap` finds a fault in them, or MODE names no mode, or its source is generated and FILE names no kind, or it
 /// reads a journal and none is named, or the number of INPUT words is none that the mode takes: 1 to 64 where it
-/// runs a source on several inputs, else 0. A job has what `clap` finds in the words for each argument, with a
-/// default for an option that is absent; its numbers are in their ranges, and FILE is one that was found. Want of
+/// runs a source on several inputs, else 0. A job has what `clap` finds for each argument of the command line, with a
+/// default for an option that is absent; its numbers are in their ranges, and FILE is one that was found. Out of
 /// memory may come in place of both.
 pub fn read_words(alloc: Global, words: &[String]) -> Result<Job, WordsFault>
     ensures job { Gives (job (texts_of words.now)) result }

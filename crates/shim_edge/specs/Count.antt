@@ -10,6 +10,6 @@ abbrev pub count_fault : {T E : Type 0} → ℕ → Result T E → ℕ
 count_fault faults (Ok _) = faults
 count_fault faults (Err _) = count_up faults
 
--- The count has risen, or it stands at the end of a u64, where it cannot.
+-- The count has risen, or it is at the end of a u64, where it cannot.
 abbrev pub HasRisen : ℕ → ℕ → Type 0
 HasRisen before now = count_up before ≤ now

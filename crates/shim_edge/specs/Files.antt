@@ -10,20 +10,20 @@ abbrev pub file_of : List (List ℕ × List ℕ) → List ℕ → Option (List �
 file_of [] name = None
 file_of (file ∷ files) name = if bytes_eq file.0 name then Some file.1 else file_of files name
 
--- files that aren't told
+-- files that contracts don't know
 abbrev pub no_files : Option (List (List ℕ × List ℕ))
 no_files = None
 
--- the files are told, and one of them has that name
+-- the files are known, and one of them has that name
 abbrev pub HasFile : Option (List (List ℕ × List ℕ)) → List ℕ → Type 0
 HasFile held name = IsSomeAnd held (λ files. IsSome (file_of files name))
 
--- Whole bytes are at most so many. Where the content is told, it is those bytes, or has more than so many.
+-- Whole bytes are at most so many. Where the content is known, it is those bytes, or has more than so many.
 abbrev pub ShowsContent : Option (List ℕ) → ℕ → Got → Type 0
-ShowsContent content most (Whole bytes) = (length bytes ≤ most) × IfSome content (λ told. told ≡ bytes)
-ShowsContent content most Longer = IfSome content (λ told. most < length told)
+ShowsContent content most (Whole bytes) = (length bytes ≤ most) × IfSome content (λ known. known ≡ bytes)
+ShowsContent content most Longer = IfSome content (λ known. most < length known)
 
--- A whole file has at most so many bytes. Where the files are told, the one of that name is shown.
+-- A whole file has at most so many bytes. Where the files are known, it shows the one of that name.
 abbrev pub ShowsFile : Option (List (List ℕ × List ℕ)) → List ℕ → ℕ → Result Got FileFault → Type 0
 ShowsFile held name most (Ok (Whole bytes)) = (length bytes ≤ most) × IfSome held (λ files. file_of files name ≡ Some bytes)
 ShowsFile held name most (Ok Longer) = IfSome held (λ files. IsSomeAnd (file_of files name) (λ content. most < length content))

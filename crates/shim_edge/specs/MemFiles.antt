@@ -16,7 +16,7 @@ pub record FilesInMemory : Type 0 where
   -- how many reads there were, up to the end of a u64
   pub calls : ℕ
 
--- the next read is told to fail, or there is no file of that name
+-- the next read is to fail, or there is no file of that name
 abbrev pub RefusesRead : FilesInMemory → List ℕ → Type 0
 RefusesRead memory name = Contains memory.failing memory.calls ⊎ IsNone (file_of memory.files name)
 

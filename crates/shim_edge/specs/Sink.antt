@@ -1,7 +1,7 @@
 -- What a sink has taken.
 use Rattle.std.specs.Prelude.{◌≡◌, ◌<◌, ℕ, List, ◌++◌, length, take, Option, Result, Ok, Err, option_map}
 
--- what was taken, where told, and then these bytes
+-- what was taken, where known, and then these bytes
 abbrev pub then_bytes : Option (List ℕ) → List ℕ → Option (List ℕ)
 then_bytes taken bytes = option_map (λ front. front ++ bytes) taken
 

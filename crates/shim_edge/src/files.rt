@@ -51,11 +51,11 @@ impl<T: Drop> From<AllocFailed<T>> for FileFault {
 /// Files that are read by name, with a list of the failed reads by their names. The list is only added
 /// to, so its length counts the faults and never falls.
 pub trait Files {
-    /// The names and contents of the files, where they are told. Of two files of one name the first
+    /// The names and contents of the files, where contracts know them. Of two files of one name the first
     /// is read.
     ghost held: { Self → Option (List (List ℕ × List ℕ)) };
 
-    /// The files are told, and no read of one of them fails.
+    /// The files are known, and no read of one of them fails.
     ghost sound: { Self → Bool };
 
     /// The name of each failed read, in order.
@@ -63,8 +63,8 @@ pub trait Files {
 
     /// Reads the file of that name, if it has at most `most` bytes.
     ///
-    /// A missing file is a failed read. Want of memory is none, and may come at any call. No read changes
-    /// the files, nor whether they are told or sound.
+    /// A missing file is a failed read. Running out of memory is none, and may come at any call. No read changes
+    /// the files, nor whether they are known or sound.
     fn read(&mut self, alloc: Global, name: &[u8], most: usize) -> Result<Got, FileFault>
         ensures content { ShowsFile (held self.old) name.now most result }
         // `Failed` comes exactly where this name was added to the failed ones.
@@ -73,8 +73,8 @@ pub trait Files {
         ensures sound { sound self.new ≡ sound self.old }
         ensures read_if_sound { IsTrue (sound self.old) → HasFile (held self.old) name.now → result ≢ Err Failed };
 
-    /// Sound files are told.
-    ghost told_if_sound: { (files : Self) → IsTrue (sound files) → IsSome (held files) };
+    /// Sound files are known.
+    ghost known_if_sound: { (files : Self) → IsTrue (sound files) → IsSome (held files) };
 }
 
 /// Adds the name of a read that failed. A refusal leaves the names as they were.

@@ -1,4 +1,4 @@
-// The system's files and the standard output, which tell nothing of content.
+// The system's files and the standard output, of whose content contracts know nothing.
 ghost use Rattle.std.specs.Prelude.{◌≡◌, ◌≤◌, [], ◌≢◌, Err, IsTrue, false, IsUtf8, length, None, IfOk, OnOk, OnErr};
 ghost use Rattle.shim_edge.specs.Count.{count_fault, HasRisen};
 ghost use Rattle.shim_edge.specs.Files.{ShowsContent, ShowsFile, AddsNameIfFailed, HasFile, no_files};
@@ -14,8 +14,8 @@ use std::io::{ErrorKind, Read, Write};
 use std::marker::Model;
 use std::{io, rt};
 
-/// The system's files, by their paths. Contracts see them as the names of the failed reads, in order:
-/// what the files hold is not told.
+/// The system's files, by their paths. Contracts see them as the names of the failed reads, in order; what
+/// the files hold is not known.
 #[derive(Drop)]
 pub struct HostFiles<'a, R> {
     rt: &'a R,
@@ -78,9 +78,9 @@ impl<R: rt::Files> Files for HostFiles<'_, R> {
 
     ghost failed = { λ failed. failed };
 
-    ghost told_if_sound = { λ _ is_sound. is_sound };
+    ghost known_if_sound = { λ _ is_sound. is_sound };
 
-    /// A name that is no UTF-8 is a failure, and so is every error of the system but want of memory.
+    /// A name that is no UTF-8 is a failure, and so is every error of the system but out of memory.
     /// No more than `most` bytes and one are read.
     fn read(&mut self, alloc: Global, name: &[u8], most: usize) -> Result<Got, FileFault>
         ensures content { ShowsFile no_files name.now most result }
@@ -102,8 +102,8 @@ impl<R: rt::Files> Files for HostFiles<'_, R> {
     }
 }
 
-/// The standard output. Contracts see it as the count of its failed writes, which saturates: what was
-/// taken is not told.
+/// The standard output. Contracts see it as the count of its failed writes, which saturates; what was taken
+/// is not known.
 #[derive(Drop)]
 pub struct HostSink<'a, R> {
     rt: &'a R,

@@ -1,5 +1,5 @@
 //! The files that are read and the sink that is written: what any of them keeps to, one of each in
-//! memory that fails when told to, and the system's own.
+//! memory that fails on request, and the system's own.
 #![tactic(auto)]
 
 mod files;

@@ -1,4 +1,4 @@
-// Files in memory, whose reads fail when told to.
+// Files in memory, whose reads fail on request.
 ghost use Rattle.std.specs.Prelude.{◌≡◌, ◌≢◌, [], length, Some, Err, IsTrue, IsErr, IfOk, option_copied};
 ghost use Rattle.shim_edge.specs.declared.files.FileFault.TheVariants.{Failed};
 ghost use Rattle.shim_edge.specs.Files.{file_of, ShowsFile, ShowsContent, AddsNameIfFailed, HasFile};
@@ -10,7 +10,7 @@ use shim_base::{List, Name, NoMemory};
 use std::alloc::Global;
 use std::marker::Model;
 
-/// Files in memory. A read fails where it was told to, and at a name that has no file. Contracts see
+/// Files in memory. A read fails where that was asked for, and at a name that has no file. Contracts see
 /// them as a `FilesInMemory`, a record of `specs/`.
 #[derive(Debug, Drop)]
 pub struct MemFiles {
@@ -81,10 +81,10 @@ impl Files for MemFiles {
 
     ghost failed = { λ memory. memory.failed };
 
-    ghost told_if_sound = { λ memory is_sound. refl };
+    ghost known_if_sound = { λ memory is_sound. refl };
 
-    /// Fails exactly where this read is told to or no file has that name, but for want of memory, which
-    /// may come in place of each answer and then leaves all as it was. Every other read counts.
+    /// Fails exactly where this read is to fail or no file has that name. Out of memory may come in place of
+    /// each answer, and then leaves all as it was. Every other read counts.
     fn read(&mut self, alloc: Global, name: &[u8], most: usize) -> Result<Got, FileFault>
         ensures content { ShowsFile (Some self.old.files) name.now most result }
         ensures cause { AddsNameIfFailed self.old.failed name.now self.new.failed result }
@@ -96,9 +96,9 @@ impl Files for MemFiles {
         ensures refused { RefusesRead self.old name.now → IsErr result }
         ensures after { self.new ≡ after_read self.old name.now result }
     {
-        let is_told = self.failing.as_slice().contains(&self.calls);
+        let is_failing = self.failing.as_slice().contains(&self.calls);
         match find(self.files.as_slice(), name) {
-            Some(content) if !is_told => {
+            Some(content) if !is_failing => {
                 let got = shown(alloc, content.as_slice(), most)?;
                 self.calls = self.calls.saturating_add(1);
                 Ok(got)

@@ -1,4 +1,4 @@
-// A sink in memory, whose writes fail when told to.
+// A sink in memory, whose writes fail on request.
 ghost use Rattle.std.specs.Prelude.{◌≡◌, ◌≤◌, ◌+◌, [], length, min, max, Some, IsTrue, IsErr, IfOk, OnOk, OnErr, ◌↔◌};
 ghost use Rattle.shim_edge.specs.Count.{count_up, count_fault, HasRisen};
 ghost use Rattle.shim_edge.specs.Sink.{Takes};
@@ -9,7 +9,7 @@ use shim_base::{List, NoMemory};
 use std::alloc::Global;
 use std::marker::Model;
 
-/// A sink that takes bytes into room that was reserved. A write fails where it was told to, and past
+/// A sink that takes bytes into room that was reserved. A write fails where that was asked for, and past
 /// the room. Contracts see it as a `SinkInMemory`, a record of `specs/`.
 #[derive(Debug, Drop)]
 pub struct MemSink {
@@ -74,7 +74,7 @@ impl MemSink {
         &self.taken
     }
 
-    // Whether the next write fails: it is told to, or so many bytes pass the room.
+    // Whether the next write fails: it is to fail, or so many bytes pass the room.
     fn refuses(&self, count: usize) -> bool
         ensures { IsTrue result ↔ RefusesWrite self.now count }
     {
@@ -89,8 +89,8 @@ impl Sink for MemSink {
 
     ghost faults = { λ sink. sink.faults };
 
-    /// Takes as many of the bytes as one write may, and no memory. Fails exactly where this write is
-    /// told to, or what it would take passes the room. Each write counts, and each that fails.
+    /// Takes as many of the bytes as one write may, and no memory. Fails exactly where this write is to
+    /// fail, or what it would take passes the room. Each write counts, and each that fails.
     fn write(&mut self, bytes: &[u8]) -> Result<usize, SinkFault>
         requires { 1 ≤ length bytes.now }
         ensures count { IfOk result (λ n. (1 ≤ n) × (n ≤ length bytes.now)) }

@@ -11,9 +11,9 @@ pub enum SinkFault {
 }
 
 /// A sink that takes bytes, with a count of its failed writes. Such a count may be a `u64` that
-/// saturates: where it stands at the end, a failure passes for a rise.
+/// saturates: where it is at its end, a failure passes for a rise.
 pub trait Sink {
-    /// The bytes that were taken, where they are told.
+    /// The bytes that were taken, where contracts know them.
     ghost taken: { Self → Option (List ℕ) };
 
     /// How many writes have failed: no other write moves it.

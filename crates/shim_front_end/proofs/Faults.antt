@@ -12,36 +12,36 @@ use Rattle.shim_front_end.specs.FrontEnd.{IsOnlyFault}
 same_cut : (x y : LexFault) → x.at ≡ y.at → x.line ≡ y.line → x.kind ≡ y.kind → x ≡ y
 same_cut x y at line kind = λ k. record { at = at k; line = line k; kind = kind k }
 
--- what one fault at one place is told as
-tells_once : (a b : ParseFault) (f : FaultCause) (p : Place) → IsReportedAs a f p → IsReportedAs b f p → a ≡ b
-tells_once (Lex x) (Lex y) f p g h =
+-- what one fault at one place is reported as
+reported_once : (a b : ParseFault) (f : FaultCause) (p : Place) → IsReportedAs a f p → IsReportedAs b f p → a ≡ b
+reported_once (Lex x) (Lex y) f p g h =
     let kind : x.kind ≡ y.kind = cc (g.0, h.0) in
     let at : x.at ≡ y.at = ap (λ (q : Place). q.at) (sym g.1 ∙ h.1) in
     let line : x.line ≡ y.line = ap (λ (q : Place). q.line) (sym g.1 ∙ h.1) in
     ap (λ (z : LexFault). Lex z) (same_cut x y at line kind)
-tells_once (Lex x) (Unexpected at line) f p g h = absurd (cc (g.0, h.0))
-tells_once (Lex x) (TooDeep line) f p g h = absurd (cc (g.0, h.0))
-tells_once (Lex x) (TooMany what line) f p g h = absurd (cc (g.0, h.0))
-tells_once (Unexpected at line) (Lex y) f p g h = absurd (cc (g.0, h.0))
-tells_once (Unexpected at line) (Unexpected there behind) f p g h =
+reported_once (Lex x) (Unexpected at line) f p g h = absurd (cc (g.0, h.0))
+reported_once (Lex x) (TooDeep line) f p g h = absurd (cc (g.0, h.0))
+reported_once (Lex x) (TooMany what line) f p g h = absurd (cc (g.0, h.0))
+reported_once (Unexpected at line) (Lex y) f p g h = absurd (cc (g.0, h.0))
+reported_once (Unexpected at line) (Unexpected there behind) f p g h =
     let place : at ≡ there = ap (λ (q : Place). q.at) (sym g.1 ∙ h.1) in
     let same : line ≡ behind = ap (λ (q : Place). q.line) (sym g.1 ∙ h.1) in
     cc
-tells_once (Unexpected at line) (TooDeep behind) f p g h = absurd (cc (g.0, h.0))
-tells_once (Unexpected at line) (TooMany what behind) f p g h = absurd (cc (g.0, h.0))
-tells_once (TooDeep line) (Lex y) f p g h = absurd (cc (g.0, h.0))
-tells_once (TooDeep line) (Unexpected at behind) f p g h = absurd (cc (g.0, h.0))
-tells_once (TooDeep line) (TooDeep behind) f p g h = cc (g.1, h.1)
-tells_once (TooDeep line) (TooMany what behind) f p g h = absurd (cc (g.0, h.0))
-tells_once (TooMany what line) (Lex y) f p g h = absurd (cc (g.0, h.0))
-tells_once (TooMany what line) (Unexpected at behind) f p g h = absurd (cc (g.0, h.0))
-tells_once (TooMany what line) (TooDeep behind) f p g h = absurd (cc (g.0, h.0))
-tells_once (TooMany what line) (TooMany other behind) f p g h = cc (g.0, h.0, g.1, h.1)
-tells_once NoMemory b f p g h = absurd g
-tells_once a NoMemory f p g h = absurd h
+reported_once (Unexpected at line) (TooDeep behind) f p g h = absurd (cc (g.0, h.0))
+reported_once (Unexpected at line) (TooMany what behind) f p g h = absurd (cc (g.0, h.0))
+reported_once (TooDeep line) (Lex y) f p g h = absurd (cc (g.0, h.0))
+reported_once (TooDeep line) (Unexpected at behind) f p g h = absurd (cc (g.0, h.0))
+reported_once (TooDeep line) (TooDeep behind) f p g h = cc (g.1, h.1)
+reported_once (TooDeep line) (TooMany what behind) f p g h = absurd (cc (g.0, h.0))
+reported_once (TooMany what line) (Lex y) f p g h = absurd (cc (g.0, h.0))
+reported_once (TooMany what line) (Unexpected at behind) f p g h = absurd (cc (g.0, h.0))
+reported_once (TooMany what line) (TooDeep behind) f p g h = absurd (cc (g.0, h.0))
+reported_once (TooMany what line) (TooMany other behind) f p g h = cc (g.0, h.0, g.1, h.1)
+reported_once NoMemory b f p g h = absurd g
+reported_once a NoMemory f p g h = absurd h
 
 fault_once : (bytes : List ℕ) (fault other : ParseFault) → ((f : FaultCause) (place : Place) → HasFault bytes f place → IsReportedAs fault f place) → IsFaultOf bytes other → other ≡ fault
-fault_once bytes fault other only (f, place, has, tells) = tells_once other fault f place tells (only f place has)
+fault_once bytes fault other only (f, place, has, reported) = reported_once other fault f place reported (only f place has)
 
 -- the fault that the parser answers is the only one
 pub only_fault : (bytes : List ℕ) (fault : ParseFault) → (fault ≡ NoMemory → ⊥) → ParsesAs bytes (Err fault) → IsOnly bytes (Err fault) → IsOnlyFault bytes fault

@@ -4,7 +4,7 @@ use Rattle.shim_syntax.specs.declared.limits.Many.{Many}
 use Rattle.shim_syntax.specs.Terminals.{Terminal}
 use Rattle.shim_syntax.specs.Limits.{Limit, Count, Limits}
 use Rattle.shim_syntax.specs.Grammar.{TextCounts}
-use Rattle.shim_grammar.specs.Machine.{SymbolStack, Ask, Want, Halt, At, Cause, Past, judge, run_parser, wants}
+use Rattle.shim_grammar.specs.Machine.{SymbolStack, Ask, Want, ParseEnd, At, Cause, Past, judge, run_parser, wants}
 use Rattle.shim_grammar.proofs.Gives.{Allowed}
 use Rattle.shim_grammar.proofs.Runs.{run_on}
 use Rattle.shim_grammar.proofs.Asks.{NumbersAlone, LevelFirst}
@@ -24,11 +24,11 @@ pub judged : (c : Limits) (s : List Terminal) (asks : List Ask) → Allowed c s 
 judged c s [] = inl tt
 judged c s (a ∷ asks) = judged_more c s a asks (c s a.limit a.number) refl (judged c s asks)
 
-pub judge_allowed : (c : Limits) (s : List Terminal) (asks : List Ask) (h : Halt) → Allowed c s asks → judge c s asks h ≡ h
+pub judge_allowed : (c : Limits) (s : List Terminal) (asks : List Ask) (h : ParseEnd) → Allowed c s asks → judge c s asks h ≡ h
 judge_allowed c s [] h e = refl
 judge_allowed c s (a ∷ asks) h e = rw e.0 (judge_allowed c s asks h e.1)
 
-pub judge_refused : (c : Limits) (s : List Terminal) (asks : List Ask) (h : Halt) (limit : Limit) → Refused c s asks limit → judge c s asks h ≡ At (Past limit) s
+pub judge_refused : (c : Limits) (s : List Terminal) (asks : List Ask) (h : ParseEnd) (limit : Limit) → Refused c s asks limit → judge c s asks h ≡ At (Past limit) s
 judge_refused c s [] h limit e = absurd e
 judge_refused c s (a ∷ asks) h limit (inl e) = rw e.0 (ap (λ u. At (Past u) s) e.1)
 judge_refused c s (a ∷ asks) h limit (inr e) = rw e.0 (judge_refused c s asks h limit e.1)
@@ -58,10 +58,10 @@ refused_passes c d s t limit pass here numbers (a ∷ asks) h (inl e) = (here a.
 refused_passes c d s t limit pass here numbers (a ∷ asks) h (inr e) = (pass a.limit a.number e.0, numbers_allowed d t numbers asks h)
 
 -- where it halts
-abbrev pub left_of : Halt → List Terminal
+abbrev pub left_of : ParseEnd → List Terminal
 left_of (At f s) = s
 
-shorter_judged : (c : Limits) (x : Terminal) (s : List Terminal) (asks : List Ask) (h : Halt) → length (left_of h) ≤ length s → length (left_of (judge c (x ∷ s) asks h)) ≤ suc (length s)
+shorter_judged : (c : Limits) (x : Terminal) (s : List Terminal) (asks : List Ask) (h : ParseEnd) → length (left_of h) ≤ length s → length (left_of (judge c (x ∷ s) asks h)) ≤ suc (length s)
 shorter_judged c x s asks h e = elim (judged c (x ∷ s) asks) [
   | inl a ↦ rw (judge_allowed c (x ∷ s) asks h a) (omega (arith, e))
   | inr r ↦ rw (judge_refused c (x ∷ s) asks h r.0 r.1) (omega arith)
@@ -89,7 +89,7 @@ halts_here c f x s n e = elim (judged c (x ∷ s) n.asks) [
   | inr r ↦ let g = sym (judge_refused c (x ∷ s) n.asks (run_parser c s n.stack n.counts) r.0 r.1) ∙ e in (r.0, cc, r.1)
 ]
 
-pub halts_later : (c : Limits) (f : Cause) (x y : Terminal) (r s : List Terminal) (asks : List Ask) (h : Halt) → judge c (y ∷ r ++ x ∷ s) asks h ≡ At f (x ∷ s)
+pub halts_later : (c : Limits) (f : Cause) (x y : Terminal) (r s : List Terminal) (asks : List Ask) (h : ParseEnd) → judge c (y ∷ r ++ x ∷ s) asks h ≡ At f (x ∷ s)
     → Allowed c (y ∷ r ++ x ∷ s) asks × (h ≡ At f (x ∷ s))
 halts_later c f x y r s asks h e = elim (judged c (y ∷ r ++ x ∷ s) asks) [
   | inl a ↦ (a, sym (judge_allowed c (y ∷ r ++ x ∷ s) asks h a) ∙ e)

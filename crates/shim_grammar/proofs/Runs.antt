@@ -11,10 +11,10 @@ use Rattle.shim_syntax.specs.Limits.{Limit, Nesting, Count, Limits}
 use Rattle.shim_syntax.specs.Grammar as is
 use Rattle.shim_syntax.specs.Grammar.{TextCounts, with_operator, with_local, new_expression, new_body, new_function, at_level, behind_body, as_branch, row_of_sign, is_else, is_par, IsExpr, IsChain, IsWhole, IsArguments, IsMoreArguments, IsTest}
 use Rattle.shim_grammar.specs.declared.punctuation.Punctuation.TheVariants as punctuation
-use Rattle.shim_grammar.specs.Machine.{Fixed, Operand, Inside, Expression, Operators, Arguments, MoreArguments, Argument, AfterEqual, Test, Statement, Body, Block, Else, AfterBody, Pars, SymbolStack, Want, Halt, At, Unwanted, ask, go, is_operator, joins_sign, operand, operators, judge, run_parser}
+use Rattle.shim_grammar.specs.Machine.{Fixed, Operand, Inside, Expression, Operators, Arguments, MoreArguments, Argument, AfterEqual, Test, Statement, Body, Block, Else, AfterBody, Pars, SymbolStack, Want, ParseEnd, At, Unwanted, ask, go, is_operator, joins_sign, operand, operators, judge, run_parser}
 
 -- how a run goes on with what a terminal wants
-abbrev pub run_on : Limits → Terminal → List Terminal → Option Want → Halt
+abbrev pub run_on : Limits → Terminal → List Terminal → Option Want → ParseEnd
 run_on c x s o = elim o [ None ↦ At Unwanted (x ∷ s) | Some n ↦ judge c (x ∷ s) n.asks (run_parser c s n.stack n.counts) ]
 
 -- a limit that allows what is asked changes nothing

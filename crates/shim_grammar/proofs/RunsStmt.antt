@@ -16,7 +16,7 @@ use Rattle.shim_syntax.specs.Limits.{Nesting, Count, Limits}
 use Rattle.shim_syntax.specs.Grammar as is
 use Rattle.shim_syntax.specs.Grammar.{TextCounts, nothing_read, in_version_2, new_function, with_local, new_body, at_level, behind_body, as_branch, is_else, is_par, IsDeclared, IsDeclarations, IsFirst, IsStep, IsThrowRest, IsCatchRest, IsBlock, IsStmt, IsBody, IsPlain, IsBranches, IsBranch, IsParam, IsParams, IsMoreParams, IsThrows, IsMoreThrows, IsFunction, IsFunctions, Derives}
 use Rattle.shim_grammar.specs.declared.punctuation.Punctuation.TheVariants as punctuation
-use Rattle.shim_grammar.specs.Machine.{Fixed, Word, Expression, Operators, Declarations, MoreDeclarations, Declaration, Statement, Body, Block, ThrowRest, CatchRest, First, Test, Step, Else, AfterBody, Pars, Branch, Parameters, Throws, MoreParameters, Parameter, MoreThrows, Functions, SymbolStack, Want, Halt, At, Unwanted, judge, wants, go, AllTaken, statement, run_parser, Source, Version}
+use Rattle.shim_grammar.specs.Machine.{Fixed, Word, Expression, Operators, Declarations, MoreDeclarations, Declaration, Statement, Body, Block, ThrowRest, CatchRest, First, Test, Step, Else, AfterBody, Pars, Branch, Parameters, Throws, MoreParameters, Parameter, MoreThrows, Functions, SymbolStack, Want, ParseEnd, At, Unwanted, judge, wants, go, AllTaken, statement, run_parser, Source, Version}
 use Rattle.shim_grammar.proofs.Runs.{run_on, asked, is_left_brace, is_right_brace, else_skips, pars_skips, after_body_skips, block_skips, body_skips, whole_runs, arguments_runs, equal_runs, test_runs}
 
 pub declared_runs : {c : Limits} {l : ℕ} {w : TextCounts} {s r : List Terminal} {x : List ℕ} {p : Place} {value : Option Expr} (v : TextCounts) → IsDeclared c l v w s (Sign g.Semicolon p ∷ r) x value
@@ -95,7 +95,7 @@ pub body_open : {c : Limits} {l : ℕ} {v w : TextCounts} {s r : List Terminal} 
 body_open {c = c} {s = s} d j u k = body_skips c s j u k (plain_begins d).0
 
 -- a run over a statement that may begin, and was counted
-abbrev pub run_begun : Limits → List Terminal → ℕ → SymbolStack → TextCounts → Halt
+abbrev pub run_begun : Limits → List Terminal → ℕ → SymbolStack → TextCounts → ParseEnd
 run_begun c [] l k v = AllTaken
 run_begun c (x ∷ s) l k v = run_on c x s (statement x l k v)
 
@@ -203,7 +203,7 @@ source_begins is.program_end = refl
 source_begins (is.another_function h (is.function ps ts b) t) = refl
 
 -- what is wanted of a header is taken
-after : Limits → Terminal → List Terminal → Option Want → Halt
+after : Limits → Terminal → List Terminal → Option Want → ParseEnd
 after c x s o = elim o [ None ↦ At Unwanted (x ∷ s) | Some n ↦ judge c (x ∷ s) n.asks (run_parser c s n.stack n.counts) ]
 
 shim_wanted : (x : Terminal) (k : SymbolStack) (w : TextCounts) → is_shim x ≡ true → wants (Source ∷ k) x w ≡ go (Version ∷ Fixed punctuation.Semicolon ∷ Functions 0 ∷ k) (in_version_2 w)

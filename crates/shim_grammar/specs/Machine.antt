@@ -328,18 +328,18 @@ pub data Cause : Type 0 where
   Past : Limit → Cause
 
 -- where it halts, and why
-pub data Halt : Type 0 where
-  At : Cause → List Terminal → Halt
+pub data ParseEnd : Type 0 where
+  At : Cause → List Terminal → ParseEnd
 
 -- all was taken
-abbrev pub AllTaken : Halt
+abbrev pub AllTaken : ParseEnd
 AllTaken = At Unwanted []
 
 -- the limits that the first of these terminals asks for are judged in turn
-abbrev pub judge : Limits → List Terminal → List Ask → Halt → Halt
+abbrev pub judge : Limits → List Terminal → List Ask → ParseEnd → ParseEnd
 judge c s [] go_on = go_on
 judge c s (a ∷ asks) go_on = if c s a.limit a.number then judge c s asks go_on else At (Past a.limit) s
 
-abbrev pub run_parser : Limits → List Terminal → SymbolStack → TextCounts → Halt
+abbrev pub run_parser : Limits → List Terminal → SymbolStack → TextCounts → ParseEnd
 run_parser c [] k w = AllTaken
 run_parser c (x ∷ s) k w = elim (wants k x w) [ None ↦ At Unwanted (x ∷ s) | Some n ↦ judge c (x ∷ s) n.asks (run_parser c s n.stack n.counts) ]

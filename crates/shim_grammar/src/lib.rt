@@ -1,7 +1,8 @@
 //! What the grammar comes to, read from the left: a stack of what must follow, one terminal at a time.
 #![tactic(auto)]
 
-/// What is proved of the grammar: no text has two programs, two faults, or one of each, and how it begins tells its version.
+/// What is proved of the grammar: no text has two programs, two faults, or one of each, and its beginning
+/// determines its version.
 pub mod laws;
 mod punctuation;
 

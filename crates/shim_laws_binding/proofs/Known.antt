@@ -25,7 +25,7 @@ found_passes : {X : Type 0} (p : X → Bool) (xs : List X) (y : X) → find p xs
 found_passes p [] y h = absurd (cc h)
 found_passes p (x ∷ xs) y h = passes_by p x (find p xs) y (found_passes p xs y) (cases_Bool (p x)) h
 
--- what is found stands at the place that is told
+-- what is found is at the place that is computed
 record StandsAt {X : Type 0} (p : X → Bool) (xs : List X) (y : X) : Type 0 where
   within : position_or_len p xs < length xs
   place : position_else (length xs) (position p xs) ≡ position_or_len p xs
@@ -48,7 +48,7 @@ position_by p xs n (inr i) h =
     let none : None ≡ Some n = sym (ap (λ (b : Bool). cond b (Some (position_or_len p xs)) None) (le-ltb (position_or_len p xs) (length xs) i.0)) ∙ h in
     absurd (cc none)
 
--- where the first that passes is told to stand, one that passes stands
+-- where the first that passes is said to be, one that passes is
 pub position_stands : {X : Type 0} (p : X → Bool) (xs : List X) (n : ℕ) → position p xs ≡ Some n → (y : X) × (slice_get xs n ≡ Some y) × (p y ≡ true)
 position_stands p xs n h = position_by p xs n (slice_get_cases xs (position_or_len p xs)).1 h
 
@@ -98,9 +98,9 @@ there_always : (x : List ℕ) (xs known : Texts) → IsThere known x → IsThere
 there_always x [] known t = t
 there_always x (y ∷ ys) known t = there_always x ys (with_name y known) (there_still x y known t)
 
-all_there : (xs known : Texts) → Each (λ x. IsThere (with_texts xs known) x) xs
-all_there [] known = tt
-all_there (x ∷ xs) known = (there_always x xs (with_name x known) (there_now x known), all_there xs (with_name x known))
+all_found : (xs known : Texts) → Each (λ x. IsThere (with_texts xs known) x) xs
+all_found [] known = tt
+all_found (x ∷ xs) known = (there_always x xs (with_name x known) (there_now x known), all_found xs (with_name x known))
 
 all_known : (names xs : Texts) → Each (IsThere names) xs → Each (IsKnown names) xs
 all_known names [] h = tt
@@ -109,7 +109,7 @@ all_known names (x ∷ xs) h = (is_known names x h.0, all_known names xs h.1)
 pub identifiers_known : (fs : List Function) → Each (IsKnown (with_functions fs [])) (identifiers fs)
 identifiers_known fs =
     all_known (with_functions fs []) (identifiers fs)
-    (subst (λ names. Each (IsThere names) (identifiers fs)) (sym (names_are_the_identifiers fs)) (all_there (identifiers fs) []))
+    (subst (λ names. Each (IsThere names) (identifiers fs)) (sym (names_are_the_identifiers fs)) (all_found (identifiers fs) []))
 
 -- the names at the numbers of known names are these
 pub known_back : (names xs : Texts) → Each (IsKnown names) xs → names_at names (map (name_index names) xs) ≡ xs

@@ -55,23 +55,23 @@ pub record AreToCome (n : Naming) (a : Around) (b : Before) (ds : Declarations) 
   pub tries : AreFrom own_name n.exception (a.throws + length b.tries) ts
 
 -- how what was bound is read: with its names put back, and as its calls
-pub record Reading (T S : Type 0) : Type 0 where
+pub record ReadBack (T S : Type 0) : Type 0 where
   pub named : T → S
   pub calls : T → Calls
 
 -- What was bound gives its source when its names are put back, and H holds of each of its calls.
-pub record IsBack {T S : Type 0} (n : Naming) (H : RCall → Type 0) (back : Reading T S) (s : S) (r : BoundTo T) : Type 0 where
+pub record IsBack {T S : Type 0} (n : Naming) (H : RCall → Type 0) (back : ReadBack T S) (s : S) (r : BoundTo T) : Type 0 where
   pub tree : back.named r.tree ≡ s
   pub own : Each (VariableNamed n.variable) r.before.own
   pub calls : Each H (back.calls r.tree)
 
-abbrev pub GoesBack : {T S : Type 0} → Naming → (RCall → Type 0) → Reading T S → S → Declarations → Texts → Bind T → Type 0
+abbrev pub GoesBack : {T S : Type 0} → Naming → (RCall → Type 0) → ReadBack T S → S → Declarations → Texts → Bind T → Type 0
 GoesBack {T = T} n H back s ds ts f = (a : Around) (b : Before) (r : BoundTo T) → f a b ≡ Ok r → IsNamed n a b → AreToCome n a b ds ts → IsBack n H back s r
 
-abbrev pub whats : Naming → Reading RWhat What
+abbrev pub whats : Naming → ReadBack RWhat What
 whats n = record { named = what_named n; calls = calls_of_what }
 
-abbrev pub bodies : Naming → Reading (List RStmt) (List Stmt)
+abbrev pub bodies : Naming → ReadBack (List RStmt) (List Stmt)
 bodies n = record { named = stmts_named n; calls = calls_among }
 
 pub all_named : (n : Naming) (a : Around) (b : Before) → IsNamed n a b → Each (VariableNamed n.variable) (visible a b)
@@ -88,17 +88,17 @@ next_to_come n names ls a b c ds es ts us g t =
     let tries : a.throws + length c.tries ≡ (a.throws + length b.tries) + length ts = omega (arith, ap length g.tries, length-append b.tries (map (name_index names) ts), length-map ts (name_index names)) in
     record { slots = later declared_name n.variable (length b.slots) ds es (length c.slots) slots t.slots; tries = later own_name n.exception (a.throws + length b.tries) ts us (a.throws + length c.tries) tries t.tries }
 
-pub answered : {T S : Type 0} (n : Naming) (H : RCall → Type 0) (back : Reading T S) (s : S) (t : T) (b : Before) (r : BoundTo T)
+pub answered : {T S : Type 0} (n : Naming) (H : RCall → Type 0) (back : ReadBack T S) (s : S) (t : T) (b : Before) (r : BoundTo T)
     → bound t b ≡ Ok r → back.named t ≡ s → Each (VariableNamed n.variable) b.own → Each H (back.calls t) → IsBack n H back s r
 answered n H back s t b r e p q c = subst (λ r. IsBack n H back s r) (sym (is_bound t b r e)) (record { tree = p; own = q; calls = c })
 
-pub block_back : {T S : Type 0} (n : Naming) (H : RCall → Type 0) (back : Reading T S) (s : S) (ds : Declarations) (ts : Texts) (f : Bind T) → GoesBack n H back s ds ts f → GoesBack n H back s ds ts (bind_block f)
+pub block_back : {T S : Type 0} (n : Naming) (H : RCall → Type 0) (back : ReadBack T S) (s : S) (ds : Declarations) (ts : Texts) (f : Bind T) → GoesBack n H back s ds ts f → GoesBack n H back s ds ts (bind_block f)
 block_back n H back s ds ts f k a b r h named t =
     let p = first_ok (f (inside_block a b) (opened b)) _ r h in
     let q = k (inside_block a b) (opened b) p.0 p.1 (record { outer = all_named n a b named; own = tt; handled = named.handled }) (record { slots = t.slots; tries = t.tries }) in
     answered n H back s p.0.tree (after_block b p.0.before) r p.2 q.tree named.own q.calls
 
-pub tree_back : {R S T U : Type 0} (n : Naming) (H : RCall → Type 0) (back : Reading R S) (s : S) (over : Reading T U) (u : U) (g : R → T) (ds : Declarations) (ts : Texts) (f : Bind R)
+pub tree_back : {R S T U : Type 0} (n : Naming) (H : RCall → Type 0) (back : ReadBack R S) (s : S) (over : ReadBack T U) (u : U) (g : R → T) (ds : Declarations) (ts : Texts) (f : Bind R)
     → ((x : R) → back.named x ≡ s → over.named (g x) ≡ u) → ((x : R) → over.calls (g x) ≡ back.calls x) → GoesBack n H back s ds ts f → GoesBack n H over u ds ts (on_tree g f)
 tree_back n H back s over u g ds ts f up same k a b r h named t =
     let p = first_ok (f a b) _ r h in
@@ -265,7 +265,7 @@ module _ (n : Naming) (H : RCall → Type 0) (w : Whole) where
   call_holds holds c line a b r h named =
       known_call_holds holds (function_of w.functions c.function) c line a b r refl (passed line UnknownName (unknown_in_all (visible a b) c.args) _ r h) named
 
-  pub called_back : FunctionsNamed → HoldsOfCalls → {T S : Type 0} (back : Reading T S) (made : Call → S) (g : RCall → T) (c : Call) (line : ℕ) → ((r : RCall) → back.named (g r) ≡ made (call_named n r))
+  pub called_back : FunctionsNamed → HoldsOfCalls → {T S : Type 0} (back : ReadBack T S) (made : Call → S) (g : RCall → T) (c : Call) (line : ℕ) → ((r : RCall) → back.named (g r) ≡ made (call_named n r))
       → ((r : RCall) → back.calls (g r) ≡ r ∷ []) → GoesBack n H back (made c) [] [] (bind_called g w c line)
   called_back fs holds back made g c line step calls a b r h named t =
       let p = first_ok (bind_call w c line a b) _ r h in

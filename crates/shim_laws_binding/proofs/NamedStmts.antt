@@ -24,20 +24,20 @@ use Rattle.shim_laws_binding.proofs.Growth.{Grows, declared_by_branch_what, decl
 use Rattle.shim_laws_binding.proofs.NamedSteps.{branch_what_named, what_named, branch_named, stmts_named, branches_named, named_stmt, named_branch, named_block, named_call, named_par, named_block_branch, named_call_branch}
 use Rattle.shim_laws_binding.proofs.Lists.{each_of_both}
 use Rattle.shim_laws_binding.proofs.CallSteps.{calls_of_branch_what, calls_of_branch, calls_of_branches, calls_stmt, calls_branch, calls_block, calls_call, calls_par, calls_block_branch, calls_call_branch}
-use Rattle.shim_laws_binding.proofs.NamedParts.{Reading, whats, bodies, HoldsOfCalls, GoesBack, first_to_come, next_to_come, answered, behind_named, block_back, tree_back, declare_back, assign_back, next_assign_back, put_back, next_back, assign_next_back, get_back, throw_back, FunctionsNamed, called_back, if_back, while_back, try_back, for_back}
+use Rattle.shim_laws_binding.proofs.NamedParts.{ReadBack, whats, bodies, HoldsOfCalls, GoesBack, first_to_come, next_to_come, answered, behind_named, block_back, tree_back, declare_back, assign_back, next_assign_back, put_back, next_back, assign_next_back, get_back, throw_back, FunctionsNamed, called_back, if_back, while_back, try_back, for_back}
 use Rattle.shim_scopes.proofs.Refusals.{first_ok}
 
 module _ (n : Naming) (H : RCall → Type 0) (w : Whole) (functions : FunctionsNamed n H w) (holds : HoldsOfCalls n H w) where
-  abbrev branch_whats : Reading RBranchWhat BranchWhat
+  abbrev branch_whats : ReadBack RBranchWhat BranchWhat
   branch_whats = record { named = branch_what_named n; calls = calls_of_branch_what }
 
-  abbrev one_branch : Reading RBranch Branch
+  abbrev one_branch : ReadBack RBranch Branch
   one_branch = record { named = branch_named n; calls = calls_of_branch }
 
-  abbrev all_branches : Reading (List RBranch) (List Branch)
+  abbrev all_branches : ReadBack (List RBranch) (List Branch)
   all_branches = record { named = branches_named n; calls = calls_of_branches }
 
-  abbrev one_stmt : Reading RStmt Stmt
+  abbrev one_stmt : ReadBack RStmt Stmt
   one_stmt = record { named = stmt_named n; calls = stmt_calls }
 
   abbrev OfBranchWhat : BranchWhat → Type 0
@@ -176,7 +176,7 @@ module _ (n : Naming) (H : RCall → Type 0) (w : Whole) (functions : FunctionsN
   what_layer (What-F.Par bs) line = tree_back n H all_branches (branches bs) (whats n) (st.Par (branches bs)) bt.Par _ _ _ (λ x e. named_par n x ∙ ap st.Par e) calls_par (branches_back bs)
 
   -- the same, of a part and lists that are equal to these
-  same_back : {T S : Type 0} (back : Reading T S) (s : S) (ds es : Declarations) (ts us : Texts) (f g : Bind T) → ds ≡ es → ts ≡ us → f ≡ g → GoesBack n H back s es us g → GoesBack n H back s ds ts f
+  same_back : {T S : Type 0} (back : ReadBack T S) (s : S) (ds es : Declarations) (ts us : Texts) (f g : Bind T) → ds ≡ es → ts ≡ us → f ≡ g → GoesBack n H back s es us g → GoesBack n H back s ds ts f
   same_back back s ds es ts us f g p q e h =
       subst (λ d. GoesBack n H back s d ts f) (sym p) (subst (λ t. GoesBack n H back s es t f) (sym q) (subst (λ k. GoesBack n H back s es us k) (sym e) h))
 

@@ -77,7 +77,7 @@ module _ (asked around : List LocalDeclaration) (further : (x : List ℕ) → un
       let both = neither (unknown_in asked a) (unknown_in_all asked es) h in
       (expr_placed a both.0, exprs_placed es both.1)
 
--- the point of which these tell
+-- the point that these describe
 abbrev pub point : Around → Before → Point
 point a b = record { declared = visible a b; handled = a.handled; slots = length b.slots; exceptions = a.throws + length b.tries }
 

@@ -7,15 +7,16 @@ use Rattle.shim_syntax.specs.declared.tree.Expr.TheVariants as e
 use Rattle.shim_syntax.specs.declared.tree.Call.{Call}
 use Rattle.shim_syntax.specs.declared.tree.Param.{Param}
 use Rattle.shim_syntax.specs.declared.tree.Function.{Function}
-use Rattle.shim_syntax.specs.declared.tree.Stmt.{Stmt, Stmt-F, fold-roll-Stmt, ind-Stmt, map-Stmt, roll-Stmt}
-use Rattle.shim_syntax.specs.declared.tree.What.{What, What-F, fold-What, fold-roll-What, map-What, roll-What}
+use Rattle.shim_syntax.specs.declared.tree.Stmt.{Stmt}
+use Rattle.shim_syntax.specs.declared.tree.What.{What, What-F, fold-roll-What, map-What, roll-What}
 use Rattle.shim_syntax.specs.declared.tree.What.TheVariants as st
-use Rattle.shim_syntax.specs.declared.tree.Branch.{Branch, Branch-F, fold-Branch, fold-roll-Branch, map-Branch, roll-Branch}
-use Rattle.shim_syntax.specs.declared.tree.BranchWhat.{BranchWhat, BranchWhat-F, fold-BranchWhat, fold-roll-BranchWhat, map-BranchWhat, roll-BranchWhat}
+use Rattle.shim_syntax.specs.declared.tree.Branch.{Branch}
+use Rattle.shim_syntax.specs.declared.tree.BranchWhat.{BranchWhat, BranchWhat-F, fold-roll-BranchWhat, map-BranchWhat, roll-BranchWhat}
 use Rattle.shim_syntax.specs.declared.tree.BranchWhat.TheVariants as br
 use Rattle.shim_syntax.specs.Names.{Texts, unless_there, with_name, with_texts, param_names, with_functions}
-use Rattle.shim_syntax.specs.Occurrences.{concatenated, expr_occurs, in_expr, in_exprs, in_option, in_variable, in_call, branch_occurs, what_occurs, in_stmt, in_function, identifiers}
-use Rattle.shim_syntax.proofs.OccurrenceLemmas.{names_are_the_identifiers}
+use Rattle.shim_syntax.specs.Occurrences.{concatenated, expr_occurs, in_expr, in_exprs, in_option, in_variable, in_call, in_stmt, in_function, identifiers}
+use Rattle.shim_syntax.proofs.FormInduction.{InBranchWhat, InWhat, Each, each, each_stmt}
+use Rattle.shim_syntax.proofs.OccurrenceLemmas.{in_branch_what, in_what, in_branch, branch_what_at, what_at, rolled_branch_what, rolled_what, stmt_of_line, branch_of_line, names_are_the_identifiers}
 use Rattle.shim_up.specs.Renaming as ren
 use Rattle.shim_up.specs.Renaming.{Renaming, renamed_expr, renamed_option, renamed_variable, renamed_call, renamed_stmt, renamed_param, renamed_function, renamed_functions}
 use Rattle.shim_laws_up.proofs.RenamedSteps.{renamed_number, name_renamed, renamed_unary, renamed_binary}
@@ -74,15 +75,6 @@ module _ (f g : Renaming) where
   call_agrees : (c : Call) → Agree (in_call c) → renamed_call f c ≡ renamed_call g c
   call_agrees c h = same_parts (λ x xs. let d : Call = record { function = x; args = xs } in d) _ _ _ _ h.0 (exprs_agree c.args h.1)
 
-  abbrev in_branch_what : BranchWhat → Texts
-  in_branch_what = fold-BranchWhat Texts Texts Texts Texts branch_occurs what_occurs (λ b. b.what) (λ s. s.what)
-
-  abbrev in_what : What → Texts
-  in_what = fold-What Texts Texts Texts Texts branch_occurs what_occurs (λ b. b.what) (λ s. s.what)
-
-  abbrev in_branch : Branch → Texts
-  in_branch = fold-Branch Texts Texts Texts Texts branch_occurs what_occurs (λ b. b.what) (λ s. s.what)
-
   abbrev OfBranchWhat : BranchWhat → Type 0
   OfBranchWhat x = Agree (in_branch_what x) → renamed_branch_what f x ≡ renamed_branch_what g x
 
@@ -95,59 +87,17 @@ module _ (f g : Renaming) where
   abbrev OfStmt : Stmt → Type 0
   OfStmt s = Agree (in_stmt s) → renamed_stmt f s ≡ renamed_stmt g s
 
-  abbrev PartBranchWhat : Type 0
-  PartBranchWhat = (x : BranchWhat) × OfBranchWhat x
+  abbrev texts : List Stmt → Texts
+  texts body = concatenated (map in_stmt body)
 
-  abbrev PartWhat : Type 0
-  PartWhat = (x : What) × OfWhat x
+  stmts_agree : (body : List Stmt) → Each OfStmt body → Agree (texts body) → map (renamed_stmt f) body ≡ map (renamed_stmt g) body
+  stmts_agree [] k h = refl
+  stmts_agree (s ∷ body) k h = same_parts (λ x xs. x ∷ xs) _ _ _ _ (k.0 (agree_first (in_stmt s) (texts body) h)) (stmts_agree body k.1 (agree_second (in_stmt s) (texts body) h))
 
-  abbrev PartBranch : Type 0
-  PartBranch = (b : Branch) × OfBranch b
-
-  abbrev PartStmt : Type 0
-  PartStmt = (s : Stmt) × OfStmt s
-
-  abbrev stmts : List PartStmt → List Stmt
-  stmts ys = map (λ (e : PartStmt). e.0) ys
-
-  abbrev branches : List PartBranch → List Branch
-  branches ys = map (λ (e : PartBranch). e.0) ys
-
-  abbrev texts : List PartStmt → Texts
-  texts ys = concatenated (map in_stmt (stmts ys))
-
-  stmts_agree : (ys : List PartStmt) → Agree (texts ys) → map (renamed_stmt f) (stmts ys) ≡ map (renamed_stmt g) (stmts ys)
-  stmts_agree [] h = refl
-  stmts_agree (y ∷ ys) h = same_parts (λ x xs. x ∷ xs) _ _ _ _ (y.1 (agree_first (in_stmt y.0) (texts ys) h)) (stmts_agree ys (agree_second (in_stmt y.0) (texts ys) h))
-
-  branches_agree : (ys : List PartBranch) → Agree (concatenated (map in_branch (branches ys))) → map (renamed_branch f) (branches ys) ≡ map (renamed_branch g) (branches ys)
-  branches_agree [] h = refl
-  branches_agree (y ∷ ys) h =
-      same_parts (λ x xs. x ∷ xs) _ _ _ _ (y.1 (agree_first (in_branch y.0) (concatenated (map in_branch (branches ys))) h)) (branches_agree ys (agree_second (in_branch y.0) (concatenated (map in_branch (branches ys))) h))
-
-  abbrev branch_what_of : BranchWhat-F PartBranchWhat PartWhat PartBranch PartStmt → BranchWhat-F BranchWhat What Branch Stmt
-  branch_what_of y = map-BranchWhat PartBranchWhat PartWhat PartBranch PartStmt BranchWhat What Branch Stmt (λ e. e.0) (λ e. e.0) (λ e. e.0) (λ e. e.0) y
-
-  abbrev what_of : What-F PartBranchWhat PartWhat PartBranch PartStmt → What-F BranchWhat What Branch Stmt
-  what_of y = map-What PartBranchWhat PartWhat PartBranch PartStmt BranchWhat What Branch Stmt (λ e. e.0) (λ e. e.0) (λ e. e.0) (λ e. e.0) y
-
-  abbrev branch_of : Branch-F PartBranchWhat PartWhat PartBranch PartStmt → Branch-F BranchWhat What Branch Stmt
-  branch_of y = map-Branch PartBranchWhat PartWhat PartBranch PartStmt BranchWhat What Branch Stmt (λ e. e.0) (λ e. e.0) (λ e. e.0) (λ e. e.0) y
-
-  abbrev stmt_of : Stmt-F PartBranchWhat PartWhat PartBranch PartStmt → Stmt-F BranchWhat What Branch Stmt
-  stmt_of y = map-Stmt PartBranchWhat PartWhat PartBranch PartStmt BranchWhat What Branch Stmt (λ e. e.0) (λ e. e.0) (λ e. e.0) (λ e. e.0) y
-
-  abbrev branch_what_at : BranchWhat-F BranchWhat What Branch Stmt → Texts
-  branch_what_at z = branch_occurs (map-BranchWhat BranchWhat What Branch Stmt Texts Texts Texts Texts in_branch_what in_what in_branch in_stmt z)
-
-  abbrev what_at : What-F BranchWhat What Branch Stmt → Texts
-  what_at z = what_occurs (map-What BranchWhat What Branch Stmt Texts Texts Texts Texts in_branch_what in_what in_branch in_stmt z)
-
-  rolled_branch_what : (z : BranchWhat-F BranchWhat What Branch Stmt) → in_branch_what (roll-BranchWhat z) ≡ branch_what_at z
-  rolled_branch_what z = fold-roll-BranchWhat Texts Texts Texts Texts branch_occurs what_occurs (λ b. b.what) (λ s. s.what) z
-
-  rolled_what : (z : What-F BranchWhat What Branch Stmt) → in_what (roll-What z) ≡ what_at z
-  rolled_what z = fold-roll-What Texts Texts Texts Texts branch_occurs what_occurs (λ b. b.what) (λ s. s.what) z
+  branches_agree : (bs : List Branch) → Each OfBranch bs → Agree (concatenated (map in_branch bs)) → map (renamed_branch f) bs ≡ map (renamed_branch g) bs
+  branches_agree [] k h = refl
+  branches_agree (b ∷ bs) k h =
+      same_parts (λ x xs. x ∷ xs) _ _ _ _ (k.0 (agree_first (in_branch b) (concatenated (map in_branch bs)) h)) (branches_agree bs k.1 (agree_second (in_branch b) (concatenated (map in_branch bs)) h))
 
   branch_what_below : Renaming → BranchWhat-F BranchWhat What Branch Stmt → BranchWhat
   branch_what_below u z = ren.rename_branch_what_step u (map-BranchWhat BranchWhat What Branch Stmt BranchWhat What Branch Stmt (renamed_branch_what u) (renamed_what u) (renamed_branch u) (renamed_stmt u) z)
@@ -155,45 +105,45 @@ module _ (f g : Renaming) where
   what_below : Renaming → What-F BranchWhat What Branch Stmt → What
   what_below u z = ren.rename_what_step u (map-What BranchWhat What Branch Stmt BranchWhat What Branch Stmt (renamed_branch_what u) (renamed_what u) (renamed_branch u) (renamed_stmt u) z)
 
-  branch_what_layer : (y : BranchWhat-F PartBranchWhat PartWhat PartBranch PartStmt) → Agree (branch_what_at (branch_what_of y)) → branch_what_below f (branch_what_of y) ≡ branch_what_below g (branch_what_of y)
+  branch_what_layer : (y : BranchWhat-F BranchWhat What Branch Stmt) → InBranchWhat OfStmt y → Agree (branch_what_at y) → branch_what_below f y ≡ branch_what_below g y
   unfolding branch_what_below
-  branch_what_layer (BranchWhat-F.BranchWhat::Block body) h = ap br.Block (stmts_agree body h)
-  branch_what_layer (BranchWhat-F.BranchWhat::Call c) h = ap br.Call (call_agrees c h)
+  branch_what_layer (BranchWhat-F.BranchWhat::Block body) p h = ap br.Block (stmts_agree body p h)
+  branch_what_layer (BranchWhat-F.BranchWhat::Call c) p h = ap br.Call (call_agrees c h)
 
   variable_agrees : (y : Option (List ℕ)) → Agree (in_variable y) → renamed_variable f y ≡ renamed_variable g y
   variable_agrees None h = refl
   variable_agrees (Some x) h = ap Some h.0
 
-  what_layer : (y : What-F PartBranchWhat PartWhat PartBranch PartStmt) → Agree (what_at (what_of y)) → what_below f (what_of y) ≡ what_below g (what_of y)
+  what_layer : (y : What-F BranchWhat What Branch Stmt) → InWhat OfBranch OfStmt y → Agree (what_at y) → what_below f y ≡ what_below g y
   unfolding what_below
-  what_layer (What-F.Declare ty x a) h = same_parts (st.Declare ty) _ _ _ _ h.0 (option_agrees a h.1)
-  what_layer (What-F.Assign x a) h = same_parts st.Assign _ _ _ _ h.0 (expr_agrees a h.1)
-  what_layer (What-F.Next x) h = ap st.Next h.0
-  what_layer (What-F.NextAssign x a) h = same_parts st.NextAssign _ _ _ _ h.0 (expr_agrees a h.1)
-  what_layer (What-F.AssignNext x y) h = same_parts st.AssignNext _ _ _ _ h.0 h.1.0
-  what_layer (What-F.Get x y) h = same_parts st.Get _ _ _ _ h.0 h.1.0
-  what_layer (What-F.Put x a) h = same_parts st.Put _ _ _ _ h.0 (expr_agrees a h.1)
-  what_layer (What-F.If a first other) h =
+  what_layer (What-F.Declare ty x a) p h = same_parts (st.Declare ty) _ _ _ _ h.0 (option_agrees a h.1)
+  what_layer (What-F.Assign x a) p h = same_parts st.Assign _ _ _ _ h.0 (expr_agrees a h.1)
+  what_layer (What-F.Next x) p h = ap st.Next h.0
+  what_layer (What-F.NextAssign x a) p h = same_parts st.NextAssign _ _ _ _ h.0 (expr_agrees a h.1)
+  what_layer (What-F.AssignNext x y) p h = same_parts st.AssignNext _ _ _ _ h.0 h.1.0
+  what_layer (What-F.Get x y) p h = same_parts st.Get _ _ _ _ h.0 h.1.0
+  what_layer (What-F.Put x a) p h = same_parts st.Put _ _ _ _ h.0 (expr_agrees a h.1)
+  what_layer (What-F.If a first other) p h =
       let k = agree_second (in_expr a) (texts first ++ texts other) h in
-      same_parts (λ x y. st.If x y (map (renamed_stmt f) (stmts other))) _ _ _ _ (expr_agrees a (agree_first (in_expr a) (texts first ++ texts other) h)) (stmts_agree first (agree_first (texts first) (texts other) k))
-      ∙ ap (λ z. st.If (renamed_expr g a) (map (renamed_stmt g) (stmts first)) z) (stmts_agree other (agree_second (texts first) (texts other) k))
-  what_layer (What-F.While a body) h = same_parts st.While _ _ _ _ (expr_agrees a (agree_first (in_expr a) (texts body) h)) (stmts_agree body (agree_second (in_expr a) (texts body) h))
-  what_layer (What-F.For first test step body) h =
+      same_parts (λ x y. st.If x y (map (renamed_stmt f) other)) _ _ _ _ (expr_agrees a (agree_first (in_expr a) (texts first ++ texts other) h)) (stmts_agree first p.0 (agree_first (texts first) (texts other) k))
+      ∙ ap (λ z. st.If (renamed_expr g a) (map (renamed_stmt g) first) z) (stmts_agree other p.1 (agree_second (texts first) (texts other) k))
+  what_layer (What-F.While a body) p h = same_parts st.While _ _ _ _ (expr_agrees a (agree_first (in_expr a) (texts body) h)) (stmts_agree body p (agree_second (in_expr a) (texts body) h))
+  what_layer (What-F.For first test step body) p h =
       let k = agree_second (texts first) (in_option test ++ (texts step ++ texts body)) h in
       let l = agree_second (in_option test) (texts step ++ texts body) k in
-      same_parts (λ x y. st.For x y (map (renamed_stmt f) (stmts step)) (map (renamed_stmt f) (stmts body))) _ _ _ _
-      (stmts_agree first (agree_first (texts first) (in_option test ++ (texts step ++ texts body)) h)) (option_agrees test (agree_first (in_option test) (texts step ++ texts body) k))
-      ∙ same_parts (λ x y. st.For (map (renamed_stmt g) (stmts first)) (renamed_option g test) x y) _ _ _ _ (stmts_agree step (agree_first (texts step) (texts body) l)) (stmts_agree body (agree_second (texts step) (texts body) l))
-  what_layer (What-F.What::Block body) h = ap st.Block (stmts_agree body h)
-  what_layer (What-F.What::Call c) h = ap st.Call (call_agrees c h)
-  what_layer (What-F.Try body x y handler) h =
+      same_parts (λ x y. st.For x y (map (renamed_stmt f) step) (map (renamed_stmt f) body)) _ _ _ _
+      (stmts_agree first p.0 (agree_first (texts first) (in_option test ++ (texts step ++ texts body)) h)) (option_agrees test (agree_first (in_option test) (texts step ++ texts body) k))
+      ∙ same_parts (λ x y. st.For (map (renamed_stmt g) first) (renamed_option g test) x y) _ _ _ _ (stmts_agree step p.1 (agree_first (texts step) (texts body) l)) (stmts_agree body p.2 (agree_second (texts step) (texts body) l))
+  what_layer (What-F.What::Block body) p h = ap st.Block (stmts_agree body p h)
+  what_layer (What-F.What::Call c) p h = ap st.Call (call_agrees c h)
+  what_layer (What-F.Try body x y handler) p h =
       let rest : Texts = in_variable y ++ texts handler in
       let k = agree_second (texts body) (x ∷ rest) h in
-      same_parts (λ b n. st.Try b n (renamed_variable f y) (map (renamed_stmt f) (stmts handler))) _ _ _ _ (stmts_agree body (agree_first (texts body) (x ∷ rest) h)) k.0
-      ∙ same_parts (λ v z. st.Try (map (renamed_stmt g) (stmts body)) (g x) v z) _ _ _ _ (variable_agrees y (agree_first (in_variable y) (texts handler) k.1))
-      (stmts_agree handler (agree_second (in_variable y) (texts handler) k.1))
-  what_layer (What-F.Throw x a) h = same_parts st.Throw _ _ _ _ h.0 (option_agrees a h.1)
-  what_layer (What-F.Par bs) h = ap st.Par (branches_agree bs h)
+      same_parts (λ b n. st.Try b n (renamed_variable f y) (map (renamed_stmt f) handler)) _ _ _ _ (stmts_agree body p.0 (agree_first (texts body) (x ∷ rest) h)) k.0
+      ∙ same_parts (λ v z. st.Try (map (renamed_stmt g) body) (g x) v z) _ _ _ _ (variable_agrees y (agree_first (in_variable y) (texts handler) k.1))
+      (stmts_agree handler p.1 (agree_second (in_variable y) (texts handler) k.1))
+  what_layer (What-F.Throw x a) p h = same_parts st.Throw _ _ _ _ h.0 (option_agrees a h.1)
+  what_layer (What-F.Par bs) p h = ap st.Par (branches_agree bs p h)
 
   below_branch_what : (u : Renaming) (z : BranchWhat-F BranchWhat What Branch Stmt) → renamed_branch_what u (roll-BranchWhat z) ≡ branch_what_below u z
   unfolding branch_what_below
@@ -203,12 +153,6 @@ module _ (f g : Renaming) where
   unfolding what_below
   below_what u z = fold-roll-What BranchWhat What Branch Stmt (ren.rename_branch_what_step u) (ren.rename_what_step u) ren.rename_branch_step ren.rename_stmt_step z
 
-  stmt_of_line : (line : ℕ) (x : What) → in_stmt (record { line = line; what = x }) ≡ in_what x
-  stmt_of_line line x = fold-roll-Stmt Texts Texts Texts Texts branch_occurs what_occurs (λ b. b.what) (λ s. s.what) (record { line = line; what = x })
-
-  branch_of_line : (line : ℕ) (x : BranchWhat) → in_branch (record { line = line; what = x }) ≡ in_branch_what x
-  branch_of_line line x = fold-roll-Branch Texts Texts Texts Texts branch_occurs what_occurs (λ b. b.what) (λ s. s.what) (record { line = line; what = x })
-
   of_branch : (line : ℕ) (x : BranchWhat) → OfBranchWhat x → OfBranch (record { line = line; what = x })
   of_branch line x k h =
       branch_at_line f line x ∙ ap (λ y. let b : Branch = record { line = line; what = y } in b) (k (agree_same _ _ (branch_of_line line x) h)) ∙ sym (branch_at_line g line x)
@@ -217,23 +161,10 @@ module _ (f g : Renaming) where
   of_stmt line x k h =
       stmt_at_line f line x ∙ ap (λ y. let s : Stmt = record { line = line; what = y } in s) (k (agree_same _ _ (stmt_of_line line x) h)) ∙ sym (stmt_at_line g line x)
 
-  branch_what_rolled : (y : BranchWhat-F PartBranchWhat PartWhat PartBranch PartStmt) → OfBranchWhat (roll-BranchWhat (branch_what_of y))
-  branch_what_rolled y h =
-      below_branch_what f (branch_what_of y) ∙ branch_what_layer y (agree_same _ _ (rolled_branch_what (branch_what_of y)) h) ∙ sym (below_branch_what g (branch_what_of y))
-
-  what_rolled : (y : What-F PartBranchWhat PartWhat PartBranch PartStmt) → OfWhat (roll-What (what_of y))
-  what_rolled y h = below_what f (what_of y) ∙ what_layer y (agree_same _ _ (rolled_what (what_of y)) h) ∙ sym (below_what g (what_of y))
-
   stmt_agrees : (s : Stmt) → OfStmt s
-  stmt_agrees = ind-Stmt OfBranchWhat OfWhat OfBranch OfStmt
-      (λ x y is. subst (λ z. OfBranchWhat (roll-BranchWhat z)) is (branch_what_rolled y))
-      (λ x y is. subst (λ z. OfWhat (roll-What z)) is (what_rolled y))
-      (λ x y is. subst (λ z. OfBranch (roll-Branch z)) is (of_branch y.line y.what.0 y.what.1))
-      (λ x y is. subst (λ z. OfStmt (roll-Stmt z)) is (of_stmt y.line y.what.0 y.what.1))
-
-  body_agrees : (body : List Stmt) → Agree (concatenated (map in_stmt body)) → map (renamed_stmt f) body ≡ map (renamed_stmt g) body
-  body_agrees [] h = refl
-  body_agrees (s ∷ body) h = same_parts (λ x xs. x ∷ xs) _ _ _ _ (stmt_agrees s (agree_first (in_stmt s) (concatenated (map in_stmt body)) h)) (body_agrees body (agree_second (in_stmt s) (concatenated (map in_stmt body)) h))
+  stmt_agrees = each_stmt OfBranchWhat OfWhat OfBranch OfStmt
+      (λ y p h. below_branch_what f y ∙ branch_what_layer y p (agree_same _ _ (rolled_branch_what y) h) ∙ sym (below_branch_what g y))
+      (λ y p h. below_what f y ∙ what_layer y p (agree_same _ _ (rolled_what y) h) ∙ sym (below_what g y)) of_branch of_stmt
 
   params_agree : (ps : List Param) → Agree (param_names ps) → map (renamed_param f) ps ≡ map (renamed_param g) ps
   params_agree [] h = refl
@@ -245,12 +176,12 @@ module _ (f g : Renaming) where
 
   function_agrees : (k : Function) → Agree (in_function k) → renamed_function f k ≡ renamed_function g k
   function_agrees k h =
-      let rest = k.throws ++ concatenated (map in_stmt k.body) in
+      let rest = k.throws ++ texts k.body in
       let made : List ℕ → List Param → Texts → List Stmt → Function = λ x ps ts body. record { line = k.line; name = x; params = ps; throws = ts; body = body } in
       let second = agree_second (param_names k.params) rest h.1 in
       same_parts (λ x ps. made x ps (map f k.throws) (map (renamed_stmt f) k.body)) _ _ _ _ h.0 (params_agree k.params (agree_first (param_names k.params) rest h.1))
       ∙ same_parts (λ ts body. made (g k.name) (map (renamed_param g) k.params) ts body) _ _ _ _
-      (texts_agree k.throws (agree_first k.throws (concatenated (map in_stmt k.body)) second)) (body_agrees k.body (agree_second k.throws (concatenated (map in_stmt k.body)) second))
+      (texts_agree k.throws (agree_first k.throws (texts k.body) second)) (stmts_agree k.body (each OfStmt stmt_agrees k.body) (agree_second k.throws (texts k.body) second))
 
   pub functions_agree : (fs : List Function) → Agree (identifiers fs) → renamed_functions f fs ≡ renamed_functions g fs
   functions_agree [] h = refl

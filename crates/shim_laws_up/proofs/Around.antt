@@ -1,4 +1,4 @@
--- Answers whose refusals tell the replaced names.
+-- Answers whose refusals report the replaced names.
 use Rattle.std.proofs.Common.{ℕ, ◌≡◌, ◌∙◌, List, Option, Some, None, Result, Ok, Err, ap}
 use Rattle.std.specs.Option.{option_map}
 use Rattle.shim_scopes.specs.declared.fault.ScopeKind.{ScopeKind}

@@ -21,7 +21,7 @@ use Rattle.shim_laws_up.specs.Rewriting.{at_byte, rewritten}
 use Rattle.shim_laws_up.proofs.Layers.{renamed_branch}
 use Rattle.shim_laws_up.proofs.RenamedSteps.{renamed_number, name_renamed, renamed_unary, renamed_binary, declare_renamed, assign_renamed, next_renamed, next_assign_renamed, assign_next_renamed, get_renamed, put_renamed, if_renamed, while_renamed, for_renamed, block_renamed, call_renamed, try_renamed, throw_renamed, par_renamed, block_branch_renamed, call_branch_renamed}
 
--- a keyword tells the same wherever it stands
+-- a keyword means the same wherever it stands
 key_par : (w : Keyword) (p q : Place) → is_par (Key w q) ≡ is_par (Key w p)
 key_par k.Void p q = refl
 key_par k.Throws p q = refl

@@ -1,4 +1,4 @@
--- What binding tells of each form of an expression.
+-- What binding says of each form of an expression.
 use Rattle.std.proofs.Common.{ℕ, ℤ, ◌≡◌, List, Option, Some, None}
 use Rattle.std.specs.Option.{option_or}
 use Rattle.shim_base.specs.declared.operators.BinOp.{BinOp}

@@ -1,4 +1,4 @@
--- What binding tells of an expression with its names replaced.
+-- What binding says of an expression with its names replaced.
 use Rattle.std.proofs.Common.{ℕ, ℤ, ◌≡◌, ◌∙◌, List, [], ◌∷◌, Option, Some, None, map, refl, sym, ap, subst}
 use Rattle.std.specs.Option.{option_map}
 use Rattle.std.specs.Str.{bytes_eq}

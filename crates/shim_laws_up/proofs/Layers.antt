@@ -1,9 +1,9 @@
 -- Each layer of a statement with its names replaced.
-use Rattle.std.proofs.Common.{ℕ, ◌≡◌, refl}
+use Rattle.std.proofs.Common.{ℕ, ◌≡◌, ◌∙◌, refl}
 use Rattle.shim_syntax.specs.declared.tree.Stmt.{Stmt, fold-roll-Stmt}
-use Rattle.shim_syntax.specs.declared.tree.What.{What, What-F, fold-What, roll-What}
+use Rattle.shim_syntax.specs.declared.tree.What.{What, What-F, fold-What, fold-roll-What, map-What, roll-What}
 use Rattle.shim_syntax.specs.declared.tree.Branch.{Branch, fold-Branch, fold-roll-Branch}
-use Rattle.shim_syntax.specs.declared.tree.BranchWhat.{BranchWhat, BranchWhat-F, fold-BranchWhat, roll-BranchWhat}
+use Rattle.shim_syntax.specs.declared.tree.BranchWhat.{BranchWhat, BranchWhat-F, fold-BranchWhat, fold-roll-BranchWhat, map-BranchWhat, roll-BranchWhat}
 use Rattle.shim_up.specs.Renaming as ren
 use Rattle.shim_up.specs.Renaming.{Renaming, renamed_expr, renamed_option, renamed_variable, renamed_call, renamed_stmt}
 
@@ -29,12 +29,12 @@ what_layer_renamed f (What-F.Try body x y handler) = What-F.Try body (f x) (rena
 what_layer_renamed f (What-F.Throw x a) = What-F.Throw (f x) (renamed_option f a)
 what_layer_renamed f (What-F.Par branches) = What-F.Par branches
 
-pub branch_what_rolled : (f : Renaming) (z : BranchWhat-F BranchWhat What Branch Stmt) → ren.rename_branch_what_step f z ≡ roll-BranchWhat (branch_what_layer_renamed f z)
+branch_what_rolled : (f : Renaming) (z : BranchWhat-F BranchWhat What Branch Stmt) → ren.rename_branch_what_step f z ≡ roll-BranchWhat (branch_what_layer_renamed f z)
 unfolding roll-BranchWhat denote.Hole.Carrier.roll
 branch_what_rolled f (BranchWhat-F.BranchWhat::Block body) = refl
 branch_what_rolled f (BranchWhat-F.BranchWhat::Call c) = refl
 
-pub what_rolled : (f : Renaming) (z : What-F BranchWhat What Branch Stmt) → ren.rename_what_step f z ≡ roll-What (what_layer_renamed f z)
+what_rolled : (f : Renaming) (z : What-F BranchWhat What Branch Stmt) → ren.rename_what_step f z ≡ roll-What (what_layer_renamed f z)
 unfolding roll-What denote.Hole.Carrier.roll
 what_rolled f (What-F.Declare ty x a) = refl
 what_rolled f (What-F.Assign x a) = refl
@@ -67,3 +67,16 @@ module _ (f : Renaming) where
 
   pub branch_at_line : (line : ℕ) (x : BranchWhat) → renamed_branch (record { line = line; what = x }) ≡ record { line = line; what = renamed_branch_what x }
   branch_at_line line x = fold-roll-Branch BranchWhat What Branch Stmt (ren.rename_branch_what_step f) (ren.rename_what_step f) ren.rename_branch_step ren.rename_stmt_step (record { line = line; what = x })
+
+  -- the names below replaced
+  abbrev pub branch_what_below : BranchWhat-F BranchWhat What Branch Stmt → BranchWhat-F BranchWhat What Branch Stmt
+  branch_what_below z = map-BranchWhat BranchWhat What Branch Stmt BranchWhat What Branch Stmt renamed_branch_what renamed_what renamed_branch (renamed_stmt f) z
+
+  abbrev pub what_below : What-F BranchWhat What Branch Stmt → What-F BranchWhat What Branch Stmt
+  what_below z = map-What BranchWhat What Branch Stmt BranchWhat What Branch Stmt renamed_branch_what renamed_what renamed_branch (renamed_stmt f) z
+
+  pub new_branch_what : (z : BranchWhat-F BranchWhat What Branch Stmt) → renamed_branch_what (roll-BranchWhat z) ≡ roll-BranchWhat (branch_what_layer_renamed f (branch_what_below z))
+  new_branch_what z = fold-roll-BranchWhat BranchWhat What Branch Stmt (ren.rename_branch_what_step f) (ren.rename_what_step f) ren.rename_branch_step ren.rename_stmt_step z ∙ branch_what_rolled f (branch_what_below z)
+
+  pub new_what : (z : What-F BranchWhat What Branch Stmt) → renamed_what (roll-What z) ≡ roll-What (what_layer_renamed f (what_below z))
+  new_what z = fold-roll-What BranchWhat What Branch Stmt (ren.rename_branch_what_step f) (ren.rename_what_step f) ren.rename_branch_step ren.rename_stmt_step z ∙ what_rolled f (what_below z)

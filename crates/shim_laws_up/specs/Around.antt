@@ -1,4 +1,4 @@
--- What stands around a place, with the names replaced, and answers whose refusals tell the replaced names.
+-- What stands around a place, with the names replaced, and answers whose refusals report the replaced names.
 use Rattle.std.specs.Prelude.{◌≡◌, Result, Ok, Err, map}
 use Rattle.shim_scopes.specs.declared.form.Form.{Form}
 use Rattle.shim_scopes.specs.declared.scope.LocalDeclaration.{LocalDeclaration}

@@ -17,7 +17,7 @@ rewritten_one f end at (Sign sign p) = Sign sign (at_byte at p)
 rewritten_one f end at (End p) = End end
 rewritten_one f end at (Broken kind p) = Broken kind (at_byte at p)
 
--- `place` tells where a terminal stands by how many follow it
+-- `place` says where a terminal stands by how many follow it
 abbrev pub rewritten : Renaming → Place → (ℕ → ℕ) → List Terminal → List Terminal
 rewritten f end place [] = []
 rewritten f end place (t ∷ ts) = rewritten_one f end (place (length ts)) t ∷ rewritten f end place ts

@@ -11,7 +11,7 @@ use Rattle.shim_base.specs.declared.Sign.{Sign}
 use Rattle.shim_base.specs.Tokens.{is_spacing, is_digit, is_letter, is_name_byte, is_hex_digit, is_hex_numeral, keyword_of, sign_of, decimal_value, hex_value, Begins, IsComment, line_opener, block_opener, block_closer, IsLongestToken, IsWithinLimits, Skips, spacing, IsFault}
 use Rattle.shim_base.proofs.FirstToken.{name_kind, front_of, name_is_first, decimal_is_first, hex_is_first, sign_is_first, no_sign_no_first}
 use Rattle.shim_base.proofs.Passing.{line_passes, IsCloserAt as ClosesAt, block_passes, block_open, no_pass, no_pass_of_open, no_pass_of_token}
-use Rattle.shim_base.proofs.Front.{pass_takes}
+use Rattle.shim_base.proofs.TextPrefix.{pass_takes}
 use Rattle.shim_lexer.specs.Scanned.{is_on_line, IsCloserAt, IsTokenPlace, IsPassed, IsFittingToken}
 
 -- what is passed over, by its length

@@ -1,4 +1,4 @@
--- What stands at the front of a text, as the functions that look for it tell it.
+-- What is at the front of a text, as the functions that look for it return it.
 use Rattle.std.specs.Prelude.{ℕ, ◌+◌, ◌≤◌, ◌<◌, ◌^◌, ◌≡◌, ℤ, pos, Bool, false, ◌==◌, List, [], length, take, drop, Option, Some, None, slice_index, not}
 use Rattle.shim_base.specs.declared.TokenKind.{TokenKind}
 use Rattle.shim_base.specs.Tokens.{is_spacing, IsWithinLimits, IsLongestToken, IsComment, Skips, IsFault}

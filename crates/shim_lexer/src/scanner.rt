@@ -7,7 +7,7 @@ use crate::number::number;
 use crate::word::{name, sign};
 use shim_base::{LexKind, TokenKind};
 
-/// What stands at the front of a text, with the number of its bytes.
+/// What is at the front of a text, with the number of its bytes.
 #[derive(Clone, Copy)]
 pub(crate) enum Scanned {
     /// No byte is left.

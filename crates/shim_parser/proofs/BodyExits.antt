@@ -16,7 +16,7 @@ use Rattle.shim_grammar.specs.Machine.{SymbolStack, Past, Block, Body, Statement
 use Rattle.shim_grammar.proofs.Runs.{asked, is_left_brace, body_skips}
 use Rattle.shim_parser.specs.declared.fault.ParseFault.{ParseFault}
 use Rattle.shim_parser.specs.Statements.{IsSignAt, IsKeyAt, IsThing, IsBehindPar}
-use Rattle.shim_parser.specs.Reading.{ReaderView, Blames, Fails, Reads, reader_with}
+use Rattle.shim_parser.specs.ReaderViews.{ReaderView, Blames, Fails, Reads, reader_with}
 use Rattle.shim_parser.proofs.Exits.{Leads, Took, took, fails_as, fails_under, reads_as, refused}
 use Rattle.shim_parser.proofs.Sequences.{then, same_run, block_leads, fails_there}
 use Rattle.shim_parser.proofs.StmtExits.{no_sign, not_par}

@@ -18,7 +18,7 @@ use Rattle.shim_parser.specs.TerminalView.{terminal_view}
 use Rattle.shim_parser.specs.declared.fault.ParseFault.{ParseFault}
 use Rattle.shim_parser.specs.Parts.{begins_operand}
 use Rattle.shim_parser.specs.Calls.{IsArgument}
-use Rattle.shim_parser.specs.Reading.{ReaderView, Blames, Fails, Reads}
+use Rattle.shim_parser.specs.ReaderViews.{ReaderView, Blames, Fails, Reads}
 use Rattle.shim_parser.proofs.Exits.{Leads, Took, took, fails_as, reads_as, unwanted}
 use Rattle.shim_parser.proofs.ExprExits.{whole_leads}
 

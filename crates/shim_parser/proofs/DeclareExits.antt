@@ -20,7 +20,7 @@ use Rattle.shim_parser.specs.TerminalView.{terminal_view}
 use Rattle.shim_parser.specs.declared.fault.ParseFault.{ParseFault}
 use Rattle.shim_parser.specs.declared.name_value.Declared.{Declared}
 use Rattle.shim_parser.specs.Declares.{is_equal, IsOver, IsDeclaredHere}
-use Rattle.shim_parser.specs.Reading.{ReaderView, Blames, Fails, reader_with}
+use Rattle.shim_parser.specs.ReaderViews.{ReaderView, Blames, Fails, reader_with}
 use Rattle.shim_parser.proofs.Exits.{Leads, took, fails_as, unwanted}
 use Rattle.shim_parser.proofs.ExprExits.{counted_took, expr_shorter}
 

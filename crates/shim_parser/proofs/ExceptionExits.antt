@@ -17,7 +17,7 @@ use Rattle.shim_parser.specs.declared.terminal.Terminal.TheVariants as here
 use Rattle.shim_parser.specs.declared.fault.ParseFault.{ParseFault}
 use Rattle.shim_parser.specs.Parts.{IsPunctuation, IsWholeBefore}
 use Rattle.shim_parser.specs.Statements.{IsSignAt}
-use Rattle.shim_parser.specs.Reading.{ReaderView, Blames, Fails, reader_with}
+use Rattle.shim_parser.specs.ReaderViews.{ReaderView, Blames, Fails, reader_with}
 use Rattle.shim_parser.proofs.Exits.{Leads, Took, took, fails_as, fails_under, refused}
 use Rattle.shim_parser.proofs.ExprExits.{Counted, counted_took}
 use Rattle.shim_parser.proofs.Sequences.{then, punctuation_leads}

@@ -8,7 +8,7 @@ use Rattle.shim_grammar.specs.Machine.{Symbol, SymbolStack, Want, Cause, Unwante
 use Rattle.shim_grammar.proofs.Runs.{run_on}
 use Rattle.shim_parser.specs.declared.fault.ParseFault.{ParseFault}
 use Rattle.shim_parser.specs.declared.fault.ParseFault.TheVariants.{Lex, Unexpected, TooDeep, TooMany, NoMemory}
-use Rattle.shim_parser.specs.Reading.{ReaderView, Blames, Halts, Fails, Reads}
+use Rattle.shim_parser.specs.ReaderViews.{ReaderView, Blames, Halts, Fails, Reads}
 
 -- with x to come at a, and whatever behind it, the machine runs as with y to come at b
 abbrev pub Leads : SymbolStack → SymbolStack → ReaderView → ReaderView → Type 0

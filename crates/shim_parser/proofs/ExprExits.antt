@@ -22,7 +22,7 @@ use Rattle.shim_parser.specs.declared.terminal.Terminal.TheVariants as here
 use Rattle.shim_parser.specs.TerminalView.{terminal_view}
 use Rattle.shim_parser.specs.declared.fault.ParseFault.{ParseFault}
 use Rattle.shim_parser.specs.Parts.{unary_sign, IsPunctuation, IsEntered, IsUnarySign, Stops}
-use Rattle.shim_parser.specs.Reading.{ReaderView, Fails, Reads, reader_with}
+use Rattle.shim_parser.specs.ReaderViews.{ReaderView, Fails, Reads, reader_with}
 use Rattle.shim_parser.proofs.Exits.{Leads, Took, took, fails_as, fails_under, reads_as}
 
 -- a terminal that was counted and then taken

@@ -19,7 +19,7 @@ use Rattle.shim_grammar.proofs.Runs.{asked}
 use Rattle.shim_parser.specs.declared.fault.ParseFault.{ParseFault}
 use Rattle.shim_parser.specs.Functions.{is_ampersand, is_comma, is_sort, is_void, is_throws, IsParameter, IsParameters, IsThrown, IsThrowsHere}
 use Rattle.shim_parser.specs.Parts.{IsName, IsPunctuation}
-use Rattle.shim_parser.specs.Reading.{ReaderView, Fails}
+use Rattle.shim_parser.specs.ReaderViews.{ReaderView, Fails}
 use Rattle.shim_parser.proofs.Exits.{Leads, Took, took, fails_as, fails_under}
 
 pub at_most : (n m : ℕ) → nat_le n m ≡ true → n ≤ m

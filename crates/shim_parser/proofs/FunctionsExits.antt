@@ -20,7 +20,7 @@ use Rattle.shim_parser.specs.TerminalView.{terminal_view}
 use Rattle.shim_parser.specs.declared.fault.ParseFault.{ParseFault}
 use Rattle.shim_parser.specs.Functions.{is_void, is_end, IsParameters, IsThrowsHere, IsFunctionBehind, AreAll}
 use Rattle.shim_parser.specs.Parts.{IsNameBefore}
-use Rattle.shim_parser.specs.Reading.{ReaderView, Fails, reader_with, is_last}
+use Rattle.shim_parser.specs.ReaderViews.{ReaderView, Fails, reader_with, is_last}
 use Rattle.shim_parser.proofs.Exits.{Leads, fails_as, fails_under}
 use Rattle.shim_parser.proofs.ExprExits.{Counted, counted_took}
 use Rattle.shim_parser.proofs.FunctionExits.{at_most, void_is}

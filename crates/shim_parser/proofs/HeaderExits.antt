@@ -23,7 +23,7 @@ use Rattle.shim_parser.specs.declared.fault.ParseFault.{ParseFault}
 use Rattle.shim_parser.specs.Parts.{IsPunctuation, IsWholeBefore}
 use Rattle.shim_parser.specs.Declares.{IsDeclaredHere}
 use Rattle.shim_parser.specs.Headers.{IsValueBehind}
-use Rattle.shim_parser.specs.Reading.{ReaderView, Fails, reader_with}
+use Rattle.shim_parser.specs.ReaderViews.{ReaderView, Fails, reader_with}
 use Rattle.shim_parser.proofs.Exits.{Leads, took, fails_as, fails_under}
 use Rattle.shim_parser.proofs.ExprExits.{Counted, counted_took}
 use Rattle.shim_parser.proofs.DeclareExits.{declared_leads, alone}

@@ -18,7 +18,7 @@ use Rattle.shim_parser.specs.declared.for_parts.ForParts.{ForParts}
 use Rattle.shim_parser.specs.Parts.{IsPunctuation, IsName, IsTestOf}
 use Rattle.shim_parser.specs.Headers.{IsHeader}
 use Rattle.shim_parser.specs.Statements.{IsKeyAt, IsKeyed}
-use Rattle.shim_parser.specs.Reading.{ReaderView, Fails}
+use Rattle.shim_parser.specs.ReaderViews.{ReaderView, Fails}
 use Rattle.shim_parser.proofs.Exits.{Leads, Took, took, fails_as, fails_under}
 use Rattle.shim_parser.proofs.Sequences.{then, same_run, punctuation_leads, test_leads, header_leads, block_leads, body_leads}
 use Rattle.shim_parser.proofs.PlainExits.{name_leads}

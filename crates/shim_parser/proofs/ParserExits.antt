@@ -21,7 +21,7 @@ use Rattle.shim_grammar.proofs.Exact.{text_or_fault, one_fault}
 use Rattle.shim_parser.specs.declared.fault.ParseFault.{ParseFault}
 use Rattle.shim_parser.specs.declared.fault.ParseFault.TheVariants.{Lex, Unexpected, TooDeep, TooMany, NoMemory}
 use Rattle.shim_parser.specs.Parsing.{IsReportedAs, IsFaultOf, ParsesAs, IsOnly}
-use Rattle.shim_parser.specs.Reading.{ReaderView, FitsName, Proper, is_last, Blames, Halts, Fails}
+use Rattle.shim_parser.specs.ReaderViews.{ReaderView, FitsName, Proper, is_last, Blames, Halts, Fails}
 use Rattle.shim_parser.specs.Sources.{IsWholeSource}
 use Rattle.shim_parser.proofs.Versions.{proper_seen}
 

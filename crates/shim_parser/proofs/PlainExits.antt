@@ -18,7 +18,7 @@ use Rattle.shim_parser.specs.TerminalView.{terminal_view}
 use Rattle.shim_parser.specs.declared.fault.ParseFault.{ParseFault}
 use Rattle.shim_parser.specs.Parts.{IsName, IsNameBefore, IsWholeBefore}
 use Rattle.shim_parser.specs.Statements.{IsAssigned, IsKeyed}
-use Rattle.shim_parser.specs.Reading.{ReaderView, Blames, Fails}
+use Rattle.shim_parser.specs.ReaderViews.{ReaderView, Blames, Fails}
 use Rattle.shim_parser.proofs.Exits.{Leads, took, fails_as, unwanted}
 
 -- a name that was read

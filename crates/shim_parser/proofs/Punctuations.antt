@@ -10,7 +10,7 @@ use Rattle.shim_grammar.specs.declared.punctuation.Punctuation.{Punctuation}
 use Rattle.shim_grammar.specs.declared.punctuation.Punctuation.TheVariants as punctuation
 use Rattle.shim_parser.specs.declared.fault.ParseFault.{ParseFault}
 use Rattle.shim_parser.specs.Parts.{punctuationed, punctuation_of, IsPunctuation}
-use Rattle.shim_parser.specs.Reading.{ReaderView, Blames, Fails}
+use Rattle.shim_parser.specs.ReaderViews.{ReaderView, Blames, Fails}
 use Rattle.shim_parser.proofs.Exits.{took, unwanted}
 
 other_punctuation : (f : Punctuation) (t : Terminal) (k : SymbolStack) (w : TextCounts) → (punctuation_of t ≡ Some f → ⊥) → fixed f t k w ≡ None

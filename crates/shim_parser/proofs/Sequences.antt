@@ -17,7 +17,7 @@ use Rattle.shim_parser.specs.declared.for_parts.ForParts.{ForParts}
 use Rattle.shim_parser.specs.Parts.{punctuationed, IsPunctuation, IsTestOf}
 use Rattle.shim_parser.specs.Calls.{IsCall}
 use Rattle.shim_parser.specs.Headers.{IsHeader}
-use Rattle.shim_parser.specs.Reading.{ReaderView, Blames, Halts, Fails}
+use Rattle.shim_parser.specs.ReaderViews.{ReaderView, Blames, Halts, Fails}
 use Rattle.shim_parser.proofs.Exits.{Leads}
 
 pub then : (x y z : SymbolStack) (a b c : ReaderView) → Leads x y a b → Leads y z b c → Leads x z a c

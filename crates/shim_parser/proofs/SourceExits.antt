@@ -12,7 +12,7 @@ use Rattle.shim_grammar.proofs.Runs.{run_on}
 use Rattle.shim_parser.specs.declared.fault.ParseFault.{ParseFault}
 use Rattle.shim_parser.specs.Functions.{AreAll}
 use Rattle.shim_parser.specs.Sources.{IsTwo, IsWholeSource}
-use Rattle.shim_parser.specs.Reading.{ReaderView, Fails, reader_with}
+use Rattle.shim_parser.specs.ReaderViews.{ReaderView, Fails, reader_with}
 use Rattle.shim_parser.proofs.Exits.{Leads, Took, took, fails_as, fails_under}
 use Rattle.shim_parser.proofs.Sequences.{same_run}
 

@@ -18,7 +18,7 @@ use Rattle.shim_grammar.proofs.Runs.{run_on}
 use Rattle.shim_grammar.proofs.RunsStmt.{run_begun, statement_runs}
 use Rattle.shim_parser.specs.declared.fault.ParseFault.{ParseFault}
 use Rattle.shim_parser.specs.Statements.{IsThing, IsKeyed, IsNamed, Becomes, stmt_on_line}
-use Rattle.shim_parser.specs.Reading.{ReaderView, Fails, Reads, reader_with}
+use Rattle.shim_parser.specs.ReaderViews.{ReaderView, Fails, Reads, reader_with}
 use Rattle.shim_parser.proofs.Exits.{Leads, fails_as, reads_as}
 use Rattle.shim_parser.proofs.ExprExits.{Counted, counted_took}
 
@@ -42,20 +42,20 @@ module _ (l : ℕ) (t : Terminal) (a b d : ReaderView) (w : is_within Nesting l 
   begun_plain n xs p = (w, is.plain (subst (λ u. IsPlain limits l u n.counts a.rest n.rest xs) begun.counts (subst (λ u. IsPlain limits l d.counts n.counts u n.rest xs) (sym begun.rest) p)))
 
 module _ (l : ℕ) (p : Place) (a b d : ReaderView) (w : is_within Nesting l ≡ true) (v : b ≡ reader_with (at_level l) a) (q : b ≡ record { rest = first b.rest ∷ d.rest; counts = d.counts }) where
-  pub keyed_arm : (key : Keyword) → first a.rest ≡ Key key p → (x : SymbolStack) → ((z : SymbolStack) (s : List Terminal) (u : TextCounts) → run_on limits (Key key p) s (machine.statement (Key key p) l z u) ≡ run_parser limits s (x ++ z) u)
+  pub keyed_case : (key : Keyword) → first a.rest ≡ Key key p → (x : SymbolStack) → ((z : SymbolStack) (s : List Terminal) (u : TextCounts) → run_on limits (Key key p) s (machine.statement (Key key p) l z u) ≡ run_parser limits s (x ++ z) u)
       → (n : ReaderView) (r : Result What ParseFault) (out : Result (List Stmt) ParseFault) → Reads (IsKeyed key l) x r d n → Becomes p.line r out → Reads (IsThing l) (Statement l ∷ []) out a n
-  keyed_arm key h x f n r out i c = becomes (IsKeyed key l) l p.line x a d n r out (begun_leads l (Key key p) a b d w v q h x f)
+  keyed_case key h x f n r out i c = becomes (IsKeyed key l) l p.line x a d n r out (begun_leads l (Key key p) a b d w v q h x f)
       (λ what k. begun_plain l (Key key p) a b d w v q h n (stmt_on_line p.line what) (k p)) i c
 
-  pub named_arm : (x : List ℕ) → first a.rest ≡ Name x p → (n : ReaderView) (r : Result What ParseFault) (out : Result (List Stmt) ParseFault) → Reads (IsNamed x p.line l) (AfterWord l ∷ []) r d n
+  pub named_case : (x : List ℕ) → first a.rest ≡ Name x p → (n : ReaderView) (r : Result What ParseFault) (out : Result (List Stmt) ParseFault) → Reads (IsNamed x p.line l) (AfterWord l ∷ []) r d n
       → Becomes p.line r out → Reads (IsThing l) (Statement l ∷ []) out a n
-  named_arm x h n r out i c = becomes (IsNamed x p.line l) l p.line (AfterWord l ∷ []) a d n r out (begun_leads l (Name x p) a b d w v q h (AfterWord l ∷ []) (λ z s u. refl))
+  named_case x h n r out i c = becomes (IsNamed x p.line l) l p.line (AfterWord l ∷ []) a d n r out (begun_leads l (Name x p) a b d w v q h (AfterWord l ∷ []) (λ z s u. refl))
       (λ what k. begun_plain l (Name x p) a b d w v q h n (stmt_on_line p.line what) (k p.at)) i c
 
-  pub declaration_arm : (ty : Ty) → first a.rest ≡ Sort (Value ty) p → (n : ReaderView) (r : Result (List Stmt) ParseFault) → Reads (IsDeclarations limits l ty p.line) (Declarations l ∷ []) r d n
+  pub declaration_case : (ty : Ty) → first a.rest ≡ Sort (Value ty) p → (n : ReaderView) (r : Result (List Stmt) ParseFault) → Reads (IsDeclarations limits l ty p.line) (Declarations l ∷ []) r d n
       → Reads (IsThing l) (Statement l ∷ []) r a n
-  declaration_arm ty h n r i = reads_as (IsDeclarations limits l ty p.line) (IsThing l) (Declarations l ∷ []) (Statement l ∷ []) [] a d n r
+  declaration_case ty h n r i = reads_as (IsDeclarations limits l ty p.line) (IsThing l) (Declarations l ∷ []) (Statement l ∷ []) [] a d n r
       (λ xs k. begun_plain l (Sort (Value ty) p) a b d w v q h n xs (is.declare k)) (begun_leads l (Sort (Value ty) p) a b d w v q h (Declarations l ∷ []) (λ z s u. refl)) i
 
-  pub empty_arm : first a.rest ≡ Sign g.Semicolon p → (xs : List Stmt) → xs ≡ [] → IsThing l a.counts d.counts a.rest d.rest xs
-  empty_arm h xs e = begun_plain l (Sign g.Semicolon p) a b d w v q h d xs (rw e is.empty)
+  pub empty_case : first a.rest ≡ Sign g.Semicolon p → (xs : List Stmt) → xs ≡ [] → IsThing l a.counts d.counts a.rest d.rest xs
+  empty_case h xs e = begun_plain l (Sign g.Semicolon p) a b d w v q h d xs (rw e is.empty)

@@ -4,7 +4,7 @@ use Rattle.shim_syntax.specs.Terminals.{Terminal, first}
 use Rattle.shim_syntax.specs.Grammar.{TextCounts}
 use Rattle.shim_parser.specs.declared.token.Token.{Token}
 use Rattle.shim_parser.specs.TokenView.{token_views}
-use Rattle.shim_parser.specs.Reading.{ReaderView, Proper, is_last}
+use Rattle.shim_parser.specs.ReaderViews.{ReaderView, Proper, is_last}
 
 pub record Stepped (s r : List Terminal) : Type 0 where
   pub is : s ≡ first s ∷ r

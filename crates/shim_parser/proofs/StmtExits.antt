@@ -30,7 +30,7 @@ use Rattle.shim_grammar.specs.declared.punctuation.Punctuation.TheVariants as pu
 use Rattle.shim_parser.specs.Parts.{IsPunctuation}
 use Rattle.shim_parser.specs.Calls.{IsCall}
 use Rattle.shim_parser.specs.Statements.{IsSignAt, IsKeyAt, IsThing, IsAssigned, IsNamed, IsBraced, IsBehindPar, IsNumberedBranch}
-use Rattle.shim_parser.specs.Reading.{ReaderView, Fails, Reads}
+use Rattle.shim_parser.specs.ReaderViews.{ReaderView, Fails, Reads}
 use Rattle.shim_parser.proofs.Exits.{Leads, Took, took, fails_as, fails_under, reads_as}
 use Rattle.shim_parser.proofs.Sequences.{then, same_run, punctuation_leads, call_leads, block_leads}
 

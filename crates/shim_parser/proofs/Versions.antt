@@ -7,7 +7,7 @@ use Rattle.shim_syntax.specs.Terminals.{Terminal, Name, Number, Sort, Key, Sign,
 use Rattle.shim_parser.specs.declared.token.Token.{Token}
 use Rattle.shim_parser.specs.TokenView.{token_view, token_views}
 use Rattle.shim_parser.specs.Cutting.{IsCut}
-use Rattle.shim_parser.specs.Reading.{FitsName, Proper, is_last}
+use Rattle.shim_parser.specs.ReaderViews.{FitsName, Proper, is_last}
 
 -- version 1 changes nothing
 seen_as_1 : (t : Terminal) → of_version false t ≡ t

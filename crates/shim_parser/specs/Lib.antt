@@ -1,7 +1,7 @@
 -- The definitions of this crate, one module for each subject.
 pub mod TerminalView
 pub mod TokenView
-pub mod Reading
+pub mod ReaderViews
 pub mod Parts
 pub mod Parsing
 pub mod Calls

@@ -6,7 +6,7 @@ ghost use Rattle.shim_syntax.specs.Grammar.{IsArguments};
 ghost use Rattle.shim_grammar.specs.Machine.{Argument, Arguments, Fixed, is_operator};
 ghost use Rattle.shim_grammar.specs.declared.punctuation.Punctuation.TheVariants.{Semicolon};
 ghost use Rattle.shim_parser.specs.Calls.{IsArgument, IsCall};
-ghost use Rattle.shim_parser.specs.Reading.{Reads};
+ghost use Rattle.shim_parser.specs.ReaderViews.{Reads};
 
 use crate::expr::{begins_operand, expression};
 use crate::fault::ParseFault;

@@ -4,7 +4,7 @@ ghost use Rattle.shim_syntax.specs.Limits.{limits};
 ghost use Rattle.shim_syntax.specs.Grammar.{IsDeclarations};
 ghost use Rattle.shim_grammar.specs.Machine.{Declarations, Declaration};
 ghost use Rattle.shim_parser.specs.Declares.{IsDeclaredHere};
-ghost use Rattle.shim_parser.specs.Reading.{Reads};
+ghost use Rattle.shim_parser.specs.ReaderViews.{Reads};
 
 use crate::expr::expression;
 use crate::fault::ParseFault;

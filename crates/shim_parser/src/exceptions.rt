@@ -6,7 +6,7 @@ ghost use Rattle.shim_syntax.specs.Limits.{limits};
 ghost use Rattle.shim_syntax.specs.Grammar.{IsCatchRest, IsThrowRest};
 ghost use Rattle.shim_grammar.specs.Machine.{CatchRest, ThrowRest};
 ghost use Rattle.shim_parser.specs.Statements.{IsSignAt};
-ghost use Rattle.shim_parser.specs.Reading.{Reads};
+ghost use Rattle.shim_parser.specs.ReaderViews.{Reads};
 
 use crate::expr::expression_before;
 use crate::fault::ParseFault;

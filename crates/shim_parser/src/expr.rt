@@ -8,7 +8,7 @@ ghost use Rattle.shim_grammar.specs.declared.punctuation.Punctuation.TheVariants
 ghost use Rattle.shim_grammar.specs.Machine.{is_operator};
 ghost use Rattle.shim_parser.specs.Parts as parts;
 ghost use Rattle.shim_parser.specs.Parts.{IsEntered, IsUnarySign, IsWholeBefore, IsTestOf, Stops};
-ghost use Rattle.shim_parser.specs.Reading.{Reads};
+ghost use Rattle.shim_parser.specs.ReaderViews.{Reads};
 
 use crate::fault::ParseFault;
 use crate::operator::{binary_of, row_of_sign};

@@ -7,7 +7,7 @@ ghost use Rattle.shim_syntax.specs.Terminals.{first};
 ghost use Rattle.shim_syntax.specs.Grammar as grammar;
 ghost use Rattle.shim_parser.specs.Functions as pieces;
 ghost use Rattle.shim_parser.specs.Functions.{IsParameter, IsParameters, IsThrown, IsThrowsHere, IsFunctionBehind, AreAll};
-ghost use Rattle.shim_parser.specs.Reading.{Reads};
+ghost use Rattle.shim_parser.specs.ReaderViews.{Reads};
 
 use crate::fault::ParseFault;
 use crate::parts::{name, name_before, punctuation};

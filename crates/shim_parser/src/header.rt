@@ -6,7 +6,7 @@ ghost use Rattle.shim_syntax.specs.Grammar.{IsFirst, IsTest, IsStep};
 ghost use Rattle.shim_grammar.specs.Machine.{Fixed, Expression, Operators, First, Test, Step};
 ghost use Rattle.shim_grammar.specs.declared.punctuation.Punctuation.TheVariants as punctuation;
 ghost use Rattle.shim_parser.specs.Headers.{IsValueBehind, IsHeader};
-ghost use Rattle.shim_parser.specs.Reading.{Reads};
+ghost use Rattle.shim_parser.specs.ReaderViews.{Reads};
 
 use crate::declare::declared;
 use crate::expr::expression_before;

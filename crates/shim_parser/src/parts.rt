@@ -5,7 +5,7 @@ ghost use Rattle.shim_base.specs.Tokens.{Place};
 ghost use Rattle.shim_parser.specs.TerminalView.{terminal_view};
 ghost use Rattle.shim_parser.specs.Parts as parts;
 ghost use Rattle.shim_parser.specs.Parts.{IsPunctuation, IsName, IsNameBefore};
-ghost use Rattle.shim_parser.specs.Reading.{Reads};
+ghost use Rattle.shim_parser.specs.ReaderViews.{Reads};
 
 use crate::fault::ParseFault;
 use crate::reader::Reader;

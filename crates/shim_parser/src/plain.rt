@@ -4,7 +4,7 @@ ghost use Rattle.shim_base.specs.declared.token.Keyword.TheVariants as k;
 ghost use Rattle.shim_grammar.specs.Machine.{AfterEqual, AfterNext, Expression, Fixed, Operators, ThrowRest, Word};
 ghost use Rattle.shim_grammar.specs.declared.punctuation.Punctuation.TheVariants as punctuation;
 ghost use Rattle.shim_parser.specs.Statements.{IsAssigned, IsKeyed};
-ghost use Rattle.shim_parser.specs.Reading.{Reads};
+ghost use Rattle.shim_parser.specs.ReaderViews.{Reads};
 
 use crate::exceptions::throw_rest;
 use crate::expr::expression_before;

@@ -6,7 +6,7 @@ ghost use Rattle.shim_syntax.specs.Limits.{Nesting, Count};
 ghost use Rattle.shim_syntax.specs.Grammar as grammar;
 ghost use Rattle.shim_grammar.specs.Machine.{Unwanted, Past};
 ghost use Rattle.shim_parser.specs.TokenView.{token_view, token_views};
-ghost use Rattle.shim_parser.specs.Reading.{Proper, FitsName, is_last, Blames, CountsWithin, reader_with};
+ghost use Rattle.shim_parser.specs.ReaderViews.{Proper, FitsName, is_last, Blames, CountsWithin, reader_with};
 
 use crate::fault::ParseFault;
 use crate::terminal::Terminal;
@@ -30,7 +30,7 @@ pub(crate) struct Reader<'a> {
 impl<'a> Model for Reader<'a> {
     ghost use Rattle.std.specs.Prelude.{drop, ◌≤◌};
     ghost use Rattle.shim_parser.specs.TokenView.{token_views};
-    ghost use Rattle.shim_parser.specs.Reading.{ReaderView, Proper};
+    ghost use Rattle.shim_parser.specs.ReaderViews.{ReaderView, Proper};
 
     ghost Value = { ReaderView };
 

@@ -3,7 +3,7 @@ ghost use Rattle.std.specs.Prelude.{[], ◌∷◌};
 ghost use Rattle.shim_grammar.specs.Machine.{Fixed, Source, Version};
 ghost use Rattle.shim_grammar.specs.declared.punctuation.Punctuation.TheVariants.{Semicolon};
 ghost use Rattle.shim_parser.specs.Sources.{IsTwo, IsWholeSource};
-ghost use Rattle.shim_parser.specs.Reading.{Reads};
+ghost use Rattle.shim_parser.specs.ReaderViews.{Reads};
 
 use crate::fault::ParseFault;
 use crate::function::functions;

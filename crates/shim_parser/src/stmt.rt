@@ -9,7 +9,7 @@ ghost use Rattle.shim_grammar.specs.Machine as machine;
 ghost use Rattle.shim_grammar.specs.Machine.{AfterWord, CatchRest, Else, Expression, First, Fixed, Operators, Pars, Statement, Step, Test, Word};
 ghost use Rattle.shim_grammar.specs.declared.punctuation.Punctuation.TheVariants as punctuation;
 ghost use Rattle.shim_parser.specs.Statements.{IsSignAt, IsKeyAt, Becomes, IsThing, IsBraced, IsNamed, IsKeyed, IsBehindPar, IsNumberedBranch};
-ghost use Rattle.shim_parser.specs.Reading.{Reads};
+ghost use Rattle.shim_parser.specs.ReaderViews.{Reads};
 
 use crate::call::call;
 use crate::declare::declarations;

@@ -1,4 +1,4 @@
-// The lines that tell who waits for whom, and a cycle of waits.
+// The lines that say who waits for whom, and a cycle of waits.
 ghost use Rattle.std.specs.Prelude.{◌≡◌, ◌++◌, OnOk, flat_map};
 ghost use Rattle.shim_reasons.specs.Reasons.{because_line, cycle_line, reasons, spaced_path};
 

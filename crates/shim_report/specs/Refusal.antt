@@ -1,4 +1,4 @@
--- The line that tells why a source is refused.
+-- The line that says why a source is refused.
 use Rattle.std.specs.Prelude.{ℕ, List, [], ◌++◌, codes, decimal}
 use Rattle.shim_base.specs.declared.token.LexKind.{LexKind}
 use Rattle.shim_base.specs.declared.token.LexKind.TheVariants.{BadByte, LongName, BigNumber, OpenComment}
@@ -61,7 +61,7 @@ refusal_of (TooDeep line) = refusal_without_place line (codes "too deep")
 refusal_of (TooMany what line) = refusal_without_place line (many_words what)
 refusal_of NoMemory = []
 
--- a name that isn't bound as it must be; what is wrong with `main` itself is told without its name
+-- a name that isn't bound as it must be; what is wrong with `main` itself is printed without its name
 abbrev pub refusal_of_binding : ℕ → ScopeKind → List ℕ → List ℕ
 refusal_of_binding line UnknownName name = refusal_with_name line (codes "unknown name") name
 refusal_of_binding line UnknownFunction name = refusal_with_name line (codes "unknown function") name
@@ -83,7 +83,7 @@ refusal_of_sharing (TwoWriters line name first second) = refusal_with_branches l
 refusal_of_sharing (Alias line name) = refusal_with_name line (codes "alias") name
 refusal_of_sharing NoShareMemory = []
 
--- the line that tells of a fault, with its line feed
+-- the line that reports a fault, with its line feed
 abbrev pub refusal_text : SourceFault → List ℕ
 refusal_text (Parse fault) = refusal_of fault
 refusal_text (Scope fault) = refusal_of_scope fault

@@ -68,12 +68,12 @@ trap_word Shift = codes "shift"
 trap_word Depth = codes "depth"
 
 -- `catch PATH NAME LINE` or `trap PATH KIND LINE`
-unfoldable pub told_line : Names → Path → LogWhat → List ℕ
-told_line names path (Caught name line) = codes "catch " ++ (path_text path ++ (codes " " ++ (name_text names name ++ (codes " " ++ (decimal line ++ codes "\n")))))
-told_line names path (LoggedTrap trap line) = codes "trap " ++ (path_text path ++ (codes " " ++ (trap_word trap ++ (codes " " ++ (decimal line ++ codes "\n")))))
+unfoldable pub log_what_line : Names → Path → LogWhat → List ℕ
+log_what_line names path (Caught name line) = codes "catch " ++ (path_text path ++ (codes " " ++ (name_text names name ++ (codes " " ++ (decimal line ++ codes "\n")))))
+log_what_line names path (LoggedTrap trap line) = codes "trap " ++ (path_text path ++ (codes " " ++ (trap_word trap ++ (codes " " ++ (decimal line ++ codes "\n")))))
 
 abbrev pub log_line : Names → Log → List ℕ
-log_line names l = told_line names l.path l.what
+log_line names l = log_what_line names l.path l.what
 
 -- `wait PATH HOME#SERIAL`
 unfoldable pub wait_line : WaitAt → List ℕ

@@ -1,4 +1,4 @@
--- The summary of the run of a source that was made: it tells how much came of the run, and not what.
+-- The summary of the run of a source that was made: it says how much came of the run, and not what.
 use Rattle.std.specs.Prelude.{ℕ, ℤ, pos, ◌+ℤ◌, Bool, true, false, List, [], ◌∷◌, ◌++◌, length, filter, flat_map, codes, decimal}
 use Rattle.std.specs.Int.{int_rem_euclid}
 use Rattle.std.specs.Int.RustNames.{unsigned_abs}
@@ -36,7 +36,7 @@ catch_count logs = length (filter (λ (l : Log). is_caught l.what) logs)
 unfoldable pub made_line : List ℕ → ℕ → List ℕ
 made_line kind size = codes "gen " ++ (kind ++ (codes " " ++ (decimal size ++ codes "\n")))
 
--- a word, and how many there are of what it names: bytes that were put, channels that had a meeting, exceptions that were caught
+-- a word, and how many there are of what it names: bytes that were put, channels that had a rendezvous, exceptions that were caught
 unfoldable pub count_line : List ℕ → ℕ → List ℕ
 count_line word n = word ++ (codes " " ++ (decimal n ++ codes "\n"))
 

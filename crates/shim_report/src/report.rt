@@ -14,7 +14,7 @@ pub use sums::summary;
 pub use words::{push_channel, push_path};
 
 /// The report of a run, whose names are numbered by their places in the list: what was put, what each
-/// channel's meetings gave, what was caught and what trapped, who waits, of a run that was stopped how
+/// channel's rendezvous gave, what was caught and what trapped, who waits, of a run that was stopped how
 /// many steps each process did, and last how it ended.
 #[tactic(auto, unfolding(crate::specs::Report::report))]
 pub fn text(alloc: Global, ended: &Ended, names: &[Name]) -> Result<List<u8>, NoMemory>

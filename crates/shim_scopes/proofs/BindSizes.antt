@@ -5,10 +5,10 @@ use Rattle.shim_base.specs.declared.types.Ty.{Ty}
 use Rattle.shim_base.specs.declared.types.Ty.TheVariants.{Int32}
 use Rattle.shim_syntax.specs.declared.tree.Expr.{Expr}
 use Rattle.shim_syntax.specs.declared.tree.Call.{Call}
-use Rattle.shim_syntax.specs.declared.tree.Stmt.{Stmt, Stmt-F, fold-roll-Stmt, ind-Stmt, map-Stmt, roll-Stmt}
-use Rattle.shim_syntax.specs.declared.tree.What.{What, What-F, fold-What, fold-roll-What, map-What, roll-What}
-use Rattle.shim_syntax.specs.declared.tree.Branch.{Branch, Branch-F, fold-roll-Branch, ind-Branch, map-Branch, roll-Branch}
-use Rattle.shim_syntax.specs.declared.tree.BranchWhat.{BranchWhat, BranchWhat-F, fold-BranchWhat, fold-roll-BranchWhat, map-BranchWhat, roll-BranchWhat}
+use Rattle.shim_syntax.specs.declared.tree.Stmt.{Stmt}
+use Rattle.shim_syntax.specs.declared.tree.What.{What, What-F, map-What, roll-What}
+use Rattle.shim_syntax.specs.declared.tree.Branch.{Branch}
+use Rattle.shim_syntax.specs.declared.tree.BranchWhat.{BranchWhat, BranchWhat-F, map-BranchWhat, roll-BranchWhat}
 use Rattle.shim_scopes.specs.declared.fault.ScopeKind.{ScopeKind}
 use Rattle.shim_scopes.specs.declared.fault.ScopeKind.TheVariants.{UnknownName, UnknownException, Twice, WrongKind}
 use Rattle.shim_scopes.specs.declared.scope.LocalDeclaration.{LocalDeclaration}
@@ -24,9 +24,11 @@ use Rattle.shim_scopes.specs.declared.tree.UExpr.{UExpr}
 use Rattle.shim_scopes.specs.Refusals.{refused_for}
 use Rattle.shim_scopes.specs.Statements.{Whole, Around, Before, BoundTo, Bind, with_declaration, inside_block, opened, after_block, with_handled, tried, variable_declared, variable_slot, bind_handler, bind_declare, bind_store, bind_next, bind_assign_next, bind_get, bind_put, bind_throw, bind_block, on_tree, bind_two, bind_test, bind_if, bind_while, bind_try, bind_parts, bind_first_test, bind_for, visible, declared_in, unknown_in_both, unknown_of_two}
 use Rattle.shim_scopes.specs.Calls.{bind_call, bind_called}
-use Rattle.shim_scopes.specs.Bodies.{WhatMeans, StmtMeans, BranchMeans, BranchWhatMeans, bind_all, bind_fork, first_declares, bind_branch_what_step, bind_what_step, bind_branch_step, bind_stmt_step, stmt_meaning, bind_stmts, bind_branch}
+use Rattle.shim_scopes.specs.Bodies.{WhatMeans, StmtMeans, BranchWhatMeans, bind_fork, first_declares, stmt_meaning, bind_stmts, bind_branch}
 use Rattle.shim_syntax.specs.Sizes.{sum_of, expr_size, option_size, variable_size, branch_counts, what_counts, what_size, stmt_size, branch_size, stmts_size}
+use Rattle.shim_syntax.proofs.FormInduction.{InBranchWhat, InWhat, Each, each, each_stmt, each_branch}
 use Rattle.shim_syntax.proofs.SizeSteps.{branch_what_size, of_branch, at_branch, of_stmt, at_what}
+use Rattle.shim_scopes.proofs.MeaningSteps.{branch_what_means, what_means, branch_what_at, what_at, rolled_branch_what, rolled_what, branch_means, stmt_means}
 use Rattle.shim_scopes.proofs.Refusals.{passed, first_ok, bound}
 
 -- how many slots and exceptions stand before a place, without those of the `throws`
@@ -160,124 +162,77 @@ for_adds declares test f g h i m n o j k l line a b r is =
     omega (arith, block_adds (bind_parts test f g h) (i + (m + n)) (parts_add test f g h i m n j k l) a b r p.2)
 
 module _ (w : Whole) where
-  abbrev branch_what_means : BranchWhat → BranchWhatMeans
-  branch_what_means = fold-BranchWhat BranchWhatMeans WhatMeans BranchMeans StmtMeans (bind_branch_what_step w) (bind_what_step w) bind_branch_step bind_stmt_step
-
-  abbrev what_means : What → WhatMeans
-  what_means = fold-What BranchWhatMeans WhatMeans BranchMeans StmtMeans (bind_branch_what_step w) (bind_what_step w) bind_branch_step bind_stmt_step
-
   -- a part that adds no more than its size
   abbrev BranchWhatAdds : BranchWhatMeans → ℕ → Type 0
   BranchWhatAdds f n = (line : ℕ) → AddsAtMost n (f line)
 
-  abbrev SmallBranchWhat : Type 0
-  SmallBranchWhat = (x : BranchWhat) × BranchWhatAdds (branch_what_means x) (branch_what_size x)
+  abbrev BranchAdds : Branch → Type 0
+  BranchAdds b = AddsAtMost (branch_size b) (bind_branch w b)
 
-  abbrev SmallWhat : Type 0
-  SmallWhat = (x : What) × WhatAdds (what_size x) (what_means x).bind
+  abbrev StmtAdds : Stmt → Type 0
+  StmtAdds s = AddsAtMost (stmt_size s) (stmt_meaning w s).bind
 
-  abbrev SmallBranch : Type 0
-  SmallBranch = (b : Branch) × AddsAtMost (branch_size b) (bind_branch w b)
+  stmts_add : (body : List Stmt) → Each StmtAdds body → AddsAtMost (stmts_size body) (bind_stmts w body)
+  stmts_add [] h a b r is = nothing_added [] b r 0 is
+  stmts_add (s ∷ body) h a b r is =
+      let p = first_ok ((stmt_meaning w s).bind a b) _ r is in
+      let q = first_ok (bind_stmts w body a p.0.before) _ r p.2 in
+      omega (arith, h.0 a b p.0 p.1, stmts_add body h.1 a p.0.before q.0 q.1, behind_tree (p.0.tree ∷ q.0.tree) q.0.before r q.2)
 
-  abbrev SmallStmt : Type 0
-  SmallStmt = (s : Stmt) × AddsAtMost (stmt_size s) (stmt_meaning w s).bind
+  branches_add : (bs : List Branch) → Each BranchAdds bs → AddsAtMost (sum_of (map branch_size bs)) (bind_fork (map (bind_branch w) bs))
+  branches_add [] h a b r is = nothing_added [] b r 0 is
+  branches_add (x ∷ bs) h a b r is =
+      let p = first_ok (bind_branch w x a b) _ r is in
+      let q = first_ok (bind_fork (map (bind_branch w) bs) a p.0.before) _ r p.2 in
+      omega (arith, h.0 a b p.0 p.1, branches_add bs h.1 a p.0.before q.0 q.1, behind_tree (p.0.tree ∷ q.0.tree) q.0.before r q.2)
 
-  abbrev stmts : List SmallStmt → List Stmt
-  stmts ys = map (λ (e : SmallStmt). e.0) ys
+  branch_what_layer : (y : BranchWhat-F BranchWhat What Branch Stmt) → InBranchWhat StmtAdds y
+      → BranchWhatAdds (branch_what_at w y)
+      (branch_counts (map-BranchWhat BranchWhat What Branch Stmt ℕ ℕ ℕ ℕ branch_what_size what_size branch_size stmt_size y))
+  branch_what_layer (BranchWhat-F.BranchWhat::Block body) h line = tree_adds _ _ _ _ (omega arith) (block_adds _ _ (stmts_add body h))
+  branch_what_layer (BranchWhat-F.BranchWhat::Call c) h line = called_adds _ w c line _
 
-  abbrev branches : List SmallBranch → List Branch
-  branches ys = map (λ (e : SmallBranch). e.0) ys
-
-  stmts_add : (ys : List SmallStmt) → AddsAtMost (sum_of (map stmt_size (stmts ys))) (bind_all (map (stmt_meaning w) (stmts ys)))
-  stmts_add [] a b r is = nothing_added [] b r 0 is
-  stmts_add (y ∷ ys) a b r is =
-      let p = first_ok ((stmt_meaning w y.0).bind a b) _ r is in
-      let q = first_ok (bind_all (map (stmt_meaning w) (stmts ys)) a p.0.before) _ r p.2 in
-      omega (arith, y.1 a b p.0 p.1, stmts_add ys a p.0.before q.0 q.1, behind_tree (p.0.tree ∷ q.0.tree) q.0.before r q.2)
-
-  branches_add : (ys : List SmallBranch) → AddsAtMost (sum_of (map branch_size (branches ys))) (bind_fork (map (bind_branch w) (branches ys)))
-  branches_add [] a b r is = nothing_added [] b r 0 is
-  branches_add (y ∷ ys) a b r is =
-      let p = first_ok (bind_branch w y.0 a b) _ r is in
-      let q = first_ok (bind_fork (map (bind_branch w) (branches ys)) a p.0.before) _ r p.2 in
-      omega (arith, y.1 a b p.0 p.1, branches_add ys a p.0.before q.0 q.1, behind_tree (p.0.tree ∷ q.0.tree) q.0.before r q.2)
-
-  abbrev branch_what_of : BranchWhat-F SmallBranchWhat SmallWhat SmallBranch SmallStmt → BranchWhat-F BranchWhat What Branch Stmt
-  branch_what_of y = map-BranchWhat SmallBranchWhat SmallWhat SmallBranch SmallStmt BranchWhat What Branch Stmt (λ e. e.0) (λ e. e.0) (λ e. e.0) (λ e. e.0) y
-
-  abbrev what_of : What-F SmallBranchWhat SmallWhat SmallBranch SmallStmt → What-F BranchWhat What Branch Stmt
-  what_of y = map-What SmallBranchWhat SmallWhat SmallBranch SmallStmt BranchWhat What Branch Stmt (λ e. e.0) (λ e. e.0) (λ e. e.0) (λ e. e.0) y
-
-  abbrev branch_of : Branch-F SmallBranchWhat SmallWhat SmallBranch SmallStmt → Branch-F BranchWhat What Branch Stmt
-  branch_of y = map-Branch SmallBranchWhat SmallWhat SmallBranch SmallStmt BranchWhat What Branch Stmt (λ e. e.0) (λ e. e.0) (λ e. e.0) (λ e. e.0) y
-
-  abbrev stmt_of : Stmt-F SmallBranchWhat SmallWhat SmallBranch SmallStmt → Stmt-F BranchWhat What Branch Stmt
-  stmt_of y = map-Stmt SmallBranchWhat SmallWhat SmallBranch SmallStmt BranchWhat What Branch Stmt (λ e. e.0) (λ e. e.0) (λ e. e.0) (λ e. e.0) y
-
-  branch_what_layer : (y : BranchWhat-F SmallBranchWhat SmallWhat SmallBranch SmallStmt)
-      → BranchWhatAdds (bind_branch_what_step w (map-BranchWhat BranchWhat What Branch Stmt BranchWhatMeans WhatMeans BranchMeans StmtMeans branch_what_means what_means (bind_branch w) (stmt_meaning w) (branch_what_of y)))
-      (branch_counts (map-BranchWhat BranchWhat What Branch Stmt ℕ ℕ ℕ ℕ branch_what_size what_size branch_size stmt_size (branch_what_of y)))
-  branch_what_layer (BranchWhat-F.BranchWhat::Block body) line = tree_adds _ _ _ _ (omega arith) (block_adds _ _ (stmts_add body))
-  branch_what_layer (BranchWhat-F.BranchWhat::Call c) line = called_adds _ w c line _
-
-  what_layer : (y : What-F SmallBranchWhat SmallWhat SmallBranch SmallStmt)
-      → WhatAdds (what_counts (map-What BranchWhat What Branch Stmt ℕ ℕ ℕ ℕ branch_what_size what_size branch_size stmt_size (what_of y)))
-      (bind_what_step w (map-What BranchWhat What Branch Stmt BranchWhatMeans WhatMeans BranchMeans StmtMeans branch_what_means what_means (bind_branch w) (stmt_meaning w) (what_of y))).bind
-  what_layer (What-F.Declare ty x e) line = declare_adds w ty x e (option_size e) line
-  what_layer (What-F.Assign x e) line = store_adds Assign x e _ line
-  what_layer (What-F.Next x) line = next_adds x _ line
-  what_layer (What-F.NextAssign x e) line = store_adds NextAssign x e _ line
-  what_layer (What-F.AssignNext x y) line = assign_next_adds x y _ line
-  what_layer (What-F.Get x y) line = get_adds x y _ line
-  what_layer (What-F.Put x e) line = put_adds x e _ line
-  what_layer (What-F.If e first other) line = if_adds e _ _ _ _ (expr_size e) (stmts_add first) (stmts_add other) line
-  what_layer (What-F.While e body) line = while_adds e _ _ (expr_size e) (stmts_add body) line
-  what_layer (What-F.For first test step body) line = for_adds (first_declares (map (stmt_meaning w) (stmts first))) test _ _ _ _ _ _ (option_size test) (stmts_add first) (stmts_add step) (stmts_add body) line
-  what_layer (What-F.What::Block body) line = tree_adds _ _ _ _ (omega arith) (block_adds _ _ (stmts_add body))
-  what_layer (What-F.What::Call c) line = called_adds _ w c line _
-  what_layer (What-F.Try body x y handler) line = try_adds w x y _ _ _ _ (stmts_add body) (stmts_add handler)
-  what_layer (What-F.Throw x e) line = throw_adds x e _ line
-  what_layer (What-F.Par bs) line = tree_adds _ _ _ _ (omega arith) (branches_add bs)
+  what_layer : (y : What-F BranchWhat What Branch Stmt) → InWhat BranchAdds StmtAdds y
+      → WhatAdds (what_counts (map-What BranchWhat What Branch Stmt ℕ ℕ ℕ ℕ branch_what_size what_size branch_size stmt_size y))
+      (what_at w y).bind
+  what_layer (What-F.Declare ty x e) h line = declare_adds w ty x e (option_size e) line
+  what_layer (What-F.Assign x e) h line = store_adds Assign x e _ line
+  what_layer (What-F.Next x) h line = next_adds x _ line
+  what_layer (What-F.NextAssign x e) h line = store_adds NextAssign x e _ line
+  what_layer (What-F.AssignNext x y) h line = assign_next_adds x y _ line
+  what_layer (What-F.Get x y) h line = get_adds x y _ line
+  what_layer (What-F.Put x e) h line = put_adds x e _ line
+  what_layer (What-F.If e first other) h line = if_adds e _ _ _ _ (expr_size e) (stmts_add first h.0) (stmts_add other h.1) line
+  what_layer (What-F.While e body) h line = while_adds e _ _ (expr_size e) (stmts_add body h) line
+  what_layer (What-F.For first test step body) h line = for_adds (first_declares (map (stmt_meaning w) first)) test _ _ _ _ _ _ (option_size test) (stmts_add first h.0) (stmts_add step h.1) (stmts_add body h.2) line
+  what_layer (What-F.What::Block body) h line = tree_adds _ _ _ _ (omega arith) (block_adds _ _ (stmts_add body h))
+  what_layer (What-F.What::Call c) h line = called_adds _ w c line _
+  what_layer (What-F.Try body x y handler) h line = try_adds w x y _ _ _ _ (stmts_add body h.0) (stmts_add handler h.1)
+  what_layer (What-F.Throw x e) h line = throw_adds x e _ line
+  what_layer (What-F.Par bs) h line = tree_adds _ _ _ _ (omega arith) (branches_add bs h)
 
   -- the same bound, of a part and a size that are equal to these
   same_adds : {T : Type 0} (f g : Bind T) (m n : ℕ) → f ≡ g → m ≡ n → AddsAtMost n g → AddsAtMost m f
   same_adds f g m n p q h = subst (λ o. AddsAtMost o f) (sym q) (subst (λ k. AddsAtMost n k) (sym p) h)
 
-  branch_what_case : (x : BranchWhat-F BranchWhat What Branch Stmt) (y : BranchWhat-F SmallBranchWhat SmallWhat SmallBranch SmallStmt) → branch_what_of y ≡ x
-      → BranchWhatAdds (branch_what_means (roll-BranchWhat x)) (branch_what_size (roll-BranchWhat x))
-  branch_what_case x y is = subst (λ z. BranchWhatAdds (branch_what_means (roll-BranchWhat z)) (branch_what_size (roll-BranchWhat z))) is (λ line.
-      same_adds _ _ _ _ (ap (λ (k : BranchWhatMeans). k line) (fold-roll-BranchWhat BranchWhatMeans WhatMeans BranchMeans StmtMeans (bind_branch_what_step w) (bind_what_step w) bind_branch_step bind_stmt_step (branch_what_of y)))
-      (at_branch (branch_what_of y)) (branch_what_layer y line))
+  of_branch_what : (y : BranchWhat-F BranchWhat What Branch Stmt) → InBranchWhat StmtAdds y → BranchWhatAdds (branch_what_means w (roll-BranchWhat y)) (branch_what_size (roll-BranchWhat y))
+  of_branch_what y h line = same_adds _ _ _ _ (ap (λ (k : BranchWhatMeans). k line) (rolled_branch_what w y)) (at_branch y) (branch_what_layer y h line)
 
-  what_case : (x : What-F BranchWhat What Branch Stmt) (y : What-F SmallBranchWhat SmallWhat SmallBranch SmallStmt) → what_of y ≡ x
-      → WhatAdds (what_size (roll-What x)) (what_means (roll-What x)).bind
-  what_case x y is = subst (λ z. WhatAdds (what_size (roll-What z)) (what_means (roll-What z)).bind) is (λ line.
-      same_adds _ _ _ _ (ap (λ (k : WhatMeans). k.bind line) (fold-roll-What BranchWhatMeans WhatMeans BranchMeans StmtMeans (bind_branch_what_step w) (bind_what_step w) bind_branch_step bind_stmt_step (what_of y)))
-      (at_what (what_of y)) (what_layer y line))
+  of_what : (y : What-F BranchWhat What Branch Stmt) → InWhat BranchAdds StmtAdds y → WhatAdds (what_size (roll-What y)) (what_means w (roll-What y)).bind
+  of_what y h line = same_adds _ _ _ _ (ap (λ (k : WhatMeans). k.bind line) (rolled_what w y)) (at_what y) (what_layer y h line)
 
-  branch_case : (x : Branch-F BranchWhat What Branch Stmt) (y : Branch-F SmallBranchWhat SmallWhat SmallBranch SmallStmt) → branch_of y ≡ x
-      → AddsAtMost (branch_size (roll-Branch x)) (bind_branch w (roll-Branch x))
-  branch_case x y is = subst (λ z. AddsAtMost (branch_size (roll-Branch z)) (bind_branch w (roll-Branch z))) is
-      (same_adds _ _ _ _ (fold-roll-Branch BranchWhatMeans WhatMeans BranchMeans StmtMeans (bind_branch_what_step w) (bind_what_step w) bind_branch_step bind_stmt_step (branch_of y))
-      (of_branch (roll-Branch (branch_of y))) (tree_adds _ _ _ _ (omega arith) (y.what.1 y.line)))
+  in_branch : (line : ℕ) (x : BranchWhat) → BranchWhatAdds (branch_what_means w x) (branch_what_size x) → BranchAdds (record { line = line; what = x })
+  in_branch line x h = same_adds _ _ _ _ (branch_means w line x) (of_branch (record { line = line; what = x })) (tree_adds _ _ _ _ (omega arith) (h line))
 
-  stmt_case : (x : Stmt-F BranchWhat What Branch Stmt) (y : Stmt-F SmallBranchWhat SmallWhat SmallBranch SmallStmt) → stmt_of y ≡ x
-      → AddsAtMost (stmt_size (roll-Stmt x)) (stmt_meaning w (roll-Stmt x)).bind
-  stmt_case x y is = subst (λ z. AddsAtMost (stmt_size (roll-Stmt z)) (stmt_meaning w (roll-Stmt z)).bind) is
-      (same_adds _ _ _ _ (ap (λ (k : StmtMeans). k.bind) (fold-roll-Stmt BranchWhatMeans WhatMeans BranchMeans StmtMeans (bind_branch_what_step w) (bind_what_step w) bind_branch_step bind_stmt_step (stmt_of y)))
-      (of_stmt (roll-Stmt (stmt_of y))) (tree_adds _ _ _ _ (omega arith) (y.what.1 y.line)))
+  in_stmt : (line : ℕ) (x : What) → WhatAdds (what_size x) (what_means w x).bind → StmtAdds (record { line = line; what = x })
+  in_stmt line x h =
+      same_adds _ _ _ _ (ap (λ (k : StmtMeans). k.bind) (stmt_means w line x)) (of_stmt (record { line = line; what = x })) (tree_adds _ _ _ _ (omega arith) (h line))
 
   pub stmt_adds : (s : Stmt) → AddsAtMost (stmt_size s) (stmt_meaning w s).bind
-  stmt_adds = ind-Stmt (λ x. BranchWhatAdds (branch_what_means x) (branch_what_size x)) (λ x. WhatAdds (what_size x) (what_means x).bind)
-      (λ b. AddsAtMost (branch_size b) (bind_branch w b)) (λ s. AddsAtMost (stmt_size s) (stmt_meaning w s).bind) branch_what_case what_case branch_case stmt_case
+  stmt_adds = each_stmt (λ x. BranchWhatAdds (branch_what_means w x) (branch_what_size x)) (λ x. WhatAdds (what_size x) (what_means w x).bind) BranchAdds StmtAdds of_branch_what of_what in_branch in_stmt
 
   pub branch_adds : (b : Branch) → AddsAtMost (branch_size b) (bind_branch w b)
-  branch_adds = ind-Branch (λ x. BranchWhatAdds (branch_what_means x) (branch_what_size x)) (λ x. WhatAdds (what_size x) (what_means x).bind)
-      (λ b. AddsAtMost (branch_size b) (bind_branch w b)) (λ s. AddsAtMost (stmt_size s) (stmt_meaning w s).bind) branch_what_case what_case branch_case stmt_case
+  branch_adds = each_branch (λ x. BranchWhatAdds (branch_what_means w x) (branch_what_size x)) (λ x. WhatAdds (what_size x) (what_means w x).bind) BranchAdds StmtAdds of_branch_what of_what in_branch in_stmt
 
   pub body_adds : (body : List Stmt) → AddsAtMost (stmts_size body) (bind_stmts w body)
-  body_adds [] a b r is = nothing_added [] b r 0 is
-  body_adds (s ∷ body) a b r is =
-      let p = first_ok ((stmt_meaning w s).bind a b) _ r is in
-      let q = first_ok (bind_stmts w body a p.0.before) _ r p.2 in
-      omega (arith, stmt_adds s a b p.0 p.1, body_adds body a p.0.before q.0 q.1, behind_tree (p.0.tree ∷ q.0.tree) q.0.before r q.2)
+  body_adds body = stmts_add body (each StmtAdds stmt_adds body)

@@ -1,5 +1,7 @@
 -- The lemmas of this crate.
 pub mod Refusals
+pub mod FormInduction
+pub mod MeaningSteps
 pub mod BindSizes
 pub mod Numbers
 pub mod Room

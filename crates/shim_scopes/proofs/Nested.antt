@@ -4,7 +4,7 @@ use Rattle.std.proofs.lemmas.Grind.{common_steps}
 use Rattle.shim_syntax.specs.declared.tree.Sort.{Sort}
 use Rattle.shim_syntax.specs.declared.tree.Expr.{Expr}
 use Rattle.shim_syntax.specs.declared.tree.Stmt.{Stmt}
-use Rattle.shim_syntax.specs.declared.tree.What.{What, What-F, roll-What, fold-What, fold-roll-What}
+use Rattle.shim_syntax.specs.declared.tree.What.{What, What-F, roll-What}
 use Rattle.shim_syntax.specs.declared.tree.What.TheVariants as st
 use Rattle.shim_scopes.specs.declared.tree.UExpr.{UExpr}
 use Rattle.shim_scopes.specs.declared.tree.RStmt.{RStmt}
@@ -19,12 +19,10 @@ use Rattle.shim_syntax.specs.Names.{Texts}
 use Rattle.shim_scopes.specs.Refusals.{Refusal, and_then}
 use Rattle.shim_scopes.specs.Binding.{placed_option}
 use Rattle.shim_scopes.specs.Statements.{Whole, Around, Before, BoundTo, Meant, Bind, visible, inside_block, opened, after_block, bind_block, bind_parts, bind_first_test, bind_for, bind_handler, bind_try, with_handled, tried, variable_slot, variable_declared}
-use Rattle.shim_scopes.specs.Bodies.{WhatMeans, StmtMeans, BranchMeans, BranchWhatMeans, bind_branch_what_step, bind_what_step, bind_branch_step, bind_stmt_step, bind_stmts, declared_first}
+use Rattle.shim_scopes.specs.Bodies.{WhatMeans, bind_stmts, declared_first}
 use Rattle.shim_scopes.specs.State.{GivesBound, Kept, around_of, before_of, IsBegun, IsTried}
+use Rattle.shim_scopes.proofs.MeaningSteps.{what_means, rolled_what}
 use Rattle.shim_scopes.proofs.Seams.{seam}
-
-abbrev what_means : Whole → What → WhatMeans
-what_means w = fold-What BranchWhatMeans WhatMeans BranchMeans StmtMeans (bind_branch_what_step w) (bind_what_step w) bind_branch_step bind_stmt_step
 
 -- a refusal further in is passed on
 pub passed_on : {S T : Type 0} (e : ScopeFault) (r : Result T ScopeFault) (b c : Before) (m : Meant S) (n : Meant T)
@@ -36,14 +34,12 @@ passed_on {T = T} NoMemory (Err y) b c m n w f h = subst (λ u. GivesBound {T = 
 pub for_means : (w : Whole) (first : List Stmt) (test : Option Expr) (step body : List Stmt) (n : ℕ) (a : Around) (b : Before)
     → (what_means w (st.For first test step body)).bind n a b ≡ bind_for (declared_first w first) test (bind_stmts w first) (bind_stmts w step) (bind_stmts w body) n a b
 unfolding roll-What denote.Hole.Carrier.roll
-for_means w first test step body n a b =
-    ap (λ (m : WhatMeans). m.bind n a b) (fold-roll-What BranchWhatMeans WhatMeans BranchMeans StmtMeans (bind_branch_what_step w) (bind_what_step w) bind_branch_step bind_stmt_step (What-F.For first test step body))
+for_means w first test step body n a b = ap (λ (m : WhatMeans). m.bind n a b) (rolled_what w (What-F.For first test step body))
 
 pub try_means : (w : Whole) (body : List Stmt) (x : List ℕ) (y : Option (List ℕ)) (handler : List Stmt) (n : ℕ) (a : Around) (b : Before)
     → (what_means w (st.Try body x y handler)).bind n a b ≡ bind_try w x y (bind_stmts w body) (bind_stmts w handler) a b
 unfolding roll-What denote.Hole.Carrier.roll
-try_means w body x y handler n a b =
-    ap (λ (m : WhatMeans). m.bind n a b) (fold-roll-What BranchWhatMeans WhatMeans BranchMeans StmtMeans (bind_branch_what_step w) (bind_what_step w) bind_branch_step bind_stmt_step (What-F.Try body x y handler))
+try_means w body x y handler n a b = ap (λ (m : WhatMeans). m.bind n a b) (rolled_what w (What-F.Try body x y handler))
 
 -- the place inside a block, as the scope says it
 around_inside : (start : ℕ) (s : Scope) → around_of (length s.visible) s ≡ inside_block (around_of start s) (before_of start s)
@@ -236,7 +232,7 @@ in_handler w start n s t y slot f m len begun k p =
     let before : before_of n t ≡ variable_declared w.names y (opened (before_of start s)) = begun.after ∙ ap (λ v. variable_declared w.names y v) (begins start n s len) in
     subst (λ v. f v (variable_declared w.names y (opened (before_of start s))) ≡ m) (around_kept k ∙ inside start n s len) (subst (λ v. f (around_of n t) v ≡ m) before p)
 
--- its slot is told by the slots alone
+-- its slot follows from the slots alone
 same_slot : (y : Option (List ℕ)) (b c : Before) → b.slots ≡ c.slots → variable_slot y b ≡ variable_slot y c
 same_slot None b c e = refl
 same_slot (Some y) b c e = ap (λ (xs : List Sort). Some (length xs)) e

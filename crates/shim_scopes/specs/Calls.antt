@@ -49,7 +49,7 @@ same_sort Input Input = true
 same_sort Output Output = true
 same_sort _ _ = false
 
--- a name without a declaration around it is told before
+-- a name without a declaration around it is reported before
 abbrev pub sort_fits : Sort → Option Bound → Bool
 sort_fits s None = true
 sort_fits s (Some b) = same_sort s b.sort

@@ -4,7 +4,7 @@ ghost use Rattle.shim_scopes.specs.declared.fault.ScopeFault.TheVariants as v;
 
 use shim_base::Name;
 
-/// What is wrong at a place. Of several in one statement the first of these is told.
+/// What is wrong at a place. Of several in one statement the first of these is reported.
 #[derive(Clone, Copy, Debug, PartialEq, Eq)]
 pub enum ScopeKind {
     /// A variable without a declaration in scope.
@@ -14,7 +14,7 @@ pub enum ScopeKind {
     UnknownException,
     /// A second declaration in one block, or a second function, parameter or exception of one name.
     Twice,
-    /// A call that gives more or fewer arguments than the function takes, whose name is told.
+    /// A call that gives more or fewer arguments than the function takes, whose name is reported.
     Arity,
     /// A name that is bound to something else than is wanted in its place: a stream or a number in the
     /// other's, a stream of the other direction, or, for a reference, a variable of another type. The

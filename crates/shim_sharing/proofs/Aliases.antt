@@ -26,26 +26,26 @@ is_bare_of x None e = cc
 is_bare_of x (Some y) e = eq-eqb y x (cc)
 
 -- one of these arguments is the variable
-record Standing (x : ℕ) (gs : List Given) : Type 0 where
+record BareArgument (x : ℕ) (gs : List Given) : Type 0 where
   place : ℕ
   one : Given
   there : slice_get gs place ≡ Some one
   is : one.bare ≡ Some x
 
-standing : (x : ℕ) (gs : List Given) → stands_in x gs ≡ true → Standing x gs
-standing x [] e = cc
-standing x (g ∷ gs) e =
+bare_argument : (x : ℕ) (gs : List Given) → stands_in x gs ≡ true → BareArgument x gs
+bare_argument x [] e = cc
+bare_argument x (g ∷ gs) e =
     elim (either_true (is_bare x g.bare) (stands_in x gs) e) [
       | inl here ↦ record { place = zero; one = g; there = refl; is = bare_of x g.bare here }
-      | inr behind ↦ let s : Standing x gs = standing x gs behind in record { place = suc s.place; one = s.one; there = s.there; is = s.is }
+      | inr behind ↦ let s : BareArgument x gs = bare_argument x gs behind in record { place = suc s.place; one = s.one; there = s.there; is = s.is }
     ]
 
-stands : (x : ℕ) (gs : List Given) (k : ℕ) (h : Given) → slice_get gs k ≡ Some h → h.bare ≡ Some x → stands_in x gs ≡ true
-stands x [] k h there is = cc
-stands x (g ∷ gs) zero h there is =
+given_bare : (x : ℕ) (gs : List Given) (k : ℕ) (h : Given) → slice_get gs k ≡ Some h → h.bare ≡ Some x → stands_in x gs ≡ true
+given_bare x [] k h there is = cc
+given_bare x (g ∷ gs) zero h there is =
     let same : g ≡ h = cc in
     or_left (is_bare x g.bare) (stands_in x gs) (is_bare_of x g.bare (ap (λ (i : Given). i.bare) same ∙ is))
-stands x (g ∷ gs) (suc k) h there is = or_right (is_bare x g.bare) (stands_in x gs) (stands x gs k h there is)
+given_bare x (g ∷ gs) (suc k) h there is = or_right (is_bare x g.bare) (stands_in x gs) (given_bare x gs k h there is)
 
 -- one of the arguments on either side of another is the variable
 record Apart (x : ℕ) (before : List Given) (g : Given) (gs : List Given) : Type 0 where
@@ -57,7 +57,7 @@ record Apart (x : ℕ) (before : List Given) (g : Given) (gs : List Given) : Typ
 
 apart_of : (x : ℕ) (before : List Given) (g : Given) (gs : List Given) → (stands_in x before || stands_in x gs) ≡ true → Apart x before g gs
 apart_of x [] g gs e =
-    let s : Standing x gs = standing x gs e in
+    let s : BareArgument x gs = bare_argument x gs e in
     record { place = suc s.place; apart = λ is. omega (arith, is); one = s.one; there = s.there; is = s.is }
 apart_of x (b ∷ bs) g gs e =
     elim (either_true (is_bare x b.bare) (stands_in x bs || stands_in x gs) (sym (or_assoc (is_bare x b.bare) (stands_in x bs) (stands_in x gs)) ∙ e)) [
@@ -67,16 +67,16 @@ apart_of x (b ∷ bs) g gs e =
           record { place = suc s.place; apart = λ is. s.apart (omega (arith, is)); one = s.one; there = s.there; is = s.is }
     ]
 
-stands_apart : (x : ℕ) (before : List Given) (g : Given) (gs : List Given) (k : ℕ) (h : Given) → k ≢ length before → slice_get (before ++ g ∷ gs) k ≡ Some h → h.bare ≡ Some x
+given_on_a_side : (x : ℕ) (before : List Given) (g : Given) (gs : List Given) (k : ℕ) (h : Given) → k ≢ length before → slice_get (before ++ g ∷ gs) k ≡ Some h → h.bare ≡ Some x
     → (stands_in x before || stands_in x gs) ≡ true
-stands_apart x [] g gs zero h apart there is = absurd (apart refl)
-stands_apart x [] g gs (suc k) h apart there is = stands x gs k h there is
-stands_apart x (b ∷ bs) g gs zero h apart there is =
+given_on_a_side x [] g gs zero h apart there is = absurd (apart refl)
+given_on_a_side x [] g gs (suc k) h apart there is = given_bare x gs k h there is
+given_on_a_side x (b ∷ bs) g gs zero h apart there is =
     let same : b ≡ h = cc in
     or_left (is_bare x b.bare || stands_in x bs) (stands_in x gs) (or_left (is_bare x b.bare) (stands_in x bs) (is_bare_of x b.bare (ap (λ (i : Given). i.bare) same ∙ is)))
-stands_apart x (b ∷ bs) g gs (suc k) h apart there is =
+given_on_a_side x (b ∷ bs) g gs (suc k) h apart there is =
     or_assoc (is_bare x b.bare) (stands_in x bs) (stands_in x gs)
-    ∙ or_right (is_bare x b.bare) (stands_in x bs || stands_in x gs) (stands_apart x bs g gs k h (λ e. apart (ap suc e)) there is)
+    ∙ or_right (is_bare x b.bare) (stands_in x bs || stands_in x gs) (given_on_a_side x bs g gs k h (λ e. apart (ap suc e)) there is)
 
 at_length : (before : List Given) (g : Given) (gs : List Given) → slice_get (before ++ g ∷ gs) (length before) ≡ Some g
 at_length [] g gs = refl
@@ -86,22 +86,22 @@ at_length (b ∷ bs) g gs = at_length bs g gs
 record Again (lent : Bool) (before after : List Given) (bare : Option ℕ) (x : ℕ) : Type 0 where
   by_reference : lent ≡ true
   gives : bare ≡ Some x
-  stands : (stands_in x before || stands_in x after) ≡ true
+  on_a_side : (stands_in x before || stands_in x after) ≡ true
 
 again_of : (lent : Bool) (before after : List Given) (bare : Option ℕ) (x : ℕ) → again lent before after bare ≡ Some x → Again lent before after bare x
 again_of true before after None x e = cc
 again_of true before after (Some y) x e =
     let t : ((stands_in y before || stands_in y after) ≡ true) × (y ≡ x) = true_of y x (stands_in y before || stands_in y after) e in
-    record { by_reference = refl; gives = ap Some t.1; stands = subst (λ z. (stands_in z before || stands_in z after) ≡ true) t.1 t.0 }
+    record { by_reference = refl; gives = ap Some t.1; on_a_side = subst (λ z. (stands_in z before || stands_in z after) ≡ true) t.1 t.0 }
 again_of false before after bare x e = cc
 
 alias_here : (before : List Given) (g : Given) (gs : List Given) (x : ℕ) → again g.lent before gs g.bare ≡ Some x → IsAlias (before ++ g ∷ gs) (length before) x
 alias_here before g gs x e =
     let a : Again g.lent before gs g.bare x = again_of g.lent before gs g.bare x e in
-    let s : Apart x before g gs = apart_of x before g gs a.stands in
+    let s : Apart x before g gs = apart_of x before g gs a.on_a_side in
     record {
       one = g;
-      stands = at_length before g gs;
+      at_number = at_length before g gs;
       by_reference = a.by_reference;
       gives = a.gives;
       place = s.place;
@@ -113,9 +113,9 @@ alias_here before g gs x e =
 
 none_here : (before : List Given) (g : Given) (gs : List Given) (x : ℕ) → again g.lent before gs g.bare ≡ None → IsAlias (before ++ g ∷ gs) (length before) x → ⊥
 none_here before g gs x e a =
-    let same : g ≡ a.one = cc (at_length before g gs, a.stands) in
+    let same : g ≡ a.one = cc (at_length before g gs, a.at_number) in
     not_again g.lent before gs g.bare x e (ap (λ (i : Given). i.lent) same ∙ a.by_reference) (ap (λ (i : Given). i.bare) same ∙ a.gives)
-    (stands_apart x before g gs a.place a.other a.apart a.is_other a.again)
+    (given_on_a_side x before g gs a.place a.other a.apart a.is_other a.again)
 
 -- of the arguments from number n on
 record LeftmostFrom (gs : List Given) (n : ℕ) (x : ℕ) : Type 0 where

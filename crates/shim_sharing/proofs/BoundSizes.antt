@@ -6,10 +6,10 @@ use Rattle.shim_base.specs.declared.types.Ty.{Ty}
 use Rattle.shim_syntax.specs.declared.tree.Expr.{Expr, Expr-F, fold-roll-Expr, ind-Expr, map-Expr, roll-Expr}
 use Rattle.shim_syntax.specs.declared.tree.Expr.TheVariants as e
 use Rattle.shim_syntax.specs.declared.tree.Call.{Call}
-use Rattle.shim_syntax.specs.declared.tree.Stmt.{Stmt, Stmt-F, fold-roll-Stmt, ind-Stmt, map-Stmt, roll-Stmt}
-use Rattle.shim_syntax.specs.declared.tree.What.{What, What-F, fold-What, fold-roll-What, map-What, roll-What}
-use Rattle.shim_syntax.specs.declared.tree.Branch.{Branch, Branch-F, fold-roll-Branch, map-Branch, roll-Branch}
-use Rattle.shim_syntax.specs.declared.tree.BranchWhat.{BranchWhat, BranchWhat-F, fold-BranchWhat, fold-roll-BranchWhat, map-BranchWhat, roll-BranchWhat}
+use Rattle.shim_syntax.specs.declared.tree.Stmt.{Stmt}
+use Rattle.shim_syntax.specs.declared.tree.What.{What, What-F, map-What, roll-What}
+use Rattle.shim_syntax.specs.declared.tree.Branch.{Branch}
+use Rattle.shim_syntax.specs.declared.tree.BranchWhat.{BranchWhat, BranchWhat-F, map-BranchWhat, roll-BranchWhat}
 use Rattle.shim_syntax.specs.declared.tree.Function.{Function}
 use Rattle.shim_syntax.specs.declared.tree.Program.{Program}
 use Rattle.shim_syntax.specs.declared.tree.Sort.TheVariants.{Value}
@@ -32,15 +32,17 @@ use Rattle.shim_syntax.specs.Names.{Texts, name_index, with_functions, param_nam
 use Rattle.shim_scopes.specs.Refusals.{Refusal, refused_for}
 use Rattle.shim_scopes.specs.Statements.{Whole, Around, Before, BoundTo, Bind, with_declaration, inside_block, opened, after_block, with_handled, tried, variable_declared, variable_slot, bind_handler, bind_declare, bind_store, bind_next, bind_assign_next, bind_get, bind_put, bind_throw, bind_block, on_tree, bind_test, bind_if, bind_while, bind_try, bind_parts, bind_first_test, bind_for, visible, declared_in, unknown_in_both, unknown_of_two}
 use Rattle.shim_scopes.specs.Calls.{bind_call, bind_called, bind_known, function_of, unhandled_of_all, wrong_in_all, if_false}
-use Rattle.shim_scopes.specs.Bodies.{WhatMeans, StmtMeans, BranchMeans, BranchWhatMeans, bind_all, bind_fork, first_declares, bind_branch_what_step, bind_what_step, bind_branch_step, bind_stmt_step, stmt_meaning, bind_stmts, bind_branch}
+use Rattle.shim_scopes.specs.Bodies.{WhatMeans, StmtMeans, BranchWhatMeans, bind_fork, first_declares, stmt_meaning, bind_stmts, bind_branch}
 use Rattle.shim_scopes.specs.Functions.{name_in, twice_after, wrong_main, placed_param, made_function, bind_function, bind_functions, main_of, bind_program}
 use Rattle.shim_syntax.specs.Sizes as text
 use Rattle.shim_syntax.specs.Sizes.{sum_of}
+use Rattle.shim_syntax.proofs.FormInduction.{InBranchWhat, InWhat, Each, each, each_stmt}
 use Rattle.shim_syntax.proofs.SizeSteps as source
 use Rattle.shim_units.specs.Sizes.{Extent, plain, variable_extent, expr_size, option_size, call_size, branch_what_extent, what_extent, branch_extent, stmt_extent, extent, fork_extent, function_size, functions_size}
 use Rattle.shim_sharing.proofs.TextLocals as counted
 use Rattle.shim_sharing.proofs.TextLocals.{locals, stmt_locals, branch_locals, what_locals, branch_what_locals, IsNarrow, AreNarrow}
 use Rattle.shim_sharing.proofs.ExtentSteps.{number_size, variable_size, unary_size, binary_size, of_stmt, of_branch, at_declare, at_assign, at_next, at_next_assign, at_assign_next, at_get, at_put, at_if, at_while, at_for, at_block, at_call, at_try, at_throw, at_par, at_block_branch, at_call_branch}
+use Rattle.shim_scopes.proofs.MeaningSteps.{branch_what_means, what_means, branch_what_at, what_at, rolled_branch_what, rolled_what, branch_means, stmt_means}
 use Rattle.shim_scopes.proofs.Refusals.{passed, first_ok, bound, its_tree}
 
 -- an expression keeps its size
@@ -261,106 +263,75 @@ in_branch : (n d : ℕ) (body : List RStmt) → IsWithin n d (extent body) → I
 in_branch n d body k = is_within _ _ _ _ (at_block_branch body) (omega (arith, k.size)) (omega (arith, k.declared))
 
 module _ (w : Whole) where
-  abbrev branch_what_means : BranchWhat → BranchWhatMeans
-  branch_what_means = fold-BranchWhat BranchWhatMeans WhatMeans BranchMeans StmtMeans (bind_branch_what_step w) (bind_what_step w) bind_branch_step bind_stmt_step
-
-  abbrev what_means : What → WhatMeans
-  what_means = fold-What BranchWhatMeans WhatMeans BranchMeans StmtMeans (bind_branch_what_step w) (bind_what_step w) bind_branch_step bind_stmt_step
-
   -- a part that is bound within its size in the text, and its declarations
   abbrev BranchWhatFits : BranchWhatMeans → ℕ → ℕ → Type 0
   BranchWhatFits f n d = (line : ℕ) → BoundWithin branch_what_extent n d (f line)
 
-  abbrev SmallBranchWhat : Type 0
-  SmallBranchWhat = (x : BranchWhat) × BranchWhatFits (branch_what_means x) (source.branch_what_size x) (branch_what_locals x)
+  abbrev BranchWithin : Branch → Type 0
+  BranchWithin b = BoundWithin branch_extent (text.branch_size b) (branch_locals b) (bind_branch w b)
 
-  abbrev SmallWhat : Type 0
-  SmallWhat = (x : What) × WhatWithin (text.what_size x) (what_locals x) (what_means x).bind
+  abbrev StmtWithin : Stmt → Type 0
+  StmtWithin s = BoundWithin stmt_extent (text.stmt_size s) (stmt_locals s) (stmt_meaning w s).bind
 
-  abbrev SmallBranch : Type 0
-  SmallBranch = (b : Branch) × BoundWithin branch_extent (text.branch_size b) (branch_locals b) (bind_branch w b)
-
-  abbrev SmallStmt : Type 0
-  SmallStmt = (s : Stmt) × BoundWithin stmt_extent (text.stmt_size s) (stmt_locals s) (stmt_meaning w s).bind
-
-  abbrev stmts : List SmallStmt → List Stmt
-  stmts ys = map (λ (e : SmallStmt). e.0) ys
-
-  abbrev branches : List SmallBranch → List Branch
-  branches ys = map (λ (e : SmallBranch). e.0) ys
-
-  stmts_within : (ys : List SmallStmt) → BoundWithin extent (sum_of (map text.stmt_size (stmts ys))) (sum_of (map stmt_locals (stmts ys))) (bind_all (map (stmt_meaning w) (stmts ys)))
-  stmts_within [] a b r is = made extent 0 0 [] b r is (is_within _ _ _ _ refl (omega arith) (omega arith))
-  stmts_within (y ∷ ys) a b r is =
-      let p = first_ok ((stmt_meaning w y.0).bind a b) _ r is in
-      let q = first_ok (bind_all (map (stmt_meaning w) (stmts ys)) a p.0.before) _ r p.2 in
-      let one = y.1 a b p.0 p.1 in
-      let rest = stmts_within ys a p.0.before q.0 q.1 in
+  stmts_within : (body : List Stmt) → Each StmtWithin body → BoundWithin extent (text.stmts_size body) (locals body) (bind_stmts w body)
+  stmts_within [] h a b r is = made extent 0 0 [] b r is (is_within _ _ _ _ refl (omega arith) (omega arith))
+  stmts_within (s ∷ body) h a b r is =
+      let p = first_ok ((stmt_meaning w s).bind a b) _ r is in
+      let q = first_ok (bind_stmts w body a p.0.before) _ r p.2 in
+      let one = h.0 a b p.0 p.1 in
+      let rest = stmts_within body h.1 a p.0.before q.0 q.1 in
       made extent _ _ (p.0.tree ∷ q.0.tree) q.0.before r q.2 (is_within _ _ _ _ refl (omega (arith, one.size, rest.size)) (omega (arith, one.declared, rest.declared)))
 
-  branches_within : (ys : List SmallBranch) → BoundWithin fork_extent (sum_of (map text.branch_size (branches ys))) (sum_of (map branch_locals (branches ys))) (bind_fork (map (bind_branch w) (branches ys)))
-  branches_within [] a b r is = made fork_extent 0 0 [] b r is (is_within _ _ _ _ refl (omega arith) (omega arith))
-  branches_within (y ∷ ys) a b r is =
-      let p = first_ok (bind_branch w y.0 a b) _ r is in
-      let q = first_ok (bind_fork (map (bind_branch w) (branches ys)) a p.0.before) _ r p.2 in
-      let one = y.1 a b p.0 p.1 in
-      let rest = branches_within ys a p.0.before q.0 q.1 in
+  branches_within : (bs : List Branch) → Each BranchWithin bs → BoundWithin fork_extent (sum_of (map text.branch_size bs)) (sum_of (map branch_locals bs)) (bind_fork (map (bind_branch w) bs))
+  branches_within [] h a b r is = made fork_extent 0 0 [] b r is (is_within _ _ _ _ refl (omega arith) (omega arith))
+  branches_within (x ∷ bs) h a b r is =
+      let p = first_ok (bind_branch w x a b) _ r is in
+      let q = first_ok (bind_fork (map (bind_branch w) bs) a p.0.before) _ r p.2 in
+      let one = h.0 a b p.0 p.1 in
+      let rest = branches_within bs h.1 a p.0.before q.0 q.1 in
       made fork_extent _ _ (p.0.tree ∷ q.0.tree) q.0.before r q.2 (is_within _ _ _ _ refl (omega (arith, one.size, rest.size)) (omega (arith, one.declared, rest.declared)))
 
-  abbrev branch_what_of : BranchWhat-F SmallBranchWhat SmallWhat SmallBranch SmallStmt → BranchWhat-F BranchWhat What Branch Stmt
-  branch_what_of y = map-BranchWhat SmallBranchWhat SmallWhat SmallBranch SmallStmt BranchWhat What Branch Stmt (λ e. e.0) (λ e. e.0) (λ e. e.0) (λ e. e.0) y
+  branch_what_layer : (y : BranchWhat-F BranchWhat What Branch Stmt) → InBranchWhat StmtWithin y
+      → BranchWhatFits (branch_what_at w y)
+      (text.branch_counts (map-BranchWhat BranchWhat What Branch Stmt ℕ ℕ ℕ ℕ source.branch_what_size text.what_size text.branch_size text.stmt_size y))
+      (counted.branch_counts (map-BranchWhat BranchWhat What Branch Stmt ℕ ℕ ℕ ℕ branch_what_locals what_locals branch_locals stmt_locals y))
+  branch_what_layer (BranchWhat-F.BranchWhat::Block body) h line = tree_within extent branch_what_extent BranchBlock _ _ _ _ (in_branch _ _) (block_within extent _ _ _ (stmts_within body h))
+  branch_what_layer (BranchWhat-F.BranchWhat::Call c) h line = called_within branch_what_extent BranchCall at_call_branch w c line 0
 
-  abbrev what_of : What-F SmallBranchWhat SmallWhat SmallBranch SmallStmt → What-F BranchWhat What Branch Stmt
-  what_of y = map-What SmallBranchWhat SmallWhat SmallBranch SmallStmt BranchWhat What Branch Stmt (λ e. e.0) (λ e. e.0) (λ e. e.0) (λ e. e.0) y
-
-  abbrev branch_of : Branch-F SmallBranchWhat SmallWhat SmallBranch SmallStmt → Branch-F BranchWhat What Branch Stmt
-  branch_of y = map-Branch SmallBranchWhat SmallWhat SmallBranch SmallStmt BranchWhat What Branch Stmt (λ e. e.0) (λ e. e.0) (λ e. e.0) (λ e. e.0) y
-
-  abbrev stmt_of : Stmt-F SmallBranchWhat SmallWhat SmallBranch SmallStmt → Stmt-F BranchWhat What Branch Stmt
-  stmt_of y = map-Stmt SmallBranchWhat SmallWhat SmallBranch SmallStmt BranchWhat What Branch Stmt (λ e. e.0) (λ e. e.0) (λ e. e.0) (λ e. e.0) y
-
-  branch_what_layer : (y : BranchWhat-F SmallBranchWhat SmallWhat SmallBranch SmallStmt)
-      → BranchWhatFits (bind_branch_what_step w (map-BranchWhat BranchWhat What Branch Stmt BranchWhatMeans WhatMeans BranchMeans StmtMeans branch_what_means what_means (bind_branch w) (stmt_meaning w) (branch_what_of y)))
-      (text.branch_counts (map-BranchWhat BranchWhat What Branch Stmt ℕ ℕ ℕ ℕ source.branch_what_size text.what_size text.branch_size text.stmt_size (branch_what_of y)))
-      (counted.branch_counts (map-BranchWhat BranchWhat What Branch Stmt ℕ ℕ ℕ ℕ branch_what_locals what_locals branch_locals stmt_locals (branch_what_of y)))
-  branch_what_layer (BranchWhat-F.BranchWhat::Block body) line = tree_within extent branch_what_extent BranchBlock _ _ _ _ (in_branch _ _) (block_within extent _ _ _ (stmts_within body))
-  branch_what_layer (BranchWhat-F.BranchWhat::Call c) line = called_within branch_what_extent BranchCall at_call_branch w c line 0
-
-  what_layer : (y : What-F SmallBranchWhat SmallWhat SmallBranch SmallStmt)
-      → WhatWithin (text.what_counts (map-What BranchWhat What Branch Stmt ℕ ℕ ℕ ℕ source.branch_what_size text.what_size text.branch_size text.stmt_size (what_of y)))
-      (counted.what_counts (map-What BranchWhat What Branch Stmt ℕ ℕ ℕ ℕ branch_what_locals what_locals branch_locals stmt_locals (what_of y)))
-      (bind_what_step w (map-What BranchWhat What Branch Stmt BranchWhatMeans WhatMeans BranchMeans StmtMeans branch_what_means what_means (bind_branch w) (stmt_meaning w) (what_of y))).bind
-  what_layer (What-F.Declare ty x e) line = declare_within w ty x e line
-  what_layer (What-F.Assign x e) line = store_within Assign at_assign x e 0 line
-  what_layer (What-F.Next x) line = next_within x 0 line
-  what_layer (What-F.NextAssign x e) line = store_within NextAssign at_next_assign x e 0 line
-  what_layer (What-F.AssignNext x y) line = assign_next_within x y 0 line
-  what_layer (What-F.Get x y) line = get_within x y 0 line
-  what_layer (What-F.Put x e) line = put_within x e 0 line
-  what_layer (What-F.If e first other) line = if_within e _ _ _ _ _ _ (stmts_within first) (stmts_within other) line
-  what_layer (What-F.While e body) line = while_within e _ _ _ (stmts_within body) line
-  what_layer (What-F.For first test step body) line = for_within (first_declares (map (stmt_meaning w) (stmts first))) test _ _ _ _ _ _ _ _ _ (stmts_within first) (stmts_within step) (stmts_within body) line
-  what_layer (What-F.What::Block body) line = tree_within extent what_extent RBlock _ _ _ _ (in_block _ _) (block_within extent _ _ _ (stmts_within body))
-  what_layer (What-F.What::Call c) line = called_within what_extent RCalled at_call w c line 0
-  what_layer (What-F.Try body x y handler) line = try_within w x y _ _ _ _ _ _ (stmts_within body) (stmts_within handler)
-  what_layer (What-F.Throw x e) line = throw_within x e 0 line
-  what_layer (What-F.Par bs) line = tree_within fork_extent what_extent Par _ _ _ _ (in_fork _ _) (branches_within bs)
+  what_layer : (y : What-F BranchWhat What Branch Stmt) → InWhat BranchWithin StmtWithin y
+      → WhatWithin (text.what_counts (map-What BranchWhat What Branch Stmt ℕ ℕ ℕ ℕ source.branch_what_size text.what_size text.branch_size text.stmt_size y))
+      (counted.what_counts (map-What BranchWhat What Branch Stmt ℕ ℕ ℕ ℕ branch_what_locals what_locals branch_locals stmt_locals y))
+      (what_at w y).bind
+  what_layer (What-F.Declare ty x e) h line = declare_within w ty x e line
+  what_layer (What-F.Assign x e) h line = store_within Assign at_assign x e 0 line
+  what_layer (What-F.Next x) h line = next_within x 0 line
+  what_layer (What-F.NextAssign x e) h line = store_within NextAssign at_next_assign x e 0 line
+  what_layer (What-F.AssignNext x y) h line = assign_next_within x y 0 line
+  what_layer (What-F.Get x y) h line = get_within x y 0 line
+  what_layer (What-F.Put x e) h line = put_within x e 0 line
+  what_layer (What-F.If e first other) h line = if_within e _ _ _ _ _ _ (stmts_within first h.0) (stmts_within other h.1) line
+  what_layer (What-F.While e body) h line = while_within e _ _ _ (stmts_within body h) line
+  what_layer (What-F.For first test step body) h line = for_within (first_declares (map (stmt_meaning w) first)) test _ _ _ _ _ _ _ _ _ (stmts_within first h.0) (stmts_within step h.1) (stmts_within body h.2) line
+  what_layer (What-F.What::Block body) h line = tree_within extent what_extent RBlock _ _ _ _ (in_block _ _) (block_within extent _ _ _ (stmts_within body h))
+  what_layer (What-F.What::Call c) h line = called_within what_extent RCalled at_call w c line 0
+  what_layer (What-F.Try body x y handler) h line = try_within w x y _ _ _ _ _ _ (stmts_within body h.0) (stmts_within handler h.1)
+  what_layer (What-F.Throw x e) h line = throw_within x e 0 line
+  what_layer (What-F.Par bs) h line = tree_within fork_extent what_extent Par _ _ _ _ (in_fork _ _) (branches_within bs h)
 
   -- the same bound, of a part and of sizes that are equal to these
   same_within : {T : Type 0} (x : T → Extent) (f g : Bind T) (m n c d : ℕ) → f ≡ g → m ≡ n → c ≡ d → BoundWithin x n d g → BoundWithin x m c f
   same_within x f g m n c d p q o h = subst (λ i. BoundWithin x m i f) (sym o) (subst (λ i. BoundWithin x i d f) (sym q) (subst (λ k. BoundWithin x n d k) (sym p) h))
 
-  branch_what_case : (x : BranchWhat-F BranchWhat What Branch Stmt) (y : BranchWhat-F SmallBranchWhat SmallWhat SmallBranch SmallStmt) → branch_what_of y ≡ x
-      → BranchWhatFits (branch_what_means (roll-BranchWhat x)) (source.branch_what_size (roll-BranchWhat x)) (branch_what_locals (roll-BranchWhat x))
-  branch_what_case x y is = subst (λ z. BranchWhatFits (branch_what_means (roll-BranchWhat z)) (source.branch_what_size (roll-BranchWhat z)) (branch_what_locals (roll-BranchWhat z))) is (λ line.
-      same_within branch_what_extent _ _ _ _ _ _ (ap (λ (k : BranchWhatMeans). k line) (fold-roll-BranchWhat BranchWhatMeans WhatMeans BranchMeans StmtMeans (bind_branch_what_step w) (bind_what_step w) bind_branch_step bind_stmt_step (branch_what_of y)))
-      (source.at_branch (branch_what_of y)) (counted.at_branch (branch_what_of y)) (branch_what_layer y line))
+  of_branch_what : (y : BranchWhat-F BranchWhat What Branch Stmt) → InBranchWhat StmtWithin y
+      → BranchWhatFits (branch_what_means w (roll-BranchWhat y)) (source.branch_what_size (roll-BranchWhat y)) (branch_what_locals (roll-BranchWhat y))
+  of_branch_what y h line =
+      same_within branch_what_extent _ _ _ _ _ _ (ap (λ (k : BranchWhatMeans). k line) (rolled_branch_what w y))
+      (source.at_branch y) (counted.at_branch y) (branch_what_layer y h line)
 
-  what_case : (x : What-F BranchWhat What Branch Stmt) (y : What-F SmallBranchWhat SmallWhat SmallBranch SmallStmt) → what_of y ≡ x
-      → WhatWithin (text.what_size (roll-What x)) (what_locals (roll-What x)) (what_means (roll-What x)).bind
-  what_case x y is = subst (λ z. WhatWithin (text.what_size (roll-What z)) (what_locals (roll-What z)) (what_means (roll-What z)).bind) is (λ line.
-      same_within what_extent _ _ _ _ _ _ (ap (λ (k : WhatMeans). k.bind line) (fold-roll-What BranchWhatMeans WhatMeans BranchMeans StmtMeans (bind_branch_what_step w) (bind_what_step w) bind_branch_step bind_stmt_step (what_of y)))
-      (source.at_what (what_of y)) (counted.at_what (what_of y)) (what_layer y line))
+  of_what : (y : What-F BranchWhat What Branch Stmt) → InWhat BranchWithin StmtWithin y → WhatWithin (text.what_size (roll-What y)) (what_locals (roll-What y)) (what_means w (roll-What y)).bind
+  of_what y h line =
+      same_within what_extent _ _ _ _ _ _ (ap (λ (k : WhatMeans). k.bind line) (rolled_what w y))
+      (source.at_what y) (counted.at_what y) (what_layer y h line)
 
   in_line : (line n d : ℕ) (t : RWhat) → IsWithin n d (what_extent t) → IsWithin n d (stmt_extent (record { line = line; what = t }))
   in_line line n d t h = subst (λ x. IsWithin n d x) (sym (of_stmt line t)) h
@@ -368,32 +339,22 @@ module _ (w : Whole) where
   branch_in_line : (line n d : ℕ) (t : RBranchWhat) → IsWithin n d (branch_what_extent t) → IsWithin n d (branch_extent (record { line = line; what = t }))
   branch_in_line line n d t h = subst (λ x. IsWithin n d x) (sym (of_branch line t)) h
 
-  branch_case : (x : Branch-F BranchWhat What Branch Stmt) (y : Branch-F SmallBranchWhat SmallWhat SmallBranch SmallStmt) → branch_of y ≡ x
-      → BoundWithin branch_extent (text.branch_size (roll-Branch x)) (branch_locals (roll-Branch x)) (bind_branch w (roll-Branch x))
-  branch_case x y is = subst (λ z. BoundWithin branch_extent (text.branch_size (roll-Branch z)) (branch_locals (roll-Branch z)) (bind_branch w (roll-Branch z))) is
-      (same_within branch_extent _ _ _ _ _ _ (fold-roll-Branch BranchWhatMeans WhatMeans BranchMeans StmtMeans (bind_branch_what_step w) (bind_what_step w) bind_branch_step bind_stmt_step (branch_of y))
-      (source.of_branch (roll-Branch (branch_of y))) (counted.of_branch (roll-Branch (branch_of y)))
-      (tree_within branch_what_extent branch_extent (λ t. record { line = y.line; what = t }) _ _ _ _ (branch_in_line y.line _ _) (y.what.1 y.line)))
+  in_branch_line : (line : ℕ) (x : BranchWhat) → BranchWhatFits (branch_what_means w x) (source.branch_what_size x) (branch_what_locals x) → BranchWithin (record { line = line; what = x })
+  in_branch_line line x h =
+      same_within branch_extent _ _ _ _ _ _ (branch_means w line x)
+      (source.of_branch (record { line = line; what = x })) (counted.of_branch (record { line = line; what = x }))
+      (tree_within branch_what_extent branch_extent (λ t. record { line = line; what = t }) _ _ _ _ (branch_in_line line _ _) (h line))
 
-  stmt_case : (x : Stmt-F BranchWhat What Branch Stmt) (y : Stmt-F SmallBranchWhat SmallWhat SmallBranch SmallStmt) → stmt_of y ≡ x
-      → BoundWithin stmt_extent (text.stmt_size (roll-Stmt x)) (stmt_locals (roll-Stmt x)) (stmt_meaning w (roll-Stmt x)).bind
-  stmt_case x y is = subst (λ z. BoundWithin stmt_extent (text.stmt_size (roll-Stmt z)) (stmt_locals (roll-Stmt z)) (stmt_meaning w (roll-Stmt z)).bind) is
-      (same_within stmt_extent _ _ _ _ _ _ (ap (λ (k : StmtMeans). k.bind) (fold-roll-Stmt BranchWhatMeans WhatMeans BranchMeans StmtMeans (bind_branch_what_step w) (bind_what_step w) bind_branch_step bind_stmt_step (stmt_of y)))
-      (source.of_stmt (roll-Stmt (stmt_of y))) (counted.of_stmt (roll-Stmt (stmt_of y)))
-      (tree_within what_extent stmt_extent (λ t. record { line = y.line; what = t }) _ _ _ _ (in_line y.line _ _) (y.what.1 y.line)))
-
-  stmt_within : (s : Stmt) → BoundWithin stmt_extent (text.stmt_size s) (stmt_locals s) (stmt_meaning w s).bind
-  stmt_within = ind-Stmt (λ x. BranchWhatFits (branch_what_means x) (source.branch_what_size x) (branch_what_locals x)) (λ x. WhatWithin (text.what_size x) (what_locals x) (what_means x).bind)
-      (λ b. BoundWithin branch_extent (text.branch_size b) (branch_locals b) (bind_branch w b)) (λ s. BoundWithin stmt_extent (text.stmt_size s) (stmt_locals s) (stmt_meaning w s).bind) branch_what_case what_case branch_case stmt_case
+  in_stmt_line : (line : ℕ) (x : What) → WhatWithin (text.what_size x) (what_locals x) (what_means w x).bind → StmtWithin (record { line = line; what = x })
+  in_stmt_line line x h =
+      same_within stmt_extent _ _ _ _ _ _ (ap (λ (k : StmtMeans). k.bind) (stmt_means w line x))
+      (source.of_stmt (record { line = line; what = x })) (counted.of_stmt (record { line = line; what = x }))
+      (tree_within what_extent stmt_extent (λ t. record { line = line; what = t }) _ _ _ _ (in_line line _ _) (h line))
 
   body_within : (body : List Stmt) → BoundWithin extent (text.stmts_size body) (locals body) (bind_stmts w body)
-  body_within [] a b r is = made extent 0 0 [] b r is (is_within _ _ _ _ refl (omega arith) (omega arith))
-  body_within (s ∷ body) a b r is =
-      let p = first_ok ((stmt_meaning w s).bind a b) _ r is in
-      let q = first_ok (bind_stmts w body a p.0.before) _ r p.2 in
-      let one = stmt_within s a b p.0 p.1 in
-      let rest = body_within body a p.0.before q.0 q.1 in
-      made extent _ _ (p.0.tree ∷ q.0.tree) q.0.before r q.2 (is_within _ _ _ _ refl (omega (arith, one.size, rest.size)) (omega (arith, one.declared, rest.declared)))
+  body_within body = stmts_within body (each StmtWithin
+      (each_stmt (λ x. BranchWhatFits (branch_what_means w x) (source.branch_what_size x) (branch_what_locals x)) (λ x. WhatWithin (text.what_size x) (what_locals x) (what_means w x).bind)
+      BranchWithin StmtWithin of_branch_what of_what in_branch_line in_stmt_line) body)
 
 -- functions
 

@@ -47,7 +47,7 @@ pub no_two_writers : (p : Resolved) → refusal p ≡ None → HasTwoWriters p �
 no_two_writers p none w =
     let sorts : List Sort = w.function.slots in
     let obeyed : ArePairwiseDisjoint (map (captures sorts) w.branches) =
-    obeys_there sorts (places_in p.functions w.function.body) w.place (Fork w.line w.branches) (obeys_in p.functions p.functions w.number w.function (obeys_unless_refused p none) w.stands) w.forks in
+    obeys_there sorts (places_in p.functions w.function.body) w.place (Fork w.line w.branches) (obeys_in p.functions p.functions w.number w.function (obeys_unless_refused p none) w.at_number) w.forks in
     let one : IsTrue (is_reference (captures sorts w.one w.slot)) = ap is_reference w.by_one in
     let other : IsTrue (is_reference (captures sorts w.other w.slot)) = ap is_reference w.by_other in
     elim (cases_lt w.first w.second) [

@@ -12,7 +12,7 @@ use Rattle.shim_scopes.specs.declared.tree.RWhat.TheVariants as r
 use Rattle.shim_scopes.specs.declared.tree.RBranch.{RBranch, fold-roll-RBranch}
 use Rattle.shim_scopes.specs.declared.tree.RBranchWhat.{RBranchWhat, RBranchWhat-F, fold-roll-RBranchWhat, map-RBranchWhat, roll-RBranchWhat}
 use Rattle.shim_scopes.specs.declared.tree.RBranchWhat.TheVariants as rb
-use Rattle.shim_units.specs.Sizes.{Extent, plain, declaration, larger, both, apart, variable_extent, expr_counts, expr_size, option_size, call_size, branch_extents, what_extents, branch_what_extent, what_extent, branch_extent, stmt_extent, extent, fork_extent}
+use Rattle.shim_units.specs.Sizes.{Extent, plain, declaration, larger, sum_of_two, in_own_units, variable_extent, expr_counts, expr_size, option_size, call_size, branch_extents, what_extents, branch_what_extent, what_extent, branch_extent, stmt_extent, extent, fork_extent}
 
 pub number_size : (n : ℤ) → expr_size (u.Number n) ≡ 1
 unfolding expr_size roll-UExpr denote.Hole.Carrier.roll
@@ -74,7 +74,7 @@ pub at_put : (x : ℕ) (e : UExpr) → what_extent (r.Put x e) ≡ plain (suc (e
 unfolding roll-RWhat denote.Hole.Carrier.roll
 at_put x e = at_what (RWhat-F.Put x e)
 
-pub at_if : (e : UExpr) (first other : List RStmt) → what_extent (r.If e first other) ≡ larger (suc (expr_size e)) (both (extent first) (extent other))
+pub at_if : (e : UExpr) (first other : List RStmt) → what_extent (r.If e first other) ≡ larger (suc (expr_size e)) (sum_of_two (extent first) (extent other))
 unfolding roll-RWhat denote.Hole.Carrier.roll
 at_if e first other = at_what (RWhat-F.If e first other)
 
@@ -83,7 +83,7 @@ unfolding roll-RWhat denote.Hole.Carrier.roll
 at_while e body = at_what (RWhat-F.While e body)
 
 pub at_for : (first : List RStmt) (test : Option UExpr) (step body : List RStmt)
-    → what_extent (r.For first test step body) ≡ larger (suc (option_size test)) (both (extent first) (both (extent step) (extent body)))
+    → what_extent (r.For first test step body) ≡ larger (suc (option_size test)) (sum_of_two (extent first) (sum_of_two (extent step) (extent body)))
 unfolding roll-RWhat denote.Hole.Carrier.roll
 at_for first test step body = at_what (RWhat-F.For first test step body)
 
@@ -95,7 +95,7 @@ pub at_call : (c : RCall) → what_extent (r.Call c) ≡ plain (call_size c)
 unfolding roll-RWhat denote.Hole.Carrier.roll
 at_call c = at_what (RWhat-F.RWhat::Call c)
 
-pub at_try : (body : List RStmt) (x : ℕ) (y : Option ℕ) (handler : List RStmt) → what_extent (r.Try body x y handler) ≡ larger 1 (both (extent body) (both (variable_extent y) (extent handler)))
+pub at_try : (body : List RStmt) (x : ℕ) (y : Option ℕ) (handler : List RStmt) → what_extent (r.Try body x y handler) ≡ larger 1 (sum_of_two (extent body) (sum_of_two (variable_extent y) (extent handler)))
 unfolding roll-RWhat denote.Hole.Carrier.roll
 at_try body x y handler = at_what (RWhat-F.Try body x y handler)
 
@@ -103,11 +103,11 @@ pub at_throw : (x : ℕ) (e : Option UExpr) → what_extent (r.Throw x e) ≡ pl
 unfolding roll-RWhat denote.Hole.Carrier.roll
 at_throw x e = at_what (RWhat-F.Throw x e)
 
-pub at_par : (branches : List RBranch) → what_extent (r.Par branches) ≡ apart (fork_extent branches)
+pub at_par : (branches : List RBranch) → what_extent (r.Par branches) ≡ in_own_units (fork_extent branches)
 unfolding roll-RWhat denote.Hole.Carrier.roll
 at_par branches = at_what (RWhat-F.Par branches)
 
-pub at_block_branch : (body : List RStmt) → branch_what_extent (rb.Block body) ≡ apart (extent body)
+pub at_block_branch : (body : List RStmt) → branch_what_extent (rb.Block body) ≡ in_own_units (extent body)
 unfolding roll-RBranchWhat denote.Hole.Carrier.roll
 at_block_branch body = at_branch (RBranchWhat-F.RBranchWhat::Block body)
 

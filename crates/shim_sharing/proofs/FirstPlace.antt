@@ -1,4 +1,4 @@
--- What is told is told of the first place that the rule refuses.
+-- The offence that is reported is that of the first place that the rule refuses.
 use Rattle.std.proofs.Common.{◌≡◌, ℕ, List, [], ◌∷◌, Option, Some, None, length, map, refl, ap, inl, inr}
 use Rattle.shim_syntax.specs.declared.tree.Sort.{Sort}
 use Rattle.shim_scopes.specs.declared.tree.RFunction.{RFunction}
@@ -7,7 +7,7 @@ use Rattle.shim_sharing.specs.declared.fault.ShareFault.{ShareFault}
 use Rattle.shim_sharing.specs.declared.fork.Clash.{Clash}
 use Rattle.shim_sharing.specs.declared.found.Offence.{Offence}
 use Rattle.shim_sharing.specs.declared.found.Offence.TheVariants.{TwoWriters, Alias}
-use Rattle.shim_sharing.specs.Laws.{IsToldOf, IsFirstOffence, IsFirstRefusalIn, IsFirstRefusal}
+use Rattle.shim_sharing.specs.Laws.{IsOffenceOf, IsFirstOffence, IsFirstRefusalIn, IsFirstRefusal}
 use Rattle.shim_sharing.specs.Refusals.{share_fault, fault_for, function_refusal, refusal_in, refusal}
 use Rattle.shim_sharing.specs.Sharing.{clash_from, clash_offence, given_again, alias, offence_at, first_offence}
 use Rattle.shim_units.specs.PartFold.{places_in}
@@ -27,12 +27,12 @@ alias_of : (line : ℕ) (found : Option ℕ) (o : Offence) → alias line found 
 alias_of line None o e = cc
 alias_of line (Some x) o e = (x, refl, cc)
 
-told_of : (sorts : List Sort) (p : SharingPlace) (o : Offence) → offence_at sorts p ≡ Some o → IsToldOf sorts p o
-told_of sorts (Fork line branches) o e =
+offence_of : (sorts : List Sort) (p : SharingPlace) (o : Offence) → offence_at sorts p ≡ Some o → IsOffenceOf sorts p o
+offence_of sorts (Fork line branches) o e =
     let w = two_of line (clash_from (length sorts) 0 (map (captures sorts) branches)) o e in
     let least = clash_is_least (length sorts) (map (captures sorts) branches) w.0 w.1 in
     (w.0, w.2, least.0, least.1)
-told_of sorts (Called line gs) o e =
+offence_of sorts (Called line gs) o e =
     let w = alias_of line (given_again [] gs) o e in
     (w.0, w.2, leftmost_alias gs w.0 w.1)
 
@@ -47,10 +47,10 @@ first_place sorts (p ∷ ps) o e =
         before = [];
         place = p;
         after = ps;
-        stands = refl;
+        splits = refl;
         obeyed = tt;
         refused = not_obeyed sorts p o here;
-        is_told = told_of sorts p o here;
+        is_offence = offence_of sorts p o here;
       }
       | inr w ↦
           let h : IsFirstOffence sorts ps o = first_place sorts ps o w.1 in
@@ -58,10 +58,10 @@ first_place sorts (p ∷ ps) o e =
             before = p ∷ h.before;
             place = h.place;
             after = h.after;
-            stands = ap (λ qs. p ∷ qs) h.stands;
+            splits = ap (λ qs. p ∷ qs) h.splits;
             obeyed = (obeys_at sorts p w.0, h.obeyed);
             refused = h.refused;
-            is_told = h.is_told;
+            is_offence = h.is_offence;
           }
     ]
 
@@ -79,7 +79,7 @@ first_in names all (f ∷ fs) fault e =
             before = [];
             function = f;
             after = fs;
-            stands = refl;
+            splits = refl;
             obeyed = tt;
             offence = w.0;
             first = first_place f.slots (places_in all f.body) w.0 w.1;
@@ -91,7 +91,7 @@ first_in names all (f ∷ fs) fault e =
             before = f ∷ h.before;
             function = h.function;
             after = h.after;
-            stands = ap (λ gs. f ∷ gs) h.stands;
+            splits = ap (λ gs. f ∷ gs) h.splits;
             obeyed = (all_obey f.slots (places_in all f.body) (refused_none names f (first_offence f.slots (places_in all f.body)) w.0), h.obeyed);
             offence = h.offence;
             first = h.first;

@@ -32,8 +32,8 @@ pub try_tree : (context : LiftContext) (w : SlotMap) (n : ℕ) (us vs : List Uni
     → r ≡ (lift_in body context w (n + length us)).tree → vs ≡ us ++ (lift_in body context w (n + length us)).units → made ≡ slot_index_of w.exceptions x → slot ≡ slot_index_of_option w.slots y
     → q ≡ (lift_in handler context w (n + length vs)).tree
     → u.Try r made slot q ≡ ((part s).lift context w (n + length us)).tree.what
-try_tree context w n us vs s body x y handler made slot r q kind first behind placed held next =
-    ap (λ t. u.Try r t slot q) placed ∙ ap (λ t. u.Try r (slot_index_of w.exceptions x) t q) held
+try_tree context w n us vs s body x y handler made slot r q kind first behind placed indexed next =
+    ap (λ t. u.Try r t slot q) placed ∙ ap (λ t. u.Try r (slot_index_of w.exceptions x) t q) indexed
     ∙ two_tree (λ a b. u.Try a (slot_index_of w.exceptions x) (slot_index_of_option w.slots y) b) (lift_in body) (lift_in handler) context w n us vs r q first behind next
     ∙ sym (ap (λ (p : Part UStmt). (p.lift context w (n + length us)).tree.what) (at_try s body x y handler kind))
 

@@ -7,15 +7,17 @@ use Rattle.shim_scopes.specs.declared.tree.UExpr.TheVariants as e
 use Rattle.shim_scopes.specs.declared.tree.UParam.{UParam}
 use Rattle.shim_scopes.specs.declared.tree.RCall.{RCall}
 use Rattle.shim_scopes.specs.declared.tree.RFunction.{RFunction}
-use Rattle.shim_scopes.specs.declared.tree.RStmt.{RStmt, RStmt-F, fold-roll-RStmt, ind-RStmt, map-RStmt, roll-RStmt}
-use Rattle.shim_scopes.specs.declared.tree.RWhat.{RWhat, RWhat-F, fold-RWhat, fold-roll-RWhat, map-RWhat, roll-RWhat}
-use Rattle.shim_scopes.specs.declared.tree.RBranch.{RBranch, RBranch-F, fold-roll-RBranch, ind-RBranch, map-RBranch, roll-RBranch}
+use Rattle.shim_scopes.specs.declared.tree.RStmt.{RStmt, fold-roll-RStmt}
+use Rattle.shim_scopes.specs.declared.tree.RWhat.{RWhat, RWhat-F, fold-roll-RWhat, map-RWhat, roll-RWhat}
+use Rattle.shim_scopes.specs.declared.tree.RBranch.{RBranch, fold-roll-RBranch}
 use Rattle.shim_scopes.specs.declared.tree.RBranchWhat.{RBranchWhat, RBranchWhat-F, fold-roll-RBranchWhat, map-RBranchWhat, roll-RBranchWhat}
 use Rattle.shim_syntax.specs.Sizes.{sum_of}
+use Rattle.shim_syntax.proofs.FormInduction.{Each, each}
+use Rattle.shim_scopes.proofs.FormInduction.{InBranchWhat, InWhat, each_stmt, each_branch}
 use Rattle.shim_units.specs.declared.unit.Unit.{Unit as UnitOf}
 use Rattle.shim_units.specs.declared.unit.UCall.{UCall}
 use Rattle.shim_units.specs.declared.unit.UStmt.{UStmt}
-use Rattle.shim_units.specs.declared.unit.UWhat.{UWhat}
+use Rattle.shim_units.specs.declared.unit.UWhat.{UWhat, UWhat-F, roll-UWhat}
 use Rattle.shim_units.specs.declared.unit.UWhat.TheVariants.{Declare, Assign, Next, NextAssign, AssignNext, Get, Put, If, While, For, Block, Call, Try, Throw, Par}
 use Rattle.shim_units.specs.declared.unit.UBranch.{UBranch}
 use Rattle.shim_units.specs.declared.slot_map.SlotMap.{SlotMap}
@@ -26,12 +28,12 @@ use Rattle.shim_units.specs.Captures.{Captures, is_reference, is_taken}
 use Rattle.shim_units.specs.Own.{some_slot}
 use Rattle.shim_units.specs.Lifting.{lift_all, unlifted, on_tree, lift_two, lift_three, branch_arg, branch_param, branch_captures, branch_slots, branch_inner, lift_branch}
 use Rattle.shim_units.specs.PartFold.{branch_what_step, what_step, branch_step, stmt_step, in_line, part, parts, branch_part, branch_parts}
-use Rattle.shim_units.specs.Sizes.{Extent, plain, declaration, larger, both, apart, variable_extent, slot_size, expr_size, option_size, call_size, branch_extents, what_extents, branch_what_extent, what_extent, branch_extent, stmt_extent, extent, fork_extent, arg_size, args_size, unit_call_size, units_size, units_points}
+use Rattle.shim_units.specs.Sizes.{Extent, plain, declaration, larger, sum_of_two, in_own_units, variable_extent, slot_size, expr_size, option_size, call_size, branch_extents, what_extents, branch_what_extent, what_extent, branch_extent, stmt_extent, extent, fork_extent, arg_size, args_size, unit_call_size, units_size, units_points}
 use Rattle.shim_sharing.proofs.ForkSizes.{ForksWithin, forks_fewer, forks_of_both, uses_of_each}
 use Rattle.shim_sharing.proofs.ExtentSteps as steps
 use Rattle.shim_sharing.proofs.ExtentSteps.{number_size, variable_size, unary_size, binary_size}
-use Rattle.shim_sharing.proofs.UnitSteps.{Measure, measure_what, measure_stmt, measure, measure_call, measure_branch, measure_fork, of_line, at_declare, at_assign, at_next, at_next_assign, at_assign_next, at_get, at_put, at_if, at_while, at_for, at_block, at_call, at_try, at_throw, at_par}
-use Rattle.shim_units.proofs.PartSteps.{branch_what_part}
+use Rattle.shim_sharing.proofs.UnitSteps.{Measure, measure_what, measure_stmt, measure, measure_call, measure_branch, measure_fork, of_line, at_what}
+use Rattle.shim_units.proofs.PartSteps.{branch_what_part, what_part}
 
 -- an expression keeps its size
 
@@ -153,7 +155,7 @@ around m k x z c d g f points size h long forked l = record {
 -- two, one after the other
 two : {R S T : Type 0} (m : R → Measure) (o : S → Measure) (k : T → Measure) (x y : Extent) (c : ℕ) (g : SlotMap → R → S → T) (f : Lifts R) (h : Lifts S)
     → ((w : SlotMap) (r : R) (s : S) → (k (g w r s)).points ≤ c + ((m r).points + (o s).points)) → ((w : SlotMap) (r : R) (s : S) → (k (g w r s)).size ≤ c + ((m r).size + (o s).size))
-    → LiftsWithin m x f → LiftsWithin o y h → LiftsWithin k (larger c (both x y)) (λ context w n. lift_two (g w) f h context w n)
+    → LiftsWithin m x f → LiftsWithin o y h → LiftsWithin k (larger c (sum_of_two x y)) (λ context w n. lift_two (g w) f h context w n)
 two m o k x y c g f h points size a b = record {
   points = λ context w n.
       let r = f context w n in
@@ -169,7 +171,7 @@ two m o k x y c g f h points size a b = record {
 three : {Q R S T : Type 0} (l : Q → Measure) (m : R → Measure) (o : S → Measure) (k : T → Measure) (v x y : Extent) (c : ℕ) (g : SlotMap → Q → R → S → T) (e : Lifts Q) (f : Lifts R) (h : Lifts S)
     → ((w : SlotMap) (q : Q) (r : R) (s : S) → (k (g w q r s)).points ≤ c + ((l q).points + ((m r).points + (o s).points)))
     → ((w : SlotMap) (q : Q) (r : R) (s : S) → (k (g w q r s)).size ≤ c + ((l q).size + ((m r).size + (o s).size)))
-    → LiftsWithin l v e → LiftsWithin m x f → LiftsWithin o y h → LiftsWithin k (larger c (both v (both x y))) (λ context w n. lift_three (g w) e f h context w n)
+    → LiftsWithin l v e → LiftsWithin m x f → LiftsWithin o y h → LiftsWithin k (larger c (sum_of_two v (sum_of_two x y))) (λ context w n. lift_three (g w) e f h context w n)
 three l m o k v x y c g e f h points size a b d = record {
   points = λ context w n.
       let p = e context w n in
@@ -215,14 +217,14 @@ no_parts m h = record { declares = omega arith; slots = omega arith; tries = ome
 
 more_parts : {T : Type 0} (m : T → Measure) (ms : List T → Measure) (x y : Extent) (p : Part T) (ps : List (Part T))
     → ((t : T) (ts : List T) → (ms (t ∷ ts)).points ≤ (m t).points + (ms ts).points) → ((t : T) (ts : List T) → (ms (t ∷ ts)).size ≤ (m t).size + (ms ts).size)
-    → PartWithin m x p → PartsWithin ms y ps → PartsWithin ms (both x y) (p ∷ ps)
+    → PartWithin m x p → PartsWithin ms y ps → PartsWithin ms (sum_of_two x y) (p ∷ ps)
 more_parts m ms x y p ps points size one rest = record {
   declares = omega (arith, one.declares, rest.declares, length-append p.declares (all_declares ps));
   slots = omega (arith, one.slots, rest.slots);
   tries = omega (arith, one.tries, rest.tries, length-append p.tries (all_tries ps));
   some = omega (arith, one.some, rest.some);
   forks = λ fs. forks_of_both x.size y.size _ (p.places fs) (all_places fs ps) (omega arith) (omega arith) (one.forks fs) (rest.forks fs);
-  lifts = as_large ms (larger 0 (both x y)) (both x y) (lift_all (p ∷ ps)) (omega arith) (omega arith)
+  lifts = as_large ms (larger 0 (sum_of_two x y)) (sum_of_two x y) (lift_all (p ∷ ps)) (omega arith) (omega arith)
       (two m ms ms x y 0 (λ w t ts. t ∷ ts) p.lift (lift_all ps) (λ w t ts. omega (arith, points t ts)) (λ w t ts. omega (arith, size t ts)) one.lifts rest.lifts);
 }
 
@@ -235,7 +237,7 @@ given_size : (around : List ℕ) (t : Captures) (slots : List ℕ) → args_size
 given_size around t [] = omega arith
 given_size around t (x ∷ slots) = omega (arith, by_mode_size (is_reference (t x)) (slot_index_of around x), given_size around t slots)
 
-block_branch : (x : Extent) (body : List (Part UStmt)) → PartsWithin measure x body → LiftsWithin measure_call (apart x) (lift_branch body)
+block_branch : (x : Extent) (body : List (Part UStmt)) → PartsWithin measure x body → LiftsWithin measure_call (in_own_units x) (lift_branch body)
 block_branch x body k = record {
   points = λ context w n. omega (arith, k.lifts.points context (branch_inner context body w) (n + 1));
   size = λ context w n few.
@@ -255,67 +257,40 @@ block_branch x body k = record {
 
 -- the kinds of statements and branches
 
-abbrev what_part : RWhat → ℕ → Part UWhat
-what_part = fold-RWhat (ℕ → Part UCall) (ℕ → Part UWhat) (Part UBranch) (Part UStmt) branch_what_step what_step branch_step stmt_step
-
 abbrev BranchWhatFits : Extent → (ℕ → Part UCall) → Type 0
 BranchWhatFits x p = (line : ℕ) → PartWithin measure_call x (p line)
 
 abbrev WhatFits : Extent → (ℕ → Part UWhat) → Type 0
 WhatFits x p = (line : ℕ) → PartWithin measure_what x (p line)
 
-abbrev SmallBranchWhat : Type 0
-SmallBranchWhat = (x : RBranchWhat) × BranchWhatFits (branch_what_extent x) (branch_what_part x)
+abbrev BranchFits : RBranch → Type 0
+BranchFits b = PartWithin measure_branch (branch_extent b) (branch_part b)
 
-abbrev SmallWhat : Type 0
-SmallWhat = (x : RWhat) × WhatFits (what_extent x) (what_part x)
+abbrev StmtFits : RStmt → Type 0
+StmtFits s = PartWithin measure_stmt (stmt_extent s) (part s)
 
-abbrev SmallBranch : Type 0
-SmallBranch = (b : RBranch) × PartWithin measure_branch (branch_extent b) (branch_part b)
+stmts_within : (body : List RStmt) → Each StmtFits body → PartsWithin measure (extent body) (parts body)
+stmts_within [] h = no_parts measure (record { size = omega arith; points = omega arith })
+stmts_within (s ∷ body) h = more_parts measure_stmt measure (stmt_extent s) (extent body) (part s) (parts body) (λ t ts. omega arith) (λ t ts. omega arith) h.0 (stmts_within body h.1)
 
-abbrev SmallStmt : Type 0
-SmallStmt = (s : RStmt) × PartWithin measure_stmt (stmt_extent s) (part s)
+branches_within : (bs : List RBranch) → Each BranchFits bs → PartsWithin measure_fork (fork_extent bs) (branch_parts bs)
+branches_within [] h = no_parts measure_fork (record { size = omega arith; points = omega arith })
+branches_within (b ∷ bs) h = more_parts measure_branch measure_fork (branch_extent b) (fork_extent bs) (branch_part b) (branch_parts bs) (λ t ts. omega arith) (λ t ts. omega arith) h.0 (branches_within bs h.1)
 
-abbrev stmts : List SmallStmt → List RStmt
-stmts ys = map (λ (e : SmallStmt). e.0) ys
-
-abbrev branches : List SmallBranch → List RBranch
-branches ys = map (λ (e : SmallBranch). e.0) ys
-
-stmts_within : (ys : List SmallStmt) → PartsWithin measure (extent (stmts ys)) (parts (stmts ys))
-stmts_within [] = no_parts measure (record { size = omega arith; points = omega arith })
-stmts_within (y ∷ ys) = more_parts measure_stmt measure (stmt_extent y.0) (extent (stmts ys)) (part y.0) (parts (stmts ys)) (λ t ts. omega arith) (λ t ts. omega arith) y.1 (stmts_within ys)
-
-branches_within : (ys : List SmallBranch) → PartsWithin measure_fork (fork_extent (branches ys)) (branch_parts (branches ys))
-branches_within [] = no_parts measure_fork (record { size = omega arith; points = omega arith })
-branches_within (y ∷ ys) = more_parts measure_branch measure_fork (branch_extent y.0) (fork_extent (branches ys)) (branch_part y.0) (branch_parts (branches ys)) (λ t ts. omega arith) (λ t ts. omega arith) y.1 (branches_within ys)
-
-abbrev branch_what_of : RBranchWhat-F SmallBranchWhat SmallWhat SmallBranch SmallStmt → RBranchWhat-F RBranchWhat RWhat RBranch RStmt
-branch_what_of y = map-RBranchWhat SmallBranchWhat SmallWhat SmallBranch SmallStmt RBranchWhat RWhat RBranch RStmt (λ e. e.0) (λ e. e.0) (λ e. e.0) (λ e. e.0) y
-
-abbrev what_of : RWhat-F SmallBranchWhat SmallWhat SmallBranch SmallStmt → RWhat-F RBranchWhat RWhat RBranch RStmt
-what_of y = map-RWhat SmallBranchWhat SmallWhat SmallBranch SmallStmt RBranchWhat RWhat RBranch RStmt (λ e. e.0) (λ e. e.0) (λ e. e.0) (λ e. e.0) y
-
-abbrev branch_of : RBranch-F SmallBranchWhat SmallWhat SmallBranch SmallStmt → RBranch-F RBranchWhat RWhat RBranch RStmt
-branch_of y = map-RBranch SmallBranchWhat SmallWhat SmallBranch SmallStmt RBranchWhat RWhat RBranch RStmt (λ e. e.0) (λ e. e.0) (λ e. e.0) (λ e. e.0) y
-
-abbrev stmt_of : RStmt-F SmallBranchWhat SmallWhat SmallBranch SmallStmt → RStmt-F RBranchWhat RWhat RBranch RStmt
-stmt_of y = map-RStmt SmallBranchWhat SmallWhat SmallBranch SmallStmt RBranchWhat RWhat RBranch RStmt (λ e. e.0) (λ e. e.0) (λ e. e.0) (λ e. e.0) y
-
-branch_what_layer : (y : RBranchWhat-F SmallBranchWhat SmallWhat SmallBranch SmallStmt)
-    → BranchWhatFits (branch_extents (map-RBranchWhat RBranchWhat RWhat RBranch RStmt Extent Extent Extent Extent branch_what_extent what_extent branch_extent stmt_extent (branch_what_of y)))
-    (branch_what_step (map-RBranchWhat RBranchWhat RWhat RBranch RStmt (ℕ → Part UCall) (ℕ → Part UWhat) (Part UBranch) (Part UStmt) branch_what_part what_part branch_part part (branch_what_of y)))
-branch_what_layer (RBranchWhat-F.RBranchWhat::Block body) line =
-    let one = stmts_within body in
+branch_what_layer : (y : RBranchWhat-F RBranchWhat RWhat RBranch RStmt) → InBranchWhat StmtFits y
+    → BranchWhatFits (branch_extents (map-RBranchWhat RBranchWhat RWhat RBranch RStmt Extent Extent Extent Extent branch_what_extent what_extent branch_extent stmt_extent y))
+    (branch_what_step (map-RBranchWhat RBranchWhat RWhat RBranch RStmt (ℕ → Part UCall) (ℕ → Part UWhat) (Part UBranch) (Part UStmt) branch_what_part what_part branch_part part y))
+branch_what_layer (RBranchWhat-F.RBranchWhat::Block body) h line =
+    let one = stmts_within body h in
     record {
       declares = omega arith;
       slots = omega arith;
       tries = omega arith;
       some = omega arith;
-      forks = λ fs. forks_fewer (extent (stmts body)).size _ (all_places fs (parts (stmts body))) (omega arith) (one.forks fs);
+      forks = λ fs. forks_fewer (extent body).size _ (all_places fs (parts body)) (omega arith) (one.forks fs);
       lifts = block_branch _ _ one;
     }
-branch_what_layer (RBranchWhat-F.RBranchWhat::Call c) line = record {
+branch_what_layer (RBranchWhat-F.RBranchWhat::Call c) h line = record {
   declares = omega arith;
   slots = omega arith;
   tries = omega arith;
@@ -335,108 +310,109 @@ of_variable : (y : Option ℕ) → OfVariable y
 of_variable None = record { size = refl; own = refl; slots = omega arith; forked = refl }
 of_variable (Some x) = record { size = refl; own = refl; slots = omega arith; forked = refl }
 
-what_layer : (y : RWhat-F SmallBranchWhat SmallWhat SmallBranch SmallStmt)
-    → WhatFits (what_extents (map-RWhat RBranchWhat RWhat RBranch RStmt Extent Extent Extent Extent branch_what_extent what_extent branch_extent stmt_extent (what_of y)))
-    (what_step (map-RWhat RBranchWhat RWhat RBranch RStmt (ℕ → Part UCall) (ℕ → Part UWhat) (Part UBranch) (Part UStmt) branch_what_part what_part branch_part part (what_of y)))
-what_layer (RWhat-F.Declare ty x a) line = record {
+what_layer : (y : RWhat-F RBranchWhat RWhat RBranch RStmt) → InWhat BranchFits StmtFits y
+    → WhatFits (what_extents (map-RWhat RBranchWhat RWhat RBranch RStmt Extent Extent Extent Extent branch_what_extent what_extent branch_extent stmt_extent y))
+    (what_step (map-RWhat RBranchWhat RWhat RBranch RStmt (ℕ → Part UCall) (ℕ → Part UWhat) (Part UBranch) (Part UStmt) branch_what_part what_part branch_part part y))
+unfolding roll-UWhat denote.Hole.Carrier.roll
+what_layer (RWhat-F.Declare ty x a) h line = record {
   declares = omega arith;
   slots = omega arith;
   tries = omega arith;
   some = omega arith;
   forks = λ fs. tt;
   lifts = alone measure_what (declaration (suc (option_size a))) (λ context w. Declare ty (slot_index_of w.slots x) (moved_option w.slots a))
-      (λ context w. is_small _ _ _ (at_declare ty (slot_index_of w.slots x) (moved_option w.slots a)) (omega (arith, moved_option_size w.slots a)) (omega arith));
+      (λ context w. is_small _ _ _ (at_what (UWhat-F.Declare ty (slot_index_of w.slots x) (moved_option w.slots a))) (omega (arith, moved_option_size w.slots a)) (omega arith));
 }
-what_layer (RWhat-F.Assign x a) line = record {
+what_layer (RWhat-F.Assign x a) h line = record {
   declares = omega arith;
   slots = omega arith;
   tries = omega arith;
   some = omega arith;
   forks = λ fs. tt;
   lifts = alone measure_what (plain (suc (expr_size a))) (λ context w. Assign (slot_index_of w.slots x) (renumbered w.slots a))
-      (λ context w. is_small _ _ _ (at_assign (slot_index_of w.slots x) (renumbered w.slots a)) (omega (arith, (kept a).same w.slots)) (omega arith));
+      (λ context w. is_small _ _ _ (at_what (UWhat-F.Assign (slot_index_of w.slots x) (renumbered w.slots a))) (omega (arith, (kept a).same w.slots)) (omega arith));
 }
-what_layer (RWhat-F.Next x) line = record {
+what_layer (RWhat-F.Next x) h line = record {
   declares = omega arith;
   slots = omega arith;
   tries = omega arith;
   some = omega arith;
   forks = λ fs. tt;
-  lifts = alone measure_what (plain 1) (λ context w. Next (slot_index_of w.slots x)) (λ context w. is_small _ _ _ (at_next (slot_index_of w.slots x)) (omega arith) (omega arith));
+  lifts = alone measure_what (plain 1) (λ context w. Next (slot_index_of w.slots x)) (λ context w. is_small _ _ _ (at_what (UWhat-F.Next (slot_index_of w.slots x))) (omega arith) (omega arith));
 }
-what_layer (RWhat-F.NextAssign x a) line = record {
+what_layer (RWhat-F.NextAssign x a) h line = record {
   declares = omega arith;
   slots = omega arith;
   tries = omega arith;
   some = omega arith;
   forks = λ fs. tt;
   lifts = alone measure_what (plain (suc (expr_size a))) (λ context w. NextAssign (slot_index_of w.slots x) (renumbered w.slots a))
-      (λ context w. is_small _ _ _ (at_next_assign (slot_index_of w.slots x) (renumbered w.slots a)) (omega (arith, (kept a).same w.slots)) (omega arith));
+      (λ context w. is_small _ _ _ (at_what (UWhat-F.NextAssign (slot_index_of w.slots x) (renumbered w.slots a))) (omega (arith, (kept a).same w.slots)) (omega arith));
 }
-what_layer (RWhat-F.AssignNext x y) line = record {
+what_layer (RWhat-F.AssignNext x y) h line = record {
   declares = omega arith;
   slots = omega arith;
   tries = omega arith;
   some = omega arith;
   forks = λ fs. tt;
-  lifts = alone measure_what (plain 2) (λ context w. AssignNext (slot_index_of w.slots x) (slot_index_of w.slots y)) (λ context w. is_small _ _ _ (at_assign_next (slot_index_of w.slots x) (slot_index_of w.slots y)) (omega arith) (omega arith));
+  lifts = alone measure_what (plain 2) (λ context w. AssignNext (slot_index_of w.slots x) (slot_index_of w.slots y)) (λ context w. is_small _ _ _ (at_what (UWhat-F.AssignNext (slot_index_of w.slots x) (slot_index_of w.slots y))) (omega arith) (omega arith));
 }
-what_layer (RWhat-F.Get x y) line = record {
+what_layer (RWhat-F.Get x y) h line = record {
   declares = omega arith;
   slots = omega arith;
   tries = omega arith;
   some = omega arith;
   forks = λ fs. tt;
-  lifts = alone measure_what (plain 2) (λ context w. Get (slot_index_of w.slots x) (slot_index_of w.slots y)) (λ context w. is_small _ _ _ (at_get (slot_index_of w.slots x) (slot_index_of w.slots y)) (omega arith) (omega arith));
+  lifts = alone measure_what (plain 2) (λ context w. Get (slot_index_of w.slots x) (slot_index_of w.slots y)) (λ context w. is_small _ _ _ (at_what (UWhat-F.Get (slot_index_of w.slots x) (slot_index_of w.slots y))) (omega arith) (omega arith));
 }
-what_layer (RWhat-F.Put x a) line = record {
+what_layer (RWhat-F.Put x a) h line = record {
   declares = omega arith;
   slots = omega arith;
   tries = omega arith;
   some = omega arith;
   forks = λ fs. tt;
   lifts = alone measure_what (plain (suc (expr_size a))) (λ context w. Put (slot_index_of w.slots x) (renumbered w.slots a))
-      (λ context w. is_small _ _ _ (at_put (slot_index_of w.slots x) (renumbered w.slots a)) (omega (arith, (kept a).same w.slots)) (omega arith));
+      (λ context w. is_small _ _ _ (at_what (UWhat-F.Put (slot_index_of w.slots x) (renumbered w.slots a))) (omega (arith, (kept a).same w.slots)) (omega arith));
 }
-what_layer (RWhat-F.If a first other) line =
-    let one = stmts_within first in
-    let rest = stmts_within other in
+what_layer (RWhat-F.If a first other) h line =
+    let one = stmts_within first h.0 in
+    let rest = stmts_within other h.1 in
     record {
-      declares = omega (arith, one.declares, rest.declares, length-append (all_declares (parts (stmts first))) (all_declares (parts (stmts other))));
+      declares = omega (arith, one.declares, rest.declares, length-append (all_declares (parts first)) (all_declares (parts other)));
       slots = omega (arith, one.slots, rest.slots);
-      tries = omega (arith, one.tries, rest.tries, length-append (all_tries (parts (stmts first))) (all_tries (parts (stmts other))));
+      tries = omega (arith, one.tries, rest.tries, length-append (all_tries (parts first)) (all_tries (parts other)));
       some = omega arith;
-      forks = λ fs. forks_of_both (extent (stmts first)).size (extent (stmts other)).size _ (all_places fs (parts (stmts first))) (all_places fs (parts (stmts other))) (omega arith) (omega arith) (one.forks fs) (rest.forks fs);
-      lifts = two measure measure measure_what (extent (stmts first)) (extent (stmts other)) (suc (expr_size a)) (λ w r s. If (renumbered w.slots a) r s) (lift_all (parts (stmts first))) (lift_all (parts (stmts other)))
-          (λ w r s. omega (arith, ap (λ (z : Measure). z.points) (at_if (renumbered w.slots a) r s)))
-          (λ w r s. omega (arith, (kept a).same w.slots, ap (λ (z : Measure). z.size) (at_if (renumbered w.slots a) r s)))
+      forks = λ fs. forks_of_both (extent first).size (extent other).size _ (all_places fs (parts first)) (all_places fs (parts other)) (omega arith) (omega arith) (one.forks fs) (rest.forks fs);
+      lifts = two measure measure measure_what (extent first) (extent other) (suc (expr_size a)) (λ w r s. If (renumbered w.slots a) r s) (lift_all (parts first)) (lift_all (parts other))
+          (λ w r s. omega (arith, ap (λ (z : Measure). z.points) (at_what (UWhat-F.If (renumbered w.slots a) r s))))
+          (λ w r s. omega (arith, (kept a).same w.slots, ap (λ (z : Measure). z.size) (at_what (UWhat-F.If (renumbered w.slots a) r s))))
           one.lifts rest.lifts;
     }
-what_layer (RWhat-F.While a body) line =
-    let one = stmts_within body in
+what_layer (RWhat-F.While a body) h line =
+    let one = stmts_within body h in
     record {
       declares = one.declares;
       slots = omega (arith, one.slots);
       tries = omega (arith, one.tries);
       some = omega arith;
-      forks = λ fs. forks_fewer (extent (stmts body)).size _ (all_places fs (parts (stmts body))) (omega arith) (one.forks fs);
-      lifts = around measure measure_what (extent (stmts body)) (larger (suc (expr_size a)) (extent (stmts body))) (suc (expr_size a)) 1 (λ w s. While (renumbered w.slots a) s) (lift_all (parts (stmts body)))
-          (λ w s. omega (arith, ap (λ (z : Measure). z.points) (at_while (renumbered w.slots a) s)))
-          (λ w s. omega (arith, (kept a).same w.slots, ap (λ (z : Measure). z.size) (at_while (renumbered w.slots a) s)))
+      forks = λ fs. forks_fewer (extent body).size _ (all_places fs (parts body)) (omega arith) (one.forks fs);
+      lifts = around measure measure_what (extent body) (larger (suc (expr_size a)) (extent body)) (suc (expr_size a)) 1 (λ w s. While (renumbered w.slots a) s) (lift_all (parts body))
+          (λ w s. omega (arith, ap (λ (z : Measure). z.points) (at_what (UWhat-F.While (renumbered w.slots a) s))))
+          (λ w s. omega (arith, (kept a).same w.slots, ap (λ (z : Measure). z.size) (at_what (UWhat-F.While (renumbered w.slots a) s))))
           (omega arith) (omega arith) (omega arith) one.lifts;
     }
-what_layer (RWhat-F.For first test step body) line =
-    let one = stmts_within first in
-    let next = stmts_within step in
-    let rest = stmts_within body in
+what_layer (RWhat-F.For first test step body) h line =
+    let one = stmts_within first h.0 in
+    let next = stmts_within step h.1 in
+    let rest = stmts_within body h.2 in
     record {
       declares = omega (
         arith,
         one.declares,
         next.declares,
         rest.declares,
-        length-append (all_declares (parts (stmts first))) (all_declares (parts (stmts step)) ++ all_declares (parts (stmts body))),
-        length-append (all_declares (parts (stmts step))) (all_declares (parts (stmts body))),
+        length-append (all_declares (parts first)) (all_declares (parts step) ++ all_declares (parts body)),
+        length-append (all_declares (parts step)) (all_declares (parts body)),
       );
       slots = omega (arith, one.slots, next.slots, rest.slots);
       tries = omega (
@@ -444,82 +420,82 @@ what_layer (RWhat-F.For first test step body) line =
         one.tries,
         next.tries,
         rest.tries,
-        length-append (all_tries (parts (stmts first))) (all_tries (parts (stmts step)) ++ all_tries (parts (stmts body))),
-        length-append (all_tries (parts (stmts step))) (all_tries (parts (stmts body))),
+        length-append (all_tries (parts first)) (all_tries (parts step) ++ all_tries (parts body)),
+        length-append (all_tries (parts step)) (all_tries (parts body)),
       );
       some = omega arith;
-      forks = λ fs. forks_of_both (extent (stmts first)).size (both (extent (stmts step)) (extent (stmts body))).size _ (all_places fs (parts (stmts first))) (all_places fs (parts (stmts step)) ++ all_places fs (parts (stmts body))) (omega arith) (omega arith) (one.forks fs)
-          (forks_of_both (extent (stmts step)).size (extent (stmts body)).size _ (all_places fs (parts (stmts step))) (all_places fs (parts (stmts body))) (omega arith) (omega arith) (next.forks fs) (rest.forks fs));
-      lifts = three measure measure measure measure_what (extent (stmts first)) (extent (stmts step)) (extent (stmts body)) (suc (option_size test)) (λ w p r s. For p (moved_option w.slots test) r s)
-          (lift_all (parts (stmts first))) (lift_all (parts (stmts step))) (lift_all (parts (stmts body)))
-          (λ w p r s. omega (arith, ap (λ (z : Measure). z.points) (at_for p (moved_option w.slots test) r s)))
-          (λ w p r s. omega (arith, moved_option_size w.slots test, ap (λ (z : Measure). z.size) (at_for p (moved_option w.slots test) r s)))
+      forks = λ fs. forks_of_both (extent first).size (sum_of_two (extent step) (extent body)).size _ (all_places fs (parts first)) (all_places fs (parts step) ++ all_places fs (parts body)) (omega arith) (omega arith) (one.forks fs)
+          (forks_of_both (extent step).size (extent body).size _ (all_places fs (parts step)) (all_places fs (parts body)) (omega arith) (omega arith) (next.forks fs) (rest.forks fs));
+      lifts = three measure measure measure measure_what (extent first) (extent step) (extent body) (suc (option_size test)) (λ w p r s. For p (moved_option w.slots test) r s)
+          (lift_all (parts first)) (lift_all (parts step)) (lift_all (parts body))
+          (λ w p r s. omega (arith, ap (λ (z : Measure). z.points) (at_what (UWhat-F.For p (moved_option w.slots test) r s))))
+          (λ w p r s. omega (arith, moved_option_size w.slots test, ap (λ (z : Measure). z.size) (at_what (UWhat-F.For p (moved_option w.slots test) r s))))
           one.lifts next.lifts rest.lifts;
     }
-what_layer (RWhat-F.RWhat::Block body) line =
-    let one = stmts_within body in
+what_layer (RWhat-F.RWhat::Block body) h line =
+    let one = stmts_within body h in
     record {
       declares = one.declares;
       slots = omega (arith, one.slots);
       tries = omega (arith, one.tries);
       some = omega arith;
-      forks = λ fs. forks_fewer (extent (stmts body)).size _ (all_places fs (parts (stmts body))) (omega arith) (one.forks fs);
-      lifts = around measure measure_what (extent (stmts body)) (larger 1 (extent (stmts body))) 1 1 (λ w s. Block s) (lift_all (parts (stmts body)))
-          (λ w s. omega (arith, ap (λ (z : Measure). z.points) (at_block s))) (λ w s. omega (arith, ap (λ (z : Measure). z.size) (at_block s)))
+      forks = λ fs. forks_fewer (extent body).size _ (all_places fs (parts body)) (omega arith) (one.forks fs);
+      lifts = around measure measure_what (extent body) (larger 1 (extent body)) 1 1 (λ w s. Block s) (lift_all (parts body))
+          (λ w s. omega (arith, ap (λ (z : Measure). z.points) (at_what (UWhat-F.Block s)))) (λ w s. omega (arith, ap (λ (z : Measure). z.size) (at_what (UWhat-F.Block s))))
           (omega arith) (omega arith) (omega arith) one.lifts;
     }
-what_layer (RWhat-F.RWhat::Call c) line = record {
+what_layer (RWhat-F.RWhat::Call c) h line = record {
   declares = omega arith;
   slots = omega arith;
   tries = omega arith;
   some = omega arith;
   forks = λ fs. tt;
   lifts = alone measure_what (plain (call_size c)) (λ context w. Call (moved_call context.functions c w))
-      (λ context w. is_small _ _ _ (at_call (moved_call context.functions c w)) (omega (arith, call_within context.functions c w)) (omega arith));
+      (λ context w. is_small _ _ _ (at_what (UWhat-F.Call (moved_call context.functions c w))) (omega (arith, call_within context.functions c w)) (omega arith));
 }
-what_layer (RWhat-F.Try body x y handler) line =
-    let one = stmts_within body in
+what_layer (RWhat-F.Try body x y handler) h line =
+    let one = stmts_within body h.0 in
     let slot = of_variable y in
-    let rest = stmts_within handler in
+    let rest = stmts_within handler h.1 in
     record {
       declares = omega (
         arith,
         one.declares,
         slot.own,
         rest.declares,
-        length-append (all_declares (parts (stmts body))) (some_slot y ++ all_declares (parts (stmts handler))),
-        length-append (some_slot y) (all_declares (parts (stmts handler))),
+        length-append (all_declares (parts body)) (some_slot y ++ all_declares (parts handler)),
+        length-append (some_slot y) (all_declares (parts handler)),
       );
       slots = omega (arith, one.slots, slot.slots, rest.slots);
-      tries = omega (arith, one.tries, slot.slots, rest.tries, length-append (all_tries (parts (stmts body))) (all_tries (parts (stmts handler))));
+      tries = omega (arith, one.tries, slot.slots, rest.tries, length-append (all_tries (parts body)) (all_tries (parts handler)));
       some = omega arith;
-      forks = λ fs. forks_of_both (extent (stmts body)).size (extent (stmts handler)).size _ (all_places fs (parts (stmts body))) (all_places fs (parts (stmts handler))) (omega arith) (omega arith) (one.forks fs) (rest.forks fs);
-      lifts = as_large measure_what (larger (suc (slot_size y)) (both (extent (stmts body)) (extent (stmts handler)))) _ _ (omega (arith, slot.size)) (omega arith)
-          (two measure measure measure_what (extent (stmts body)) (extent (stmts handler)) (suc (slot_size y)) (λ w r s. Try r (slot_index_of w.exceptions x) (slot_index_of_option w.slots y) s)
-          (lift_all (parts (stmts body))) (lift_all (parts (stmts handler)))
-          (λ w r s. omega (arith, ap (λ (z : Measure). z.points) (at_try r (slot_index_of w.exceptions x) (slot_index_of_option w.slots y) s)))
-          (λ w r s. omega (arith, moved_slot_size w.slots y, ap (λ (z : Measure). z.size) (at_try r (slot_index_of w.exceptions x) (slot_index_of_option w.slots y) s)))
+      forks = λ fs. forks_of_both (extent body).size (extent handler).size _ (all_places fs (parts body)) (all_places fs (parts handler)) (omega arith) (omega arith) (one.forks fs) (rest.forks fs);
+      lifts = as_large measure_what (larger (suc (slot_size y)) (sum_of_two (extent body) (extent handler))) _ _ (omega (arith, slot.size)) (omega arith)
+          (two measure measure measure_what (extent body) (extent handler) (suc (slot_size y)) (λ w r s. Try r (slot_index_of w.exceptions x) (slot_index_of_option w.slots y) s)
+          (lift_all (parts body)) (lift_all (parts handler))
+          (λ w r s. omega (arith, ap (λ (z : Measure). z.points) (at_what (UWhat-F.Try r (slot_index_of w.exceptions x) (slot_index_of_option w.slots y) s))))
+          (λ w r s. omega (arith, moved_slot_size w.slots y, ap (λ (z : Measure). z.size) (at_what (UWhat-F.Try r (slot_index_of w.exceptions x) (slot_index_of_option w.slots y) s))))
           one.lifts rest.lifts);
     }
-what_layer (RWhat-F.Throw x a) line = record {
+what_layer (RWhat-F.Throw x a) h line = record {
   declares = omega arith;
   slots = omega arith;
   tries = omega arith;
   some = omega arith;
   forks = λ fs. tt;
   lifts = alone measure_what (plain (suc (option_size a))) (λ context w. Throw (slot_index_of w.exceptions x) (moved_option w.slots a))
-      (λ context w. is_small _ _ _ (at_throw (slot_index_of w.exceptions x) (moved_option w.slots a)) (omega (arith, moved_option_size w.slots a)) (omega arith));
+      (λ context w. is_small _ _ _ (at_what (UWhat-F.Throw (slot_index_of w.exceptions x) (moved_option w.slots a))) (omega (arith, moved_option_size w.slots a)) (omega arith));
 }
-what_layer (RWhat-F.Par bs) line =
-    let one = branches_within bs in
+what_layer (RWhat-F.Par bs) h line =
+    let one = branches_within bs h in
     record {
       declares = omega arith;
       slots = omega arith;
       tries = omega arith;
       some = omega arith;
-      forks = λ fs. (omega (arith, one.some, uses_of_each fs (branch_parts (branches bs))), forks_fewer (fork_extent (branches bs)).size _ (all_places fs (branch_parts (branches bs))) (omega arith) (one.forks fs));
-      lifts = around measure_fork measure_what (fork_extent (branches bs)) (apart (fork_extent (branches bs))) 1 1 (λ w s. Par s) (lift_all (branch_parts (branches bs)))
-          (λ w s. omega (arith, ap (λ (z : Measure). z.points) (at_par s))) (λ w s. omega (arith, ap (λ (z : Measure). z.size) (at_par s)))
+      forks = λ fs. (omega (arith, one.some, uses_of_each fs (branch_parts bs)), forks_fewer (fork_extent bs).size _ (all_places fs (branch_parts bs)) (omega arith) (one.forks fs));
+      lifts = around measure_fork measure_what (fork_extent bs) (in_own_units (fork_extent bs)) 1 1 (λ w s. Par s) (lift_all (branch_parts bs))
+          (λ w s. omega (arith, ap (λ (z : Measure). z.points) (at_what (UWhat-F.Par s)))) (λ w s. omega (arith, ap (λ (z : Measure). z.size) (at_what (UWhat-F.Par s))))
           (omega arith) (omega arith) (omega arith) one.lifts;
     }
 
@@ -536,49 +512,32 @@ in_its_line m k x y g p same e h = subst (λ z. PartWithin k z (in_line g p)) (s
       (omega arith) (omega arith) (omega arith) h.lifts;
 })
 
-branch_what_case : (x : RBranchWhat-F RBranchWhat RWhat RBranch RStmt) (y : RBranchWhat-F SmallBranchWhat SmallWhat SmallBranch SmallStmt) → branch_what_of y ≡ x
-    → BranchWhatFits (branch_what_extent (roll-RBranchWhat x)) (branch_what_part (roll-RBranchWhat x))
-branch_what_case x y is = subst (λ z. BranchWhatFits (branch_what_extent (roll-RBranchWhat z)) (branch_what_part (roll-RBranchWhat z))) is
-    (subst (λ q. BranchWhatFits (branch_what_extent (roll-RBranchWhat (branch_what_of y))) q)
-    (sym (fold-roll-RBranchWhat (ℕ → Part UCall) (ℕ → Part UWhat) (Part UBranch) (Part UStmt) branch_what_step what_step branch_step stmt_step (branch_what_of y)))
-    (subst (λ e. BranchWhatFits e (branch_what_step (map-RBranchWhat RBranchWhat RWhat RBranch RStmt (ℕ → Part UCall) (ℕ → Part UWhat) (Part UBranch) (Part UStmt) branch_what_part what_part branch_part part (branch_what_of y))))
-    (sym (steps.at_branch (branch_what_of y))) (branch_what_layer y)))
+of_branch_what : (y : RBranchWhat-F RBranchWhat RWhat RBranch RStmt) → InBranchWhat StmtFits y → BranchWhatFits (branch_what_extent (roll-RBranchWhat y)) (branch_what_part (roll-RBranchWhat y))
+of_branch_what y h =
+    subst (λ q. BranchWhatFits (branch_what_extent (roll-RBranchWhat y)) q) (sym (fold-roll-RBranchWhat (ℕ → Part UCall) (ℕ → Part UWhat) (Part UBranch) (Part UStmt) branch_what_step what_step branch_step stmt_step y))
+    (subst (λ e. BranchWhatFits e (branch_what_step (map-RBranchWhat RBranchWhat RWhat RBranch RStmt (ℕ → Part UCall) (ℕ → Part UWhat) (Part UBranch) (Part UStmt) branch_what_part what_part branch_part part y))) (sym (steps.at_branch y)) (branch_what_layer y h))
 
-what_case : (x : RWhat-F RBranchWhat RWhat RBranch RStmt) (y : RWhat-F SmallBranchWhat SmallWhat SmallBranch SmallStmt) → what_of y ≡ x
-    → WhatFits (what_extent (roll-RWhat x)) (what_part (roll-RWhat x))
-what_case x y is = subst (λ z. WhatFits (what_extent (roll-RWhat z)) (what_part (roll-RWhat z))) is
-    (subst (λ q. WhatFits (what_extent (roll-RWhat (what_of y))) q)
-    (sym (fold-roll-RWhat (ℕ → Part UCall) (ℕ → Part UWhat) (Part UBranch) (Part UStmt) branch_what_step what_step branch_step stmt_step (what_of y)))
-    (subst (λ e. WhatFits e (what_step (map-RWhat RBranchWhat RWhat RBranch RStmt (ℕ → Part UCall) (ℕ → Part UWhat) (Part UBranch) (Part UStmt) branch_what_part what_part branch_part part (what_of y))))
-    (sym (steps.at_what (what_of y))) (what_layer y)))
+of_what : (y : RWhat-F RBranchWhat RWhat RBranch RStmt) → InWhat BranchFits StmtFits y → WhatFits (what_extent (roll-RWhat y)) (what_part (roll-RWhat y))
+of_what y h =
+    subst (λ q. WhatFits (what_extent (roll-RWhat y)) q) (sym (fold-roll-RWhat (ℕ → Part UCall) (ℕ → Part UWhat) (Part UBranch) (Part UStmt) branch_what_step what_step branch_step stmt_step y))
+    (subst (λ e. WhatFits e (what_step (map-RWhat RBranchWhat RWhat RBranch RStmt (ℕ → Part UCall) (ℕ → Part UWhat) (Part UBranch) (Part UStmt) branch_what_part what_part branch_part part y))) (sym (steps.at_what y)) (what_layer y h))
 
-branch_case : (x : RBranch-F RBranchWhat RWhat RBranch RStmt) (y : RBranch-F SmallBranchWhat SmallWhat SmallBranch SmallStmt) → branch_of y ≡ x
-    → PartWithin measure_branch (branch_extent (roll-RBranch x)) (branch_part (roll-RBranch x))
-branch_case x y is = subst (λ z. PartWithin measure_branch (branch_extent (roll-RBranch z)) (branch_part (roll-RBranch z))) is
-    (subst (λ q. PartWithin measure_branch (branch_extent (roll-RBranch (branch_of y))) q)
-    (sym (fold-roll-RBranch (ℕ → Part UCall) (ℕ → Part UWhat) (Part UBranch) (Part UStmt) branch_what_step what_step branch_step stmt_step (branch_of y)))
-    (in_its_line measure_call measure_branch _ _ (λ c. record { line = y.line; call = c }) _ (λ c. refl) (steps.of_branch y.line y.what.0) (y.what.1 y.line)))
+of_branch : (line : ℕ) (x : RBranchWhat) → BranchWhatFits (branch_what_extent x) (branch_what_part x) → BranchFits (record { line = line; what = x })
+of_branch line x h = subst (λ q. PartWithin measure_branch (branch_extent (record { line = line; what = x })) q) (sym (fold-roll-RBranch (ℕ → Part UCall) (ℕ → Part UWhat) (Part UBranch) (Part UStmt) branch_what_step what_step branch_step stmt_step (record { line = line; what = x })))
+    (in_its_line measure_call measure_branch _ _ (λ c. record { line = line; call = c }) _ (λ c. refl) (steps.of_branch line x) (h line))
 
-stmt_case : (x : RStmt-F RBranchWhat RWhat RBranch RStmt) (y : RStmt-F SmallBranchWhat SmallWhat SmallBranch SmallStmt) → stmt_of y ≡ x
-    → PartWithin measure_stmt (stmt_extent (roll-RStmt x)) (part (roll-RStmt x))
-stmt_case x y is = subst (λ z. PartWithin measure_stmt (stmt_extent (roll-RStmt z)) (part (roll-RStmt z))) is
-    (subst (λ q. PartWithin measure_stmt (stmt_extent (roll-RStmt (stmt_of y))) q)
-    (sym (fold-roll-RStmt (ℕ → Part UCall) (ℕ → Part UWhat) (Part UBranch) (Part UStmt) branch_what_step what_step branch_step stmt_step (stmt_of y)))
-    (in_its_line measure_what measure_stmt _ _ (λ t. record { line = y.line; what = t }) _ (λ t. of_line y.line t) (steps.of_stmt y.line y.what.0) (y.what.1 y.line)))
+of_stmt : (line : ℕ) (x : RWhat) → WhatFits (what_extent x) (what_part x) → StmtFits (record { line = line; what = x })
+of_stmt line x h = subst (λ q. PartWithin measure_stmt (stmt_extent (record { line = line; what = x })) q) (sym (fold-roll-RStmt (ℕ → Part UCall) (ℕ → Part UWhat) (Part UBranch) (Part UStmt) branch_what_step what_step branch_step stmt_step (record { line = line; what = x })))
+    (in_its_line measure_what measure_stmt _ _ (λ t. record { line = line; what = t }) _ (λ t. of_line line t) (steps.of_stmt line x) (h line))
 
 pub stmt_within : (s : RStmt) → PartWithin measure_stmt (stmt_extent s) (part s)
-stmt_within = ind-RStmt (λ x. BranchWhatFits (branch_what_extent x) (branch_what_part x)) (λ x. WhatFits (what_extent x) (what_part x))
-    (λ b. PartWithin measure_branch (branch_extent b) (branch_part b)) (λ s. PartWithin measure_stmt (stmt_extent s) (part s)) branch_what_case what_case branch_case stmt_case
+stmt_within = each_stmt (λ x. BranchWhatFits (branch_what_extent x) (branch_what_part x)) (λ x. WhatFits (what_extent x) (what_part x)) BranchFits StmtFits of_branch_what of_what of_branch of_stmt
 
 pub body_within : (body : List RStmt) → PartsWithin measure (extent body) (parts body)
-body_within [] = no_parts measure (record { size = omega arith; points = omega arith })
-body_within (s ∷ body) = more_parts measure_stmt measure (stmt_extent s) (extent body) (part s) (parts body) (λ t ts. omega arith) (λ t ts. omega arith) (stmt_within s) (body_within body)
+body_within body = stmts_within body (each StmtFits stmt_within body)
 
 pub branch_slot_map : (b : RBranch) → PartWithin measure_branch (branch_extent b) (branch_part b)
-branch_slot_map = ind-RBranch (λ x. BranchWhatFits (branch_what_extent x) (branch_what_part x)) (λ x. WhatFits (what_extent x) (what_part x))
-    (λ b. PartWithin measure_branch (branch_extent b) (branch_part b)) (λ s. PartWithin measure_stmt (stmt_extent s) (part s)) branch_what_case what_case branch_case stmt_case
+branch_slot_map = each_branch (λ x. BranchWhatFits (branch_what_extent x) (branch_what_part x)) (λ x. WhatFits (what_extent x) (what_part x)) BranchFits StmtFits of_branch_what of_what of_branch of_stmt
 
-pub fork_within : (branches : List RBranch) → PartsWithin measure_fork (fork_extent branches) (branch_parts branches)
-fork_within [] = no_parts measure_fork (record { size = omega arith; points = omega arith })
-fork_within (b ∷ branches) =
-    more_parts measure_branch measure_fork (branch_extent b) (fork_extent branches) (branch_part b) (branch_parts branches) (λ t ts. omega arith) (λ t ts. omega arith) (branch_slot_map b) (fork_within branches)
+pub fork_within : (bs : List RBranch) → PartsWithin measure_fork (fork_extent bs) (branch_parts bs)
+fork_within bs = branches_within bs (each BranchFits branch_slot_map bs)

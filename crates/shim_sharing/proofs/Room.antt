@@ -14,7 +14,7 @@ use Rattle.shim_units.specs.PartFold.{part, parts, branch_part, lift_in}
 use Rattle.shim_units.specs.BranchCapturing.{IsBranchCaptures}
 use Rattle.shim_units.specs.Parts.{LiftContext, all_raises, all_declares, all_tries}
 use Rattle.shim_sharing.specs.Room.{HasRoomToLift, FunctionHasRoom, FunctionsHaveRoom}
-use Rattle.shim_units.specs.Sizes.{Extent, larger, both, apart, variable_extent, what_extent, stmt_extent, branch_extent, extent, fork_extent}
+use Rattle.shim_units.specs.Sizes.{Extent, larger, sum_of_two, in_own_units, variable_extent, what_extent, stmt_extent, branch_extent, extent, fork_extent}
 use Rattle.shim_units.specs.Captures.{is_taken}
 use Rattle.shim_units.specs.Units.{upto, function_slot_map, lift_function, lift_functions}
 use Rattle.shim_sharing.proofs.ExtentSteps.{of_stmt, at_if, at_for, at_try, at_par}
@@ -25,14 +25,14 @@ use Rattle.shim_units.proofs.Counting.{upto_length}
 room_for_less : (w : SlotMap) (k n : ℕ) (x y : Extent) → y.inside ≤ x.inside → k + y.size ≤ n + x.size → HasRoomToLift w n x → HasRoomToLift w k y
 room_for_less w k n x y inside size h = record { slots = omega (arith, inside, h.slots); exceptions = omega (arith, inside, h.exceptions); units = omega (arith, size, h.units) }
 
-first_part : (w : SlotMap) (n : ℕ) (x y : Extent) → HasRoomToLift w n (both x y) → HasRoomToLift w n x
-first_part w n x y h = room_for_less w n n (both x y) x (omega arith) (omega arith) h
+first_part : (w : SlotMap) (n : ℕ) (x y : Extent) → HasRoomToLift w n (sum_of_two x y) → HasRoomToLift w n x
+first_part w n x y h = room_for_less w n n (sum_of_two x y) x (omega arith) (omega arith) h
 
-second_part : (w : SlotMap) (n : ℕ) (x y : Extent) → HasRoomToLift w n (both x y) → HasRoomToLift w n y
-second_part w n x y h = room_for_less w n n (both x y) y (omega arith) (omega arith) h
+second_part : (w : SlotMap) (n : ℕ) (x y : Extent) → HasRoomToLift w n (sum_of_two x y) → HasRoomToLift w n y
+second_part w n x y h = room_for_less w n n (sum_of_two x y) y (omega arith) (omega arith) h
 
-behind : (w : SlotMap) (n : ℕ) (us vs xs : List UnitOf) (x y : Extent) → vs ≡ us ++ xs → length xs ≤ x.size → HasRoomToLift w (n + length us) (both x y) → HasRoomToLift w (n + length vs) y
-behind w n us vs xs x y is few h = room_for_less w (n + length vs) (n + length us) (both x y) y (omega arith) (omega (arith, few, ap (λ (l : List UnitOf). length l) is, length-append us xs)) h
+behind : (w : SlotMap) (n : ℕ) (us vs xs : List UnitOf) (x y : Extent) → vs ≡ us ++ xs → length xs ≤ x.size → HasRoomToLift w (n + length us) (sum_of_two x y) → HasRoomToLift w (n + length vs) y
+behind w n us vs xs x y is few h = room_for_less w (n + length vs) (n + length us) (sum_of_two x y) y (omega arith) (omega (arith, few, ap (λ (l : List UnitOf). length l) is, length-append us xs)) h
 
 what_in : (w : SlotMap) (n c : ℕ) (s : RStmt) (t : RWhat) (x : Extent) → s.what ≡ t → what_extent t ≡ larger c x → HasRoomToLift w n (stmt_extent s) → HasRoomToLift w n x
 what_in w n c s t x is at h = room_for_less w n n (larger c x) x (omega arith) (omega arith) (subst (λ e. HasRoomToLift w n e) (of_stmt s.line s.what ∙ ap what_extent is ∙ at) h)
@@ -43,20 +43,20 @@ units_of_body context w n body = omega (arith, (body_within body).lifts.points c
 pub room_for_other : (context : LiftContext) (w : SlotMap) (n : ℕ) (us vs : List UnitOf) (s : RStmt) (e : UExpr) (first other : List RStmt) → s.what ≡ r.If e first other
     → vs ≡ us ++ (lift_in first context w (n + length us)).units → HasRoomToLift w (n + length us) (stmt_extent s) → HasRoomToLift w (n + length vs) (extent other)
 room_for_other context w n us vs s e first other kind made h =
-    behind w n us vs _ (extent first) (extent other) made (units_of_body context w (n + length us) first) (what_in w (n + length us) _ s _ (both (extent first) (extent other)) kind (at_if e first other) h)
+    behind w n us vs _ (extent first) (extent other) made (units_of_body context w (n + length us) first) (what_in w (n + length us) _ s _ (sum_of_two (extent first) (extent other)) kind (at_if e first other) h)
 
 pub room_for_handler : (context : LiftContext) (w : SlotMap) (n : ℕ) (us vs : List UnitOf) (s : RStmt) (body : List RStmt) (x : ℕ) (y : Option ℕ) (handler : List RStmt) → s.what ≡ r.Try body x y handler
     → vs ≡ us ++ (lift_in body context w (n + length us)).units → HasRoomToLift w (n + length us) (stmt_extent s) → HasRoomToLift w (n + length vs) (extent handler)
 room_for_handler context w n us vs s body x y handler kind made h =
     second_part w (n + length vs) (variable_extent y) (extent handler)
-    (behind w n us vs _ (extent body) (both (variable_extent y) (extent handler)) made (units_of_body context w (n + length us) body)
-    (what_in w (n + length us) _ s _ (both (extent body) (both (variable_extent y) (extent handler))) kind (at_try body x y handler) h))
+    (behind w n us vs _ (extent body) (sum_of_two (variable_extent y) (extent handler)) made (units_of_body context w (n + length us) body)
+    (what_in w (n + length us) _ s _ (sum_of_two (extent body) (sum_of_two (variable_extent y) (extent handler))) kind (at_try body x y handler) h))
 
 room_behind_first : (context : LiftContext) (w : SlotMap) (n : ℕ) (us vs : List UnitOf) (s : RStmt) (first : List RStmt) (test : Option UExpr) (step body : List RStmt) → s.what ≡ r.For first test step body
-    → vs ≡ us ++ (lift_in first context w (n + length us)).units → HasRoomToLift w (n + length us) (stmt_extent s) → HasRoomToLift w (n + length vs) (both (extent step) (extent body))
+    → vs ≡ us ++ (lift_in first context w (n + length us)).units → HasRoomToLift w (n + length us) (stmt_extent s) → HasRoomToLift w (n + length vs) (sum_of_two (extent step) (extent body))
 room_behind_first context w n us vs s first test step body kind made h =
-    behind w n us vs _ (extent first) (both (extent step) (extent body)) made (units_of_body context w (n + length us) first)
-    (what_in w (n + length us) _ s _ (both (extent first) (both (extent step) (extent body))) kind (at_for first test step body) h)
+    behind w n us vs _ (extent first) (sum_of_two (extent step) (extent body)) made (units_of_body context w (n + length us) first)
+    (what_in w (n + length us) _ s _ (sum_of_two (extent first) (sum_of_two (extent step) (extent body))) kind (at_for first test step body) h)
 
 pub room_for_step : (context : LiftContext) (w : SlotMap) (n : ℕ) (us vs : List UnitOf) (s : RStmt) (first : List RStmt) (test : Option UExpr) (step body : List RStmt) → s.what ≡ r.For first test step body
     → vs ≡ us ++ (lift_in first context w (n + length us)).units → HasRoomToLift w (n + length us) (stmt_extent s) → HasRoomToLift w (n + length vs) (extent step)
@@ -69,7 +69,7 @@ room_for_loop context w n us vs xs s first test step body kind made next h =
 
 pub room_for_fork : (w : SlotMap) (n : ℕ) (s : RStmt) (branches : List RBranch) → s.what ≡ r.Par branches → HasRoomToLift w n (stmt_extent s) → HasRoomToLift w n (fork_extent branches)
 room_for_fork w n s branches kind h =
-    room_for_less w n n (apart (fork_extent branches)) (fork_extent branches) (omega (arith, (fork_within branches).slots)) (omega arith) (subst (λ e. HasRoomToLift w n e) (of_stmt s.line s.what ∙ ap what_extent kind ∙ at_par branches) h)
+    room_for_less w n n (in_own_units (fork_extent branches)) (fork_extent branches) (omega (arith, (fork_within branches).slots)) (omega arith) (subst (λ e. HasRoomToLift w n e) (of_stmt s.line s.what ∙ ap what_extent kind ∙ at_par branches) h)
 
 -- one of a list, and what stands behind it
 
@@ -83,7 +83,7 @@ room_behind_branch context w n us vs b branches made h = behind w n us vs _ (bra
 
 -- a block branch
 
-pub room_in_branch : (context : LiftContext) (w : SlotMap) (body : List RStmt) (o : BranchCaptures) (n k : ℕ) → IsBranchCaptures o context w (parts body) → k ≡ n + 1 → HasRoomToLift w n (apart (extent body)) → HasRoomToLift o.inner k (extent body)
+pub room_in_branch : (context : LiftContext) (w : SlotMap) (body : List RStmt) (o : BranchCaptures) (n k : ℕ) → IsBranchCaptures o context w (parts body) → k ≡ n + 1 → HasRoomToLift w n (in_own_units (extent body)) → HasRoomToLift o.inner k (extent body)
 room_in_branch context w body o n k captured next h =
     let slots = branch_slots context (parts body) w in
     let exceptions = branch_exceptions (parts body) w in
@@ -96,7 +96,7 @@ room_in_branch context w body o n k captured next h =
       units = omega (arith, next, h.units);
     })
 
-pub exceptions_in_branch : (context : LiftContext) (w : SlotMap) (body : List RStmt) (o : BranchCaptures) (n : ℕ) → IsBranchCaptures o context w (parts body) → HasRoomToLift w n (apart (extent body)) → length o.exceptions < 2 ^ 32
+pub exceptions_in_branch : (context : LiftContext) (w : SlotMap) (body : List RStmt) (o : BranchCaptures) (n : ℕ) → IsBranchCaptures o context w (parts body) → HasRoomToLift w n (in_own_units (extent body)) → length o.exceptions < 2 ^ 32
 exceptions_in_branch context w body o n captured h =
     let less : length (branch_exceptions (parts body) w) ≤ length w.exceptions = fewer_taken (is_among (all_raises (parts body))) w.exceptions in
     omega (arith, ap (λ (l : List ℕ). length l) captured.exceptions, less, h.exceptions)

@@ -24,7 +24,7 @@ use Rattle.shim_units.specs.PartFold.{places_in}
 pub record HasTwoWriters (p : Resolved) : Type 0 where
   pub function : RFunction
   pub number : ℕ
-  pub stands : slice_get p.functions number ≡ Some function
+  pub at_number : slice_get p.functions number ≡ Some function
   pub line : ℕ
   pub branches : List (List Use)
   pub place : ℕ
@@ -60,7 +60,7 @@ pub record IsLeast (n : ℕ) (branches : List Captures) (c : Clash) : Type 0 whe
 -- the argument of that number gives the variable by reference, and another argument is the same variable
 pub record IsAlias (gs : List Given) (number x : ℕ) : Type 0 where
   pub one : Given
-  pub stands : slice_get gs number ≡ Some one
+  pub at_number : slice_get gs number ≡ Some one
   pub by_reference : IsTrue one.lent
   pub gives : one.bare ≡ Some x
   pub place : ℕ
@@ -75,34 +75,34 @@ pub record IsLeftmostAlias (gs : List Given) (x : ℕ) : Type 0 where
   pub is_alias : IsAlias gs number x
   pub leftmost : (m y : ℕ) → m < number → IsAlias gs m y → ⊥
 
--- what is told of a fork is its line with the least clash of its branches, and of a call its line with the variable of its leftmost alias
-abbrev pub IsToldOf : List Sort → SharingPlace → Offence → Type 0
-IsToldOf sorts (Fork line branches) o =
+-- the offence of a fork is its line with the least clash of its branches, and of a call its line with the variable of its leftmost alias
+abbrev pub IsOffenceOf : List Sort → SharingPlace → Offence → Type 0
+IsOffenceOf sorts (Fork line branches) o =
     (c : Clash) × (o ≡ TwoWriters line c.first c.second c.slot) × IsClash (length sorts) (map (captures sorts) branches) c × IsLeast (length sorts) (map (captures sorts) branches) c
-IsToldOf sorts (Called line gs) o = (x : ℕ) × (o ≡ Alias line x) × IsLeftmostAlias gs x
+IsOffenceOf sorts (Called line gs) o = (x : ℕ) × (o ≡ Alias line x) × IsLeftmostAlias gs x
 
--- all places before one of these obey the rule, that one does not, and this is what is told of it
+-- all places before one of these obey the rule, that one does not, and this is its offence
 pub record IsFirstOffence (sorts : List Sort) (places : List SharingPlace) (o : Offence) : Type 0 where
   pub before : List SharingPlace
   pub place : SharingPlace
   pub after : List SharingPlace
-  pub stands : places ≡ before ++ place ∷ after
+  pub splits : places ≡ before ++ place ∷ after
   pub obeyed : Obey sorts before
   pub refused : ObeysAt sorts place → ⊥
-  pub is_told : IsToldOf sorts place o
+  pub is_offence : IsOffenceOf sorts place o
 
--- all functions before one of these obey the rule, and this is told of its first place that does not, with the variable by its name
+-- all functions before one of these obey the rule, and this is reported of its first place that does not, with the variable by its name
 pub record IsFirstRefusalIn (names : List (List ℕ)) (all fs : List RFunction) (fault : ShareFault) : Type 0 where
   pub before : List RFunction
   pub function : RFunction
   pub after : List RFunction
-  pub stands : fs ≡ before ++ function ∷ after
+  pub splits : fs ≡ before ++ function ∷ after
   pub obeyed : ObeyAll all before
   pub offence : Offence
   pub first : IsFirstOffence function.slots (places_in all function.body) offence
   pub named : fault ≡ share_fault names function offence
 
--- what is told of the first fork or call of a program that does not obey the rule
+-- what is reported of the first fork or call of a program that does not obey the rule
 abbrev pub IsFirstRefusal : Resolved → ShareFault → Type 0
 IsFirstRefusal p = IsFirstRefusalIn p.names p.functions p.functions
 

@@ -1,4 +1,4 @@
--- What is told of the first place of a program that the sharing rule refuses.
+-- What is reported of the first place of a program that the sharing rule refuses.
 use Rattle.std.specs.Prelude.{ℕ, List, [], ◌∷◌, Option, Some, None}
 use Rattle.std.specs.Option.{option_or}
 use Rattle.shim_scopes.specs.declared.tree.RFunction.{RFunction}

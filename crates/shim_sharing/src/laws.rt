@@ -32,28 +32,28 @@ pub fn accepted_has_no_two_writers()
     ensures { (p : Resolved) → refusal p ≡ None → HasTwoWriters p → ⊥ }
 {}
 
-/// The two branches that a refusal of a fork tells do share the variable that it tells; no lesser pair of
+/// The two branches that a refusal of a fork reports do share the variable that it reports; no lesser pair of
 /// them shares any, and this pair none that is declared before it.
-pub fn least_clash_is_told()
+pub fn least_clash_is_reported()
     ensures { (n : ℕ) (branches : List Captures) (c : Clash) → clash_from n 0 branches ≡ Some c → IsClash n branches c × IsLeast n branches c }
 {}
 
-/// The variable that a refusal of a call tells is given by reference at one of its arguments and is
+/// The variable that a refusal of a call reports is given by reference at one of its arguments and is
 /// another argument, too; and no argument by reference left of that one is given again.
-pub fn leftmost_alias_is_told()
+pub fn leftmost_alias_is_reported()
     ensures { (gs : List Given) (x : ℕ) → given_again [] gs ≡ Some x → IsLeftmostAlias gs x }
 {}
 
-/// What is told of some places is told of the first of them that does not obey the rule: all before it
-/// do. The line is that of the fork or the call; of a fork the least clash is told, of a call the leftmost
-/// alias.
-pub fn first_offence_is_told()
+/// The offence that is reported of some places is that of the first of them that does not obey the rule: all
+/// before it do. The line is that of the fork or the call; of a fork the least clash is reported, of a call the
+/// leftmost alias.
+pub fn first_offence_is_reported()
     ensures { (sorts : List Sort) (places : List SharingPlace) (o : Offence) → first_offence sorts places ≡ Some o → IsFirstOffence sorts places o }
 {}
 
-/// What is told of a program is told of its first place that does not obey the rule, in the first
-/// function that has such a place, with the variable by its name in the text.
-pub fn first_refusal_is_told()
+/// What is reported of a program is the offence of its first place that does not obey the rule, in the
+/// first function that has such a place, with the variable by its name in the text.
+pub fn first_refusal_is_reported()
     ensures { (p : Resolved) (fault : ShareFault) → refusal p ≡ Some fault → IsFirstRefusal p fault }
 {}
 

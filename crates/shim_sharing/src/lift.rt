@@ -3,7 +3,7 @@ ghost use Rattle.std.specs.Prelude.{◌≡◌, ◌+◌, ◌++◌, length, IfOk, 
 ghost use Rattle.shim_units.specs.LiftContextView.{lift_context_view};
 ghost use Rattle.shim_units.specs.Lifting.{lift_all, lift_branch};
 ghost use Rattle.shim_sharing.specs.Room.{HasRoomToLift};
-ghost use Rattle.shim_units.specs.Sizes.{apart, stmt_extent, branch_extent, extent, fork_extent};
+ghost use Rattle.shim_units.specs.Sizes.{in_own_units, stmt_extent, branch_extent, extent, fork_extent};
 ghost use Rattle.shim_units.specs.PartFold.{part, parts, branch_part, branch_parts, lift_in};
 
 use shim_base::{List, NoMemory};
@@ -218,7 +218,7 @@ fn lift_block(
     units: &mut List<Unit>,
     body: &[RStmt],
 ) -> Result<UCall, NoMemory>
-    requires { HasRoomToLift slot_map.now (next + length units.now) (apart (extent body.now)) }
+    requires { HasRoomToLift slot_map.now (next + length units.now) (in_own_units (extent body.now)) }
     ensures tree { IfOk result (λ made. made ≡ (lift_branch (parts body.now) (lift_context_view context.now) slot_map.now (next + length units.old)).tree) }
     ensures units { OnOk result (units.new ≡ units.old ++ (lift_branch (parts body.now) (lift_context_view context.now) slot_map.now (next + length units.old)).units) }
 {

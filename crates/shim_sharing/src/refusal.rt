@@ -15,7 +15,7 @@ use shim_scopes::RFunction;
 use shim_units::{copy_text, name_of, number};
 use std::alloc::Global;
 
-fn find_told(
+fn make_fault(
     alloc: Global,
     names: &[Name],
     function: &RFunction,
@@ -48,11 +48,16 @@ fn find_told(
     }
 }
 
-fn tell(alloc: Global, names: &[Name], function: &RFunction, offence: Offence) -> ShareFault
+fn fault_or_no_memory(
+    alloc: Global,
+    names: &[Name],
+    function: &RFunction,
+    offence: Offence,
+) -> ShareFault
     requires { HasBranchNumbers offence }
     ensures { IsMeantFault result (share_fault names.now function.now offence) }
 {
-    match find_told(alloc, names, function, offence) {
+    match make_fault(alloc, names, function, offence) {
         Ok(fault) => fault,
         Err(_) => ShareFault::NoMemory,
     }
@@ -75,7 +80,7 @@ fn check_function(
         function.body.as_slice(),
     )? {
         None => Ok(()),
-        Some(offence) => Err(tell(alloc, names, function, offence)),
+        Some(offence) => Err(fault_or_no_memory(alloc, names, function, offence)),
     }
 }
 

@@ -43,8 +43,8 @@ struct FunctionSlots {
 fn open_function(alloc: Global, function: &RFunction) -> Result<FunctionSlots, NoMemory>
     requires params { length function.now.params < 2 ^ 32 }
     requires throws { length function.now.throws < 2 ^ 32 }
-    ensures slot_map { IfOk result (λ held. held.slot_map ≡ function_slot_map function.now) }
-    ensures tries { IfOk result (λ held. held.tries ≡ tries_in function.now.body) }
+    ensures slot_map { IfOk result (λ function_slots. function_slots.slot_map ≡ function_slot_map function.now) }
+    ensures tries { IfOk result (λ function_slots. function_slots.tries ≡ tries_in function.now.body) }
 {
     let slots = upto(alloc, function.params.len())?;
     let exceptions = upto(alloc, function.throws.len())?;
@@ -63,11 +63,11 @@ fn open_function(alloc: Global, function: &RFunction) -> Result<FunctionSlots, N
 fn close_function(
     alloc: Global,
     context: &LiftContext,
-    held: &FunctionSlots,
+    function_slots: &FunctionSlots,
     body: List<UStmt>,
 ) -> Result<Unit, NoMemory>
     requires { length (lift_context_view context.now).function.throws < 2 ^ 32 }
-    ensures { IfOk result (λ made. made ≡ made_unit (lift_context_view context.now) (lift_context_view context.now).name (lift_context_view context.now).function.params (length (lift_context_view context.now).function.throws) held.now.slot_map held.now.tries body) }
+    ensures { IfOk result (λ made. made ≡ made_unit (lift_context_view context.now) (lift_context_view context.now).name (lift_context_view context.now).function.params (length (lift_context_view context.now).function.throws) function_slots.now.slot_map function_slots.now.tries body) }
 {
     let function = context.function;
     let title = List::from_slice(alloc, context.name.as_bytes())?;
@@ -79,8 +79,8 @@ fn close_function(
         title,
         params,
         throws,
-        &held.slot_map,
-        held.tries.as_slice(),
+        &function_slots.slot_map,
+        function_slots.tries.as_slice(),
         body,
     )
 }
@@ -108,16 +108,16 @@ fn lift_function(
         name: &name,
         first: number_after(base, lifted.len()),
     };
-    let held = open_function(alloc, function)?;
+    let function_slots = open_function(alloc, function)?;
     let body = lift_body(
         alloc,
         &context,
-        &held.slot_map,
+        &function_slots.slot_map,
         base,
         lifted,
         function.body.as_slice(),
     )?;
-    close_function(alloc, &context, &held, body)
+    close_function(alloc, &context, &function_slots, body)
 }
 
 fn lift_functions(

@@ -16,7 +16,7 @@ use Rattle.shim_syntax.specs.Grammar as gr
 use Rattle.shim_syntax.specs.Printing.{PrintedPiece, stmt_shown, branch_pieces, all_pieces, part_pieces, block_pieces, else_pieces, fork_pieces, call_pieces, key_piece, sign_piece, name_piece, line_end_piece, expr_pieces, args_pieces, test_pieces, variable_pieces}
 use Rattle.shim_syntax.proofs.Expressions.{IsAlike}
 use Rattle.shim_syntax.proofs.StatementShapes.{AreSameBranches, branch_without_lines, other_branch_line, if_shown, while_shown, for_shown, block_shown, try_shown, par_shown, block_branch_pieces, call_branch_pieces, same_if, same_while, same_for, same_block, same_try, same_par, same_block_branch}
-use Rattle.shim_syntax.proofs.Parts.{Reading, IsPart, Both, both, IsPiece, here, front_name, front_key, front_sign, front_last, mapped, same_pieces, inner, Whole, whole_part, Arguments, args_part}
+use Rattle.shim_syntax.proofs.Parts.{ReadRelation, IsPart, Both, both, IsPiece, here, front_name, front_key, front_sign, front_last, mapped, same_pieces, inner, Whole, whole_part, Arguments, args_part}
 use Rattle.shim_syntax.proofs.Readings.{One, Block, Body, OneBranch, Branches, IsStmtsPart, IsBlockPart, IsBodyPart, IsBranchPart, behind_par, AreBranchesPart, append_nothing, InBody, in_body, body_of_own, behind_terminal, with_idle, ended_pieces, one_stmt, stmt_at}
 use Rattle.shim_syntax.proofs.Simple.{First, Step, Test, IsLocal, local, local_part, where_two, first_part, test_part, step_part}
 
@@ -121,7 +121,7 @@ for_stmt {x = x} line xs ys zs some first_h test_h step_h part =
       )
 
 -- what stands behind the exception of a `catch`, with the handler's left brace
-abbrev CatchRest : Option (List ℕ) → Reading
+abbrev CatchRest : Option (List ℕ) → ReadRelation
 CatchRest y k a b t q = IsCatchRest limits a b t q y
 
 catch_rest_part : {l : ℕ} {v w : TextCounts} {s r : List Terminal} {y : Option (List ℕ)} → IsCatchRest limits v w s r y →

@@ -8,12 +8,13 @@ use Rattle.shim_syntax.specs.declared.tree.Expr.{Expr, Expr-F, fold-roll-Expr, i
 use Rattle.shim_syntax.specs.declared.tree.Call.{Call}
 use Rattle.shim_syntax.specs.declared.tree.Param.{Param}
 use Rattle.shim_syntax.specs.declared.tree.Function.{Function}
-use Rattle.shim_syntax.specs.declared.tree.Stmt.{Stmt, Stmt-F, fold-roll-Stmt, ind-Stmt, map-Stmt, roll-Stmt}
-use Rattle.shim_syntax.specs.declared.tree.What.{What, What-F, fold-What, fold-roll-What, map-What, roll-What}
-use Rattle.shim_syntax.specs.declared.tree.Branch.{Branch, Branch-F, fold-roll-Branch, map-Branch, roll-Branch}
-use Rattle.shim_syntax.specs.declared.tree.BranchWhat.{BranchWhat, BranchWhat-F, fold-BranchWhat, fold-roll-BranchWhat, map-BranchWhat, roll-BranchWhat}
+use Rattle.shim_syntax.specs.declared.tree.Stmt.{Stmt, fold-roll-Stmt}
+use Rattle.shim_syntax.specs.declared.tree.What.{What, What-F, fold-What, fold-roll-What, map-What}
+use Rattle.shim_syntax.specs.declared.tree.Branch.{Branch, fold-roll-Branch}
+use Rattle.shim_syntax.specs.declared.tree.BranchWhat.{BranchWhat, BranchWhat-F, fold-BranchWhat, fold-roll-BranchWhat, map-BranchWhat}
 use Rattle.shim_syntax.specs.Names.{Texts, Adds, unless_there, with_name, in_turn, collect_expr_step, with_expr, with_exprs, with_option, with_variable, with_call, branch_names, what_names, with_stmt, with_branch, with_stmts, with_texts, with_params, with_function, with_functions}
 use Rattle.shim_syntax.specs.Distinct.{IsNew, AreDistinct}
+use Rattle.shim_syntax.proofs.FormInduction.{InBranchWhat, InWhat, Each, each, each_stmt}
 
 abbrev Keeps : Adds → Type 0
 Keeps f = (known : Texts) → AreDistinct known → AreDistinct (f known)
@@ -79,86 +80,59 @@ variable_kept (Some x) known d = name_kept x known d
 call_kept : (c : Call) → Keeps (with_call c)
 call_kept c known d = exprs_kept c.args (with_name c.function known) (name_kept c.function known d)
 
-abbrev with_branch_what : BranchWhat → Adds
+abbrev pub with_branch_what : BranchWhat → Adds
 with_branch_what = fold-BranchWhat Adds Adds Adds Adds branch_names what_names (λ b. b.what) (λ s. s.what)
 
-abbrev with_what : What → Adds
+abbrev pub with_what : What → Adds
 with_what = fold-What Adds Adds Adds Adds branch_names what_names (λ b. b.what) (λ s. s.what)
 
--- a part with what it keeps
-abbrev KeptBranchWhat : Type 0
-KeptBranchWhat = (w : BranchWhat) × Keeps (with_branch_what w)
+abbrev BranchKeeps : Branch → Type 0
+BranchKeeps b = Keeps (with_branch b)
 
-abbrev KeptWhat : Type 0
-KeptWhat = (w : What) × Keeps (with_what w)
+abbrev StmtKeeps : Stmt → Type 0
+StmtKeeps s = Keeps (with_stmt s)
 
-abbrev KeptBranch : Type 0
-KeptBranch = (b : Branch) × Keeps (with_branch b)
+stmts_in_turn : (body : List Stmt) → Each StmtKeeps body → Keeps (with_stmts body)
+stmts_in_turn [] h known d = d
+stmts_in_turn (s ∷ body) h known d = stmts_in_turn body h.1 (with_stmt s known) (h.0 known d)
 
-abbrev KeptStmt : Type 0
-KeptStmt = (s : Stmt) × Keeps (with_stmt s)
+branches_in_turn : (bs : List Branch) → Each BranchKeeps bs → Keeps (in_turn (map with_branch bs))
+branches_in_turn [] h known d = d
+branches_in_turn (b ∷ bs) h known d = branches_in_turn bs h.1 (with_branch b known) (h.0 known d)
 
-stmts_in_turn : (ys : List KeptStmt) → Keeps (in_turn (map with_stmt (map (λ (e : KeptStmt). e.0) ys)))
-stmts_in_turn [] known d = d
-stmts_in_turn (y ∷ ys) known d = stmts_in_turn ys (with_stmt y.0 known) (y.1 known d)
+branch_what_layer : (y : BranchWhat-F BranchWhat What Branch Stmt) → InBranchWhat StmtKeeps y
+    → Keeps (branch_names (map-BranchWhat BranchWhat What Branch Stmt Adds Adds Adds Adds with_branch_what with_what with_branch with_stmt y))
+branch_what_layer (BranchWhat-F.BranchWhat::Block body) h known d = stmts_in_turn body h known d
+branch_what_layer (BranchWhat-F.BranchWhat::Call c) h known d = call_kept c known d
 
-branches_in_turn : (ys : List KeptBranch) → Keeps (in_turn (map with_branch (map (λ (e : KeptBranch). e.0) ys)))
-branches_in_turn [] known d = d
-branches_in_turn (y ∷ ys) known d = branches_in_turn ys (with_branch y.0 known) (y.1 known d)
-
-abbrev branch_what_of : BranchWhat-F KeptBranchWhat KeptWhat KeptBranch KeptStmt → BranchWhat-F BranchWhat What Branch Stmt
-branch_what_of y = map-BranchWhat KeptBranchWhat KeptWhat KeptBranch KeptStmt BranchWhat What Branch Stmt (λ e. e.0) (λ e. e.0) (λ e. e.0) (λ e. e.0) y
-
-abbrev what_of : What-F KeptBranchWhat KeptWhat KeptBranch KeptStmt → What-F BranchWhat What Branch Stmt
-what_of y = map-What KeptBranchWhat KeptWhat KeptBranch KeptStmt BranchWhat What Branch Stmt (λ e. e.0) (λ e. e.0) (λ e. e.0) (λ e. e.0) y
-
-abbrev branch_of : Branch-F KeptBranchWhat KeptWhat KeptBranch KeptStmt → Branch-F BranchWhat What Branch Stmt
-branch_of y = map-Branch KeptBranchWhat KeptWhat KeptBranch KeptStmt BranchWhat What Branch Stmt (λ e. e.0) (λ e. e.0) (λ e. e.0) (λ e. e.0) y
-
-abbrev stmt_of : Stmt-F KeptBranchWhat KeptWhat KeptBranch KeptStmt → Stmt-F BranchWhat What Branch Stmt
-stmt_of y = map-Stmt KeptBranchWhat KeptWhat KeptBranch KeptStmt BranchWhat What Branch Stmt (λ e. e.0) (λ e. e.0) (λ e. e.0) (λ e. e.0) y
-
-branch_what_layer : (y : BranchWhat-F KeptBranchWhat KeptWhat KeptBranch KeptStmt)
-    → Keeps (branch_names (map-BranchWhat BranchWhat What Branch Stmt Adds Adds Adds Adds with_branch_what with_what with_branch with_stmt (branch_what_of y)))
-branch_what_layer (BranchWhat-F.BranchWhat::Block body) known d = stmts_in_turn body known d
-branch_what_layer (BranchWhat-F.BranchWhat::Call c) known d = call_kept c known d
-
-what_layer : (y : What-F KeptBranchWhat KeptWhat KeptBranch KeptStmt)
-    → Keeps (what_names (map-What BranchWhat What Branch Stmt Adds Adds Adds Adds with_branch_what with_what with_branch with_stmt (what_of y)))
-what_layer (What-F.Declare ty x e) known d = option_kept e _ (name_kept x known d)
-what_layer (What-F.Assign x e) known d = expr_kept e _ (name_kept x known d)
-what_layer (What-F.Next x) known d = name_kept x known d
-what_layer (What-F.NextAssign x e) known d = expr_kept e _ (name_kept x known d)
-what_layer (What-F.AssignNext x y) known d = name_kept y _ (name_kept x known d)
-what_layer (What-F.Get x y) known d = name_kept y _ (name_kept x known d)
-what_layer (What-F.Put x e) known d = expr_kept e _ (name_kept x known d)
-what_layer (What-F.If e first other) known d = stmts_in_turn other _ (stmts_in_turn first _ (expr_kept e known d))
-what_layer (What-F.While e body) known d = stmts_in_turn body _ (expr_kept e known d)
-what_layer (What-F.For first test step body) known d = stmts_in_turn body _ (stmts_in_turn step _ (option_kept test _ (stmts_in_turn first known d)))
-what_layer (What-F.What::Block body) known d = stmts_in_turn body known d
-what_layer (What-F.What::Call c) known d = call_kept c known d
-what_layer (What-F.Try body x y handler) known d = stmts_in_turn handler _ (variable_kept y _ (name_kept x _ (stmts_in_turn body known d)))
-what_layer (What-F.Throw x e) known d = option_kept e _ (name_kept x known d)
-what_layer (What-F.Par branches) known d = branches_in_turn branches known d
+what_layer : (y : What-F BranchWhat What Branch Stmt) → InWhat BranchKeeps StmtKeeps y
+    → Keeps (what_names (map-What BranchWhat What Branch Stmt Adds Adds Adds Adds with_branch_what with_what with_branch with_stmt y))
+what_layer (What-F.Declare ty x e) h known d = option_kept e _ (name_kept x known d)
+what_layer (What-F.Assign x e) h known d = expr_kept e _ (name_kept x known d)
+what_layer (What-F.Next x) h known d = name_kept x known d
+what_layer (What-F.NextAssign x e) h known d = expr_kept e _ (name_kept x known d)
+what_layer (What-F.AssignNext x y) h known d = name_kept y _ (name_kept x known d)
+what_layer (What-F.Get x y) h known d = name_kept y _ (name_kept x known d)
+what_layer (What-F.Put x e) h known d = expr_kept e _ (name_kept x known d)
+what_layer (What-F.If e first other) h known d = stmts_in_turn other h.1 _ (stmts_in_turn first h.0 _ (expr_kept e known d))
+what_layer (What-F.While e body) h known d = stmts_in_turn body h _ (expr_kept e known d)
+what_layer (What-F.For first test step body) h known d = stmts_in_turn body h.2 _ (stmts_in_turn step h.1 _ (option_kept test _ (stmts_in_turn first h.0 known d)))
+what_layer (What-F.What::Block body) h known d = stmts_in_turn body h known d
+what_layer (What-F.What::Call c) h known d = call_kept c known d
+what_layer (What-F.Try body x y handler) h known d = stmts_in_turn handler h.1 _ (variable_kept y _ (name_kept x _ (stmts_in_turn body h.0 known d)))
+what_layer (What-F.Throw x e) h known d = option_kept e _ (name_kept x known d)
+what_layer (What-F.Par branches) h known d = branches_in_turn branches h known d
 
 stmt_kept : (s : Stmt) → Keeps (with_stmt s)
-stmt_kept = ind-Stmt (λ w. Keeps (with_branch_what w)) (λ w. Keeps (with_what w)) (λ b. Keeps (with_branch b)) (λ s. Keeps (with_stmt s))
-    (λ x y is. subst (λ z. Keeps (with_branch_what (roll-BranchWhat z))) is
-    (subst Keeps (sym (fold-roll-BranchWhat Adds Adds Adds Adds branch_names what_names (λ b. b.what) (λ s. s.what) (branch_what_of y))) (branch_what_layer y)))
-    (λ x y is. subst (λ z. Keeps (with_what (roll-What z))) is
-    (subst Keeps (sym (fold-roll-What Adds Adds Adds Adds branch_names what_names (λ b. b.what) (λ s. s.what) (what_of y))) (what_layer y)))
-    (λ x y is. subst (λ z. Keeps (with_branch (roll-Branch z))) is
-    (subst Keeps (sym (fold-roll-Branch Adds Adds Adds Adds branch_names what_names (λ b. b.what) (λ s. s.what) (branch_of y))) y.what.1))
-    (λ x y is. subst (λ z. Keeps (with_stmt (roll-Stmt z))) is
-    (subst Keeps (sym (fold-roll-Stmt Adds Adds Adds Adds branch_names what_names (λ b. b.what) (λ s. s.what) (stmt_of y))) y.what.1))
-
-stmts_kept : (body : List Stmt) → Keeps (with_stmts body)
-stmts_kept [] known d = d
-stmts_kept (s ∷ body) known d = stmts_kept body (with_stmt s known) (stmt_kept s known d)
+stmt_kept = each_stmt (λ w. Keeps (with_branch_what w)) (λ w. Keeps (with_what w)) BranchKeeps StmtKeeps
+    (λ y h. subst Keeps (sym (fold-roll-BranchWhat Adds Adds Adds Adds branch_names what_names (λ b. b.what) (λ s. s.what) y)) (branch_what_layer y h))
+    (λ y h. subst Keeps (sym (fold-roll-What Adds Adds Adds Adds branch_names what_names (λ b. b.what) (λ s. s.what) y)) (what_layer y h))
+    (λ line x h. subst Keeps (sym (fold-roll-Branch Adds Adds Adds Adds branch_names what_names (λ b. b.what) (λ s. s.what) (record { line = line; what = x }))) h)
+    (λ line x h. subst Keeps (sym (fold-roll-Stmt Adds Adds Adds Adds branch_names what_names (λ b. b.what) (λ s. s.what) (record { line = line; what = x }))) h)
 
 function_kept : (f : Function) → Keeps (with_function f)
 unfolding with_function
-function_kept f known d = stmts_kept f.body _ (texts_kept f.throws _ (params_kept f.params _ (name_kept f.name known d)))
+function_kept f known d = stmts_in_turn f.body (each StmtKeeps stmt_kept f.body) _ (texts_kept f.throws _ (params_kept f.params _ (name_kept f.name known d)))
 
 functions_kept : (fs : List Function) → Keeps (with_functions fs)
 functions_kept [] known d = d

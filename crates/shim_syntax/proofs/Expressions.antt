@@ -18,7 +18,7 @@ use Rattle.shim_syntax.specs.Grammar as gr
 use Rattle.shim_syntax.specs.Printing.{PrintedPiece, ExprShown, expr_shown, expr_row, expr_pieces, wrapped, sign_piece, sign_of_unary}
 use Rattle.shim_syntax.specs.Printing as pr
 use Rattle.shim_syntax.proofs.Pieces.{AreTokens}
-use Rattle.shim_syntax.proofs.Standing.{Stand, nothing, piece, split, tokens_of_both, AreGood}
+use Rattle.shim_syntax.proofs.Standing.{ArePrefix, nothing, piece, split, tokens_of_both, AreGood}
 use Rattle.shim_syntax.proofs.Shapes.{number_shown, variable_shown, unary_shown, binary_shown, both_pieces, operator_is, sign_spells}
 
 -- the same number of operators and of declarations in the same version; the deepest level is left open
@@ -33,7 +33,7 @@ pub record IsRead (n k : ℕ) (w a : TextCounts) (s r : List Terminal) (x : Expr
 
 -- What shows as these pieces in that row is read from them. It was read at the level l; at the level k all stands deeper by as much as k is deeper than l.
 abbrev pub IsReadFrom : ExprShown → ℕ → TextCounts → TextCounts → Expr → Type 0
-IsReadFrom shown l v w x = (k : ℕ) (a : TextCounts) (s r : List Terminal) → k + w.deepest ≤ l + 64 → IsAlike v a → Stand shown.pieces s r → IsRead shown.row k w a s r x
+IsReadFrom shown l v w x = (k : ℕ) (a : TextCounts) (s r : List Terminal) → k + w.deepest ≤ l + 64 → IsAlike v a → ArePrefix shown.pieces s r → IsRead shown.row k w a s r x
 
 abbrev pub IsBare : ℕ → TextCounts → TextCounts → Expr → Type 0
 IsBare l v w x = IsReadFrom (expr_shown x) l v w x
@@ -94,9 +94,9 @@ joined (gr.row first chain) is fits h = gr.row first (chain_more chain is fits h
 
 -- in parentheses
 in_parens : (n l : ℕ) (v w : TextCounts) (x : Expr) (k : ℕ) (a : TextCounts) (s r : List Terminal) → expr_row x ≤ 10 → IsBare (suc l) v w x → suc l ≤ w.deepest → k + w.deepest ≤ l + 64 → IsAlike v a →
-    Stand (wrapped true (expr_pieces x)) s r → IsRead n k w a s r x
+    ArePrefix (wrapped true (expr_pieces x)) s r → IsRead n k w a s r x
 in_parens n l v w x k a _ r row_most bare deep room alike (piece p h) = by_end (split (expr_pieces x) (sign_piece g.RightParen ∷ []) _ r h) where
-  by_end : {s : List Terminal} → (m : List Terminal) × Stand (expr_pieces x) s m × Stand (sign_piece g.RightParen ∷ []) m r → IsRead n k w a (Sign g.LeftParen p ∷ s) r x
+  by_end : {s : List Terminal} → (m : List Terminal) × ArePrefix (expr_pieces x) s m × ArePrefix (sign_piece g.RightParen ∷ []) m r → IsRead n k w a (Sign g.LeftParen p ∷ s) r x
   by_end (_, inner, piece q nothing) =
       let read = bare (suc k) (at_level (suc k) a) _ _ (omega (arith, room)) alike inner in
       let whole = looser 10 (expr_row x) (suc k) (at_level (suc k) a) read.behind _ _ x row_most read.is in
@@ -108,9 +108,9 @@ in_parens n l v w x k a _ r row_most bare deep room alike (piece p h) = by_end (
 
 -- as an operand in the row n
 pub operand : (n l : ℕ) (v w : TextCounts) (t q : List Terminal) (x : Expr) → IsReadBack n l v w t q x → (k : ℕ) (a : TextCounts) (s r : List Terminal) → k + w.deepest ≤ l + 64 → IsAlike v a →
-    Stand (wrapped (nat_lt n (expr_row x)) (expr_pieces x)) s r → IsRead n k w a s r x
-operand n l v w t q x kept k a s r room alike stand = by_row (nat_lt n (expr_row x)) refl stand where
-  by_row : (b : Bool) → nat_lt n (expr_row x) ≡ b → Stand (wrapped b (expr_pieces x)) s r → IsRead n k w a s r x
+    ArePrefix (wrapped (nat_lt n (expr_row x)) (expr_pieces x)) s r → IsRead n k w a s r x
+operand n l v w t q x kept k a s r room alike prefix = by_row (nat_lt n (expr_row x)) refl prefix where
+  by_row : (b : Bool) → nat_lt n (expr_row x) ≡ b → ArePrefix (wrapped b (expr_pieces x)) s r → IsRead n k w a s r x
   by_row true is h = let deep = kept.inside is in in_parens n l v w x k a s r kept.row_most deep.0 deep.1 room alike h
   by_row false is h =
       let read = kept.bare k a s r room alike h in
@@ -161,7 +161,7 @@ parens_kept l v w p q s r x fits kept =
       within = λ h. kept.within (omega (arith, level, h));
       spelled = λ ver good. let more = kept.spelled ver good.1 in (more.0, more.1.1);
       row_most = kept.row_most;
-      bare = λ k a t m room alike stand. kept.bare k a t m (omega (arith, room)) alike stand;
+      bare = λ k a t m room alike prefix. kept.bare k a t m (omega (arith, room)) alike prefix;
       inside = λ h. (kept.bare, omega (arith, deeper));
     }
 
@@ -242,7 +242,7 @@ binary_kept n l b v u o p t s m x z is count left right = record {
       (pieces_of ver (e.Binary (operator_of_sign o) x z) shown (binary_shown o n x z is) all, second.1)
 
   behind_left : (k : ℕ) (a : TextCounts) (s2 r2 : List Terminal) → k + u.deepest ≤ l + 64 → IsAlike b a →
-      (q : List Terminal) × Stand (wrapped (nat_lt (suc n) (expr_row x)) (expr_pieces x)) s2 q × Stand (sign_piece o ∷ wrapped (nat_lt n (expr_row z)) (expr_pieces z)) q r2 →
+      (q : List Terminal) × ArePrefix (wrapped (nat_lt (suc n) (expr_row x)) (expr_pieces x)) s2 q × ArePrefix (sign_piece o ∷ wrapped (nat_lt n (expr_row z)) (expr_pieces z)) q r2 →
       IsRead (suc n) k u a s2 r2 (e.Binary (operator_of_sign o) x z)
   behind_left k a s2 r2 room alike (_, first, piece q second) =
       let deeper = right.deeper in
@@ -251,8 +251,8 @@ binary_kept n l b v u o p t s m x z is count left right = record {
       record { behind = two.behind; alike = two.alike; is = joined one.is is (count_is v.operators one.behind.operators one.alike.0 count) two.is }
 
   read : IsReadFrom (record { row = suc n; pieces = both_pieces (suc n) o (nat_lt n (expr_row z)) x z }) l b u (e.Binary (operator_of_sign o) x z)
-  read k a s2 r2 room alike stand =
-      behind_left k a s2 r2 room alike (split (wrapped (nat_lt (suc n) (expr_row x)) (expr_pieces x)) (sign_piece o ∷ wrapped (nat_lt n (expr_row z)) (expr_pieces z)) s2 r2 stand)
+  read k a s2 r2 room alike prefix =
+      behind_left k a s2 r2 room alike (split (wrapped (nat_lt (suc n) (expr_row x)) (expr_pieces x)) (sign_piece o ∷ wrapped (nat_lt n (expr_row z)) (expr_pieces z)) s2 r2 prefix)
 
 mutual
   pub expr_kept : (n l : ℕ) (v w : TextCounts) (s r : List Terminal) (x : Expr) → IsExpr limits n l v w s r x → IsReadBack n l v w s r x

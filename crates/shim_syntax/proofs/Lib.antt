@@ -10,6 +10,7 @@ pub mod Compound
 pub mod Statements
 pub mod Programs
 pub mod TableLemmas
+pub mod FormInduction
 pub mod DistinctLemmas
 pub mod OccurrenceLemmas
 pub mod SizeSteps

@@ -4,12 +4,14 @@ use Rattle.shim_syntax.specs.declared.tree.Expr.{Expr, Expr-F, fold-roll-Expr, i
 use Rattle.shim_syntax.specs.declared.tree.Call.{Call}
 use Rattle.shim_syntax.specs.declared.tree.Param.{Param}
 use Rattle.shim_syntax.specs.declared.tree.Function.{Function}
-use Rattle.shim_syntax.specs.declared.tree.Stmt.{Stmt, Stmt-F, fold-roll-Stmt, ind-Stmt, map-Stmt, roll-Stmt}
+use Rattle.shim_syntax.specs.declared.tree.Stmt.{Stmt, fold-roll-Stmt}
 use Rattle.shim_syntax.specs.declared.tree.What.{What, What-F, fold-What, fold-roll-What, map-What, roll-What}
-use Rattle.shim_syntax.specs.declared.tree.Branch.{Branch, Branch-F, fold-Branch, fold-roll-Branch, map-Branch, roll-Branch}
+use Rattle.shim_syntax.specs.declared.tree.Branch.{Branch, fold-Branch, fold-roll-Branch}
 use Rattle.shim_syntax.specs.declared.tree.BranchWhat.{BranchWhat, BranchWhat-F, fold-BranchWhat, fold-roll-BranchWhat, map-BranchWhat, roll-BranchWhat}
 use Rattle.shim_syntax.specs.Names.{Texts, Adds, with_name, in_turn, collect_expr_step, with_expr, with_exprs, with_option, with_variable, with_call, branch_names, what_names, with_stmt, with_branch, with_stmts, with_texts, param_names, with_params, with_function, with_functions}
 use Rattle.shim_syntax.specs.Occurrences.{concatenated, expr_occurs, in_expr, in_exprs, in_option, in_variable, in_call, branch_occurs, what_occurs, in_stmt, in_function, identifiers}
+use Rattle.shim_syntax.proofs.DistinctLemmas.{with_branch_what, with_what}
+use Rattle.shim_syntax.proofs.FormInduction.{InBranchWhat, InWhat, Each, each, each_stmt}
 
 -- the list changes as by these names one after another
 abbrev Takes : Adds → Texts → Type 0
@@ -62,122 +64,94 @@ variable_taken (Some x) known = refl
 call_taken : (c : Call) → Takes (with_call c) (in_call c)
 call_taken c known = exprs_taken c.args (with_name c.function known)
 
-abbrev with_branch_what : BranchWhat → Adds
-with_branch_what = fold-BranchWhat Adds Adds Adds Adds branch_names what_names (λ b. b.what) (λ s. s.what)
-
-abbrev with_what : What → Adds
-with_what = fold-What Adds Adds Adds Adds branch_names what_names (λ b. b.what) (λ s. s.what)
-
-abbrev in_branch_what : BranchWhat → Texts
+abbrev pub in_branch_what : BranchWhat → Texts
 in_branch_what = fold-BranchWhat Texts Texts Texts Texts branch_occurs what_occurs (λ b. b.what) (λ s. s.what)
 
-abbrev in_what : What → Texts
+abbrev pub in_what : What → Texts
 in_what = fold-What Texts Texts Texts Texts branch_occurs what_occurs (λ b. b.what) (λ s. s.what)
 
-abbrev in_branch : Branch → Texts
+abbrev pub in_branch : Branch → Texts
 in_branch = fold-Branch Texts Texts Texts Texts branch_occurs what_occurs (λ b. b.what) (λ s. s.what)
 
--- a part with what it takes in
-abbrev BranchWhatTaken : Type 0
-BranchWhatTaken = (w : BranchWhat) × Takes (with_branch_what w) (in_branch_what w)
+abbrev pub branch_what_at : BranchWhat-F BranchWhat What Branch Stmt → Texts
+branch_what_at z = branch_occurs (map-BranchWhat BranchWhat What Branch Stmt Texts Texts Texts Texts in_branch_what in_what in_branch in_stmt z)
 
-abbrev WhatTaken : Type 0
-WhatTaken = (w : What) × Takes (with_what w) (in_what w)
+abbrev pub what_at : What-F BranchWhat What Branch Stmt → Texts
+what_at z = what_occurs (map-What BranchWhat What Branch Stmt Texts Texts Texts Texts in_branch_what in_what in_branch in_stmt z)
 
-abbrev BranchTaken : Type 0
-BranchTaken = (b : Branch) × Takes (with_branch b) (in_branch b)
+pub rolled_branch_what : (z : BranchWhat-F BranchWhat What Branch Stmt) → in_branch_what (roll-BranchWhat z) ≡ branch_what_at z
+rolled_branch_what z = fold-roll-BranchWhat Texts Texts Texts Texts branch_occurs what_occurs (λ b. b.what) (λ s. s.what) z
 
-abbrev StmtTaken : Type 0
-StmtTaken = (s : Stmt) × Takes (with_stmt s) (in_stmt s)
+pub rolled_what : (z : What-F BranchWhat What Branch Stmt) → in_what (roll-What z) ≡ what_at z
+rolled_what z = fold-roll-What Texts Texts Texts Texts branch_occurs what_occurs (λ b. b.what) (λ s. s.what) z
 
-abbrev stmts : List StmtTaken → List Stmt
-stmts ys = map (λ (e : StmtTaken). e.0) ys
+pub stmt_of_line : (line : ℕ) (x : What) → in_stmt (record { line = line; what = x }) ≡ in_what x
+stmt_of_line line x = fold-roll-Stmt Texts Texts Texts Texts branch_occurs what_occurs (λ b. b.what) (λ s. s.what) (record { line = line; what = x })
 
-stmts_in_turn : (ys : List StmtTaken) → Takes (in_turn (map with_stmt (stmts ys))) (concatenated (map in_stmt (stmts ys)))
-stmts_in_turn [] known = refl
-stmts_in_turn (y ∷ ys) known = one_then (with_stmt y.0) (in_turn (map with_stmt (stmts ys))) (in_stmt y.0) (concatenated (map in_stmt (stmts ys))) y.1 (stmts_in_turn ys) known
+pub branch_of_line : (line : ℕ) (x : BranchWhat) → in_branch (record { line = line; what = x }) ≡ in_branch_what x
+branch_of_line line x = fold-roll-Branch Texts Texts Texts Texts branch_occurs what_occurs (λ b. b.what) (λ s. s.what) (record { line = line; what = x })
 
-abbrev branches : List BranchTaken → List Branch
-branches ys = map (λ (e : BranchTaken). e.0) ys
+abbrev BranchTakes : Branch → Type 0
+BranchTakes b = Takes (with_branch b) (in_branch b)
 
-branches_in_turn : (ys : List BranchTaken) → Takes (in_turn (map with_branch (branches ys))) (concatenated (map in_branch (branches ys)))
-branches_in_turn [] known = refl
-branches_in_turn (y ∷ ys) known = one_then (with_branch y.0) (in_turn (map with_branch (branches ys))) (in_branch y.0) (concatenated (map in_branch (branches ys))) y.1 (branches_in_turn ys) known
+abbrev StmtTakes : Stmt → Type 0
+StmtTakes s = Takes (with_stmt s) (in_stmt s)
 
-abbrev branch_what_of : BranchWhat-F BranchWhatTaken WhatTaken BranchTaken StmtTaken → BranchWhat-F BranchWhat What Branch Stmt
-branch_what_of y = map-BranchWhat BranchWhatTaken WhatTaken BranchTaken StmtTaken BranchWhat What Branch Stmt (λ e. e.0) (λ e. e.0) (λ e. e.0) (λ e. e.0) y
+abbrev texts : List Stmt → Texts
+texts body = concatenated (map in_stmt body)
 
-abbrev what_of : What-F BranchWhatTaken WhatTaken BranchTaken StmtTaken → What-F BranchWhat What Branch Stmt
-what_of y = map-What BranchWhatTaken WhatTaken BranchTaken StmtTaken BranchWhat What Branch Stmt (λ e. e.0) (λ e. e.0) (λ e. e.0) (λ e. e.0) y
+stmts_in_turn : (body : List Stmt) → Each StmtTakes body → Takes (with_stmts body) (texts body)
+stmts_in_turn [] h known = refl
+stmts_in_turn (s ∷ body) h known = one_then (with_stmt s) (with_stmts body) (in_stmt s) (texts body) h.0 (stmts_in_turn body h.1) known
 
-abbrev branch_of : Branch-F BranchWhatTaken WhatTaken BranchTaken StmtTaken → Branch-F BranchWhat What Branch Stmt
-branch_of y = map-Branch BranchWhatTaken WhatTaken BranchTaken StmtTaken BranchWhat What Branch Stmt (λ e. e.0) (λ e. e.0) (λ e. e.0) (λ e. e.0) y
+branches_in_turn : (bs : List Branch) → Each BranchTakes bs → Takes (in_turn (map with_branch bs)) (concatenated (map in_branch bs))
+branches_in_turn [] h known = refl
+branches_in_turn (b ∷ bs) h known = one_then (with_branch b) (in_turn (map with_branch bs)) (in_branch b) (concatenated (map in_branch bs)) h.0 (branches_in_turn bs h.1) known
 
-abbrev stmt_of : Stmt-F BranchWhatTaken WhatTaken BranchTaken StmtTaken → Stmt-F BranchWhat What Branch Stmt
-stmt_of y = map-Stmt BranchWhatTaken WhatTaken BranchTaken StmtTaken BranchWhat What Branch Stmt (λ e. e.0) (λ e. e.0) (λ e. e.0) (λ e. e.0) y
+branch_what_layer : (y : BranchWhat-F BranchWhat What Branch Stmt) → InBranchWhat StmtTakes y
+    → Takes (branch_names (map-BranchWhat BranchWhat What Branch Stmt Adds Adds Adds Adds with_branch_what with_what with_branch with_stmt y))
+    (branch_what_at y)
+branch_what_layer (BranchWhat-F.BranchWhat::Block body) h known = stmts_in_turn body h known
+branch_what_layer (BranchWhat-F.BranchWhat::Call c) h known = call_taken c known
 
-branch_what_layer : (y : BranchWhat-F BranchWhatTaken WhatTaken BranchTaken StmtTaken)
-    → Takes (branch_names (map-BranchWhat BranchWhat What Branch Stmt Adds Adds Adds Adds with_branch_what with_what with_branch with_stmt (branch_what_of y)))
-    (branch_occurs (map-BranchWhat BranchWhat What Branch Stmt Texts Texts Texts Texts in_branch_what in_what in_branch in_stmt (branch_what_of y)))
-branch_what_layer (BranchWhat-F.BranchWhat::Block body) known = stmts_in_turn body known
-branch_what_layer (BranchWhat-F.BranchWhat::Call c) known = call_taken c known
-
-abbrev turn : List StmtTaken → Adds
-turn ys = in_turn (map with_stmt (stmts ys))
-
-abbrev texts : List StmtTaken → Texts
-texts ys = concatenated (map in_stmt (stmts ys))
-
-what_layer : (y : What-F BranchWhatTaken WhatTaken BranchTaken StmtTaken)
-    → Takes (what_names (map-What BranchWhat What Branch Stmt Adds Adds Adds Adds with_branch_what with_what with_branch with_stmt (what_of y)))
-    (what_occurs (map-What BranchWhat What Branch Stmt Texts Texts Texts Texts in_branch_what in_what in_branch in_stmt (what_of y)))
-what_layer (What-F.Declare ty x e) known = option_taken e (with_name x known)
-what_layer (What-F.Assign x e) known = expr_taken e (with_name x known)
-what_layer (What-F.Next x) known = refl
-what_layer (What-F.NextAssign x e) known = expr_taken e (with_name x known)
-what_layer (What-F.AssignNext x y) known = refl
-what_layer (What-F.Get x y) known = refl
-what_layer (What-F.Put x e) known = expr_taken e (with_name x known)
-what_layer (What-F.If e first other) known =
-    one_then (with_expr e) (λ k. turn other (turn first k)) (in_expr e) (texts first ++ texts other) (expr_taken e)
-    (one_then (turn first) (turn other) (texts first) (texts other) (stmts_in_turn first) (stmts_in_turn other)) known
-what_layer (What-F.While e body) known = one_then (with_expr e) (turn body) (in_expr e) (texts body) (expr_taken e) (stmts_in_turn body) known
-what_layer (What-F.For first test step body) known =
-    one_then (turn first) (λ k. turn body (turn step (with_option test k))) (texts first) (in_option test ++ (texts step ++ texts body)) (stmts_in_turn first)
-    (one_then (with_option test) (λ k. turn body (turn step k)) (in_option test) (texts step ++ texts body) (option_taken test)
-    (one_then (turn step) (turn body) (texts step) (texts body) (stmts_in_turn step) (stmts_in_turn body))) known
-what_layer (What-F.What::Block body) known = stmts_in_turn body known
-what_layer (What-F.What::Call c) known = call_taken c known
-what_layer (What-F.Try body x y handler) known =
-    one_then (turn body) (λ k. turn handler (with_variable y (with_name x k))) (texts body) (x ∷ (in_variable y ++ texts handler)) (stmts_in_turn body)
-    (λ k. one_then (with_variable y) (turn handler) (in_variable y) (texts handler) (variable_taken y) (stmts_in_turn handler) (with_name x k)) known
-what_layer (What-F.Throw x e) known = option_taken e (with_name x known)
-what_layer (What-F.Par bs) known = branches_in_turn bs known
+what_layer : (y : What-F BranchWhat What Branch Stmt) → InWhat BranchTakes StmtTakes y
+    → Takes (what_names (map-What BranchWhat What Branch Stmt Adds Adds Adds Adds with_branch_what with_what with_branch with_stmt y))
+    (what_at y)
+what_layer (What-F.Declare ty x e) h known = option_taken e (with_name x known)
+what_layer (What-F.Assign x e) h known = expr_taken e (with_name x known)
+what_layer (What-F.Next x) h known = refl
+what_layer (What-F.NextAssign x e) h known = expr_taken e (with_name x known)
+what_layer (What-F.AssignNext x y) h known = refl
+what_layer (What-F.Get x y) h known = refl
+what_layer (What-F.Put x e) h known = expr_taken e (with_name x known)
+what_layer (What-F.If e first other) h known =
+    one_then (with_expr e) (λ k. with_stmts other (with_stmts first k)) (in_expr e) (texts first ++ texts other) (expr_taken e)
+    (one_then (with_stmts first) (with_stmts other) (texts first) (texts other) (stmts_in_turn first h.0) (stmts_in_turn other h.1)) known
+what_layer (What-F.While e body) h known = one_then (with_expr e) (with_stmts body) (in_expr e) (texts body) (expr_taken e) (stmts_in_turn body h) known
+what_layer (What-F.For first test step body) h known =
+    one_then (with_stmts first) (λ k. with_stmts body (with_stmts step (with_option test k))) (texts first) (in_option test ++ (texts step ++ texts body)) (stmts_in_turn first h.0)
+    (one_then (with_option test) (λ k. with_stmts body (with_stmts step k)) (in_option test) (texts step ++ texts body) (option_taken test)
+    (one_then (with_stmts step) (with_stmts body) (texts step) (texts body) (stmts_in_turn step h.1) (stmts_in_turn body h.2))) known
+what_layer (What-F.What::Block body) h known = stmts_in_turn body h known
+what_layer (What-F.What::Call c) h known = call_taken c known
+what_layer (What-F.Try body x y handler) h known =
+    one_then (with_stmts body) (λ k. with_stmts handler (with_variable y (with_name x k))) (texts body) (x ∷ (in_variable y ++ texts handler)) (stmts_in_turn body h.0)
+    (λ k. one_then (with_variable y) (with_stmts handler) (in_variable y) (texts handler) (variable_taken y) (stmts_in_turn handler h.1) (with_name x k)) known
+what_layer (What-F.Throw x e) h known = option_taken e (with_name x known)
+what_layer (What-F.Par bs) h known = branches_in_turn bs h known
 
 stmt_taken : (s : Stmt) → Takes (with_stmt s) (in_stmt s)
-stmt_taken = ind-Stmt (λ w. Takes (with_branch_what w) (in_branch_what w)) (λ w. Takes (with_what w) (in_what w)) (λ b. Takes (with_branch b) (in_branch b)) (λ s. Takes (with_stmt s) (in_stmt s))
-    (λ x y is. subst (λ z. Takes (with_branch_what (roll-BranchWhat z)) (in_branch_what (roll-BranchWhat z))) is
-    (same_taken _ _ _ _ (fold-roll-BranchWhat Adds Adds Adds Adds branch_names what_names (λ b. b.what) (λ s. s.what) (branch_what_of y))
-    (fold-roll-BranchWhat Texts Texts Texts Texts branch_occurs what_occurs (λ b. b.what) (λ s. s.what) (branch_what_of y)) (branch_what_layer y)))
-    (λ x y is. subst (λ z. Takes (with_what (roll-What z)) (in_what (roll-What z))) is
-    (same_taken _ _ _ _ (fold-roll-What Adds Adds Adds Adds branch_names what_names (λ b. b.what) (λ s. s.what) (what_of y))
-    (fold-roll-What Texts Texts Texts Texts branch_occurs what_occurs (λ b. b.what) (λ s. s.what) (what_of y)) (what_layer y)))
-    (λ x y is. subst (λ z. Takes (with_branch (roll-Branch z)) (in_branch (roll-Branch z))) is
-    (same_taken _ _ _ _ (fold-roll-Branch Adds Adds Adds Adds branch_names what_names (λ b. b.what) (λ s. s.what) (branch_of y))
-    (fold-roll-Branch Texts Texts Texts Texts branch_occurs what_occurs (λ b. b.what) (λ s. s.what) (branch_of y)) y.what.1))
-    (λ x y is. subst (λ z. Takes (with_stmt (roll-Stmt z)) (in_stmt (roll-Stmt z))) is
-    (same_taken _ _ _ _ (fold-roll-Stmt Adds Adds Adds Adds branch_names what_names (λ b. b.what) (λ s. s.what) (stmt_of y))
-    (fold-roll-Stmt Texts Texts Texts Texts branch_occurs what_occurs (λ b. b.what) (λ s. s.what) (stmt_of y)) y.what.1))
-
-body_taken : (body : List Stmt) → Takes (with_stmts body) (concatenated (map in_stmt body))
-body_taken [] known = refl
-body_taken (s ∷ body) known = one_then (with_stmt s) (with_stmts body) (in_stmt s) (concatenated (map in_stmt body)) (stmt_taken s) (body_taken body) known
+stmt_taken = each_stmt (λ w. Takes (with_branch_what w) (in_branch_what w)) (λ w. Takes (with_what w) (in_what w)) BranchTakes StmtTakes
+    (λ y h. same_taken _ _ _ _ (fold-roll-BranchWhat Adds Adds Adds Adds branch_names what_names (λ b. b.what) (λ s. s.what) y) (rolled_branch_what y) (branch_what_layer y h))
+    (λ y h. same_taken _ _ _ _ (fold-roll-What Adds Adds Adds Adds branch_names what_names (λ b. b.what) (λ s. s.what) y) (rolled_what y) (what_layer y h))
+    (λ line x h. same_taken _ _ _ _ (fold-roll-Branch Adds Adds Adds Adds branch_names what_names (λ b. b.what) (λ s. s.what) (record { line = line; what = x })) (branch_of_line line x) h)
+    (λ line x h. same_taken _ _ _ _ (fold-roll-Stmt Adds Adds Adds Adds branch_names what_names (λ b. b.what) (λ s. s.what) (record { line = line; what = x })) (stmt_of_line line x) h)
 
 function_taken : (f : Function) → Takes (with_function f) (in_function f)
 unfolding with_function
 function_taken f known =
-    one_then (with_params f.params) (λ k. with_stmts f.body (with_texts f.throws k)) (param_names f.params) (f.throws ++ concatenated (map in_stmt f.body)) (params_taken f.params)
-    (one_then (with_texts f.throws) (with_stmts f.body) f.throws (concatenated (map in_stmt f.body)) (λ k. refl) (body_taken f.body)) (with_name f.name known)
+    one_then (with_params f.params) (λ k. with_stmts f.body (with_texts f.throws k)) (param_names f.params) (f.throws ++ texts f.body) (params_taken f.params)
+    (one_then (with_texts f.throws) (with_stmts f.body) f.throws (texts f.body) (λ k. refl) (stmts_in_turn f.body (each StmtTakes stmt_taken f.body))) (with_name f.name known)
 
 functions_taken : (fs : List Function) → Takes (with_functions fs) (identifiers fs)
 functions_taken [] known = refl

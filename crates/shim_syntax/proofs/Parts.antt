@@ -17,41 +17,41 @@ use Rattle.shim_syntax.specs.Grammar.{TextCounts, at_level, new_expression, IsEx
 use Rattle.shim_syntax.specs.Grammar as gr
 use Rattle.shim_syntax.specs.Printing.{PrintedPiece, key_piece, sign_piece, type_piece, sort_piece, name_piece, line_end_piece, expr_row, expr_pieces, more_args_pieces, args_pieces}
 use Rattle.shim_syntax.proofs.Pieces.{AreTokens, IsSeen, shown_as}
-use Rattle.shim_syntax.proofs.Standing.{Stand, nothing, piece, split, tokens_of_both, AreGood, IsTypeOf, key_seen}
+use Rattle.shim_syntax.proofs.Standing.{ArePrefix, nothing, piece, split, tokens_of_both, AreGood, IsTypeOf, key_seen}
 use Rattle.shim_syntax.proofs.Shapes.{sign_spells, key_spells}
 use Rattle.shim_syntax.proofs.Expressions.{IsAlike, expr_kept, looser, level_is}
 
 -- How terminals at the front are read: at which level, with what was counted before them and behind them, and what follows.
-abbrev pub Reading : Type 1
-Reading = ℕ → TextCounts → TextCounts → List Terminal → List Terminal → Type 0
+abbrev pub ReadRelation : Type 1
+ReadRelation = ℕ → TextCounts → TextCounts → List Terminal → List Terminal → Type 0
 
-pub record IsDone (R : Reading) (k : ℕ) (w a : TextCounts) (t q : List Terminal) : Type 0 where
+pub record IsDone (R : ReadRelation) (k : ℕ) (w a : TextCounts) (t q : List Terminal) : Type 0 where
   pub behind : TextCounts
   pub alike : IsAlike w behind
   pub is : R k a behind t q
 
 -- Terminals that were read at the level l. Their names and numbers are those of the pieces, and the pieces are read in that way too, at each level at which there is room.
-pub record IsPart (l : ℕ) (v w : TextCounts) (s r : List Terminal) (ps : List PrintedPiece) (R : Reading) : Type 0 where
+pub record IsPart (l : ℕ) (v w : TextCounts) (s r : List Terminal) (ps : List PrintedPiece) (R : ReadRelation) : Type 0 where
   pub deeper : v.deepest ≤ w.deepest
   pub within : v.deepest ≤ 64 → w.deepest ≤ 64
   pub spelled : (ver : Bool) → AreGood ver s → AreTokens ver ps × AreGood ver r
-  pub read : (k : ℕ) (a : TextCounts) (t q : List Terminal) → k + w.deepest ≤ l + 64 → IsAlike v a → Stand ps t q → IsDone R k w a t q
+  pub read : (k : ℕ) (a : TextCounts) (t q : List Terminal) → k + w.deepest ≤ l + 64 → IsAlike v a → ArePrefix ps t q → IsDone R k w a t q
 
 -- one thing and then another
-abbrev pub Both : Reading → Reading → Reading
+abbrev pub Both : ReadRelation → ReadRelation → ReadRelation
 Both R Q k a b t q = (c : TextCounts) × (m : List Terminal) × R k a c t m × Q k c b m q
 
-pub both : {l : ℕ} {v u w : TextCounts} {s m r : List Terminal} {ps qs : List PrintedPiece} {R Q : Reading} → IsPart l v u s m ps R → IsPart l u w m r qs Q → IsPart l v w s r (ps ++ qs) (Both R Q)
+pub both : {l : ℕ} {v u w : TextCounts} {s m r : List Terminal} {ps qs : List PrintedPiece} {R Q : ReadRelation} → IsPart l v u s m ps R → IsPart l u w m r qs Q → IsPart l v w s r (ps ++ qs) (Both R Q)
 both {l = l} {v = v} {w = w} {s = s} {r = r} {ps = ps} {qs = qs} {R = R} {Q = Q} one two = record {
   deeper = omega (arith, one.deeper, two.deeper);
   within = λ h. two.within (one.within h);
   spelled = spelled;
-  read = λ k a t q room alike stand. by_parts k a t q room alike (split ps qs t q stand);
+  read = λ k a t q room alike prefix. by_parts k a t q room alike (split ps qs t q prefix);
 } where
   spelled : (ver : Bool) → AreGood ver s → AreTokens ver (ps ++ qs) × AreGood ver r
   spelled ver good = let first = one.spelled ver good in let second = two.spelled ver first.1 in (tokens_of_both ver ps qs first.0 second.0, second.1)
 
-  by_parts : (k : ℕ) (a : TextCounts) (t q : List Terminal) → k + w.deepest ≤ l + 64 → IsAlike v a → (m : List Terminal) × Stand ps t m × Stand qs m q → IsDone (Both R Q) k w a t q
+  by_parts : (k : ℕ) (a : TextCounts) (t q : List Terminal) → k + w.deepest ≤ l + 64 → IsAlike v a → (m : List Terminal) × ArePrefix ps t m × ArePrefix qs m q → IsDone (Both R Q) k w a t q
   by_parts k a t q room alike (m, first, second) =
       let deeper = two.deeper in
       let here = one.read k a t m (omega (arith, room, deeper)) alike first in
@@ -69,7 +69,7 @@ front {l = l} {v = v} p spells fits seen = record {
   spelled = λ ver good. ((spells, fits, seen ver, tt), good.1);
   read = read;
 } where
-  read : (k : ℕ) (a : TextCounts) (t q : List Terminal) → k + v.deepest ≤ l + 64 → IsAlike v a → Stand (p ∷ []) t q → IsDone (IsPiece p) k v a t q
+  read : (k : ℕ) (a : TextCounts) (t q : List Terminal) → k + v.deepest ≤ l + 64 → IsAlike v a → ArePrefix (p ∷ []) t q → IsDone (IsPiece p) k v a t q
   read k a _ q room alike (piece place nothing) = record { behind = a; alike = alike; is = here place }
 
 -- a name, which is one in the source
@@ -80,7 +80,7 @@ front_name {l = l} {v = v} x p = record {
   spelled = λ ver good. ((good.0.0, good.0.1, good.0.2, tt), good.1);
   read = read;
 } where
-  read : (k : ℕ) (a : TextCounts) (t q : List Terminal) → k + v.deepest ≤ l + 64 → IsAlike v a → Stand (name_piece x ∷ []) t q → IsDone (IsPiece (name_piece x)) k v a t q
+  read : (k : ℕ) (a : TextCounts) (t q : List Terminal) → k + v.deepest ≤ l + 64 → IsAlike v a → ArePrefix (name_piece x ∷ []) t q → IsDone (IsPiece (name_piece x)) k v a t q
   read k a _ q room alike (piece place nothing) = record { behind = a; alike = alike; is = here place }
 
 pub front_key : {l : ℕ} {v : TextCounts} {x : Terminal} {r : List Terminal} (word : Keyword) → IsPart l v v (x ∷ r) r (key_piece word ∷ []) (IsPiece (key_piece word))
@@ -111,7 +111,7 @@ front_type {l = l} {v = v} ty = record {
   spelled = λ ver good. (type_tokens ver ty good.0, good.1);
   read = read;
 } where
-  read : (k : ℕ) (a : TextCounts) (t q : List Terminal) → k + v.deepest ≤ l + 64 → IsAlike v a → Stand (type_piece ty ∷ []) t q → IsDone (IsPiece (type_piece ty)) k v a t q
+  read : (k : ℕ) (a : TextCounts) (t q : List Terminal) → k + v.deepest ≤ l + 64 → IsAlike v a → ArePrefix (type_piece ty ∷ []) t q → IsDone (IsPiece (type_piece ty)) k v a t q
   read k a _ q room alike (piece place nothing) = record { behind = a; alike = alike; is = here place }
 
 pub front_sort : {l : ℕ} {v : TextCounts} {p : Place} {r : List Terminal} (sort : SortOf) → IsPart l v v (Sort sort p ∷ r) r (sort_piece sort ∷ []) (IsPiece (sort_piece sort))
@@ -120,18 +120,18 @@ front_sort Input = front_key kw.Istream
 front_sort Output = front_key kw.Ostream
 
 -- one thing and then another, which both stand behind one terminal
-pub both_behind : {l : ℕ} {v u w : TextCounts} {x : Terminal} {s m r : List Terminal} {ps qs : List PrintedPiece} {R Q : Reading} → IsPart l v u (x ∷ s) m ps R → IsPart l u w (x ∷ m) r qs Q
+pub both_behind : {l : ℕ} {v u w : TextCounts} {x : Terminal} {s m r : List Terminal} {ps qs : List PrintedPiece} {R Q : ReadRelation} → IsPart l v u (x ∷ s) m ps R → IsPart l u w (x ∷ m) r qs Q
     → IsPart l v w (x ∷ s) r (ps ++ qs) (Both R Q)
 both_behind {l = l} {v = v} {w = w} {x = x} {s = s} {r = r} {ps = ps} {qs = qs} {R = R} {Q = Q} one two = record {
   deeper = omega (arith, one.deeper, two.deeper);
   within = λ h. two.within (one.within h);
   spelled = spelled;
-  read = λ k a t q room alike stand. by_parts k a t q room alike (split ps qs t q stand);
+  read = λ k a t q room alike prefix. by_parts k a t q room alike (split ps qs t q prefix);
 } where
   spelled : (ver : Bool) → AreGood ver (x ∷ s) → AreTokens ver (ps ++ qs) × AreGood ver r
   spelled ver good = let first = one.spelled ver good in let second = two.spelled ver (good.0, first.1) in (tokens_of_both ver ps qs first.0 second.0, second.1)
 
-  by_parts : (k : ℕ) (a : TextCounts) (t q : List Terminal) → k + w.deepest ≤ l + 64 → IsAlike v a → (m : List Terminal) × Stand ps t m × Stand qs m q → IsDone (Both R Q) k w a t q
+  by_parts : (k : ℕ) (a : TextCounts) (t q : List Terminal) → k + w.deepest ≤ l + 64 → IsAlike v a → (m : List Terminal) × ArePrefix ps t m × ArePrefix qs m q → IsDone (Both R Q) k w a t q
   by_parts k a t q room alike (m, first, second) =
       let deeper = two.deeper in
       let here = one.read k a t m (omega (arith, room, deeper)) alike first in
@@ -139,52 +139,52 @@ both_behind {l = l} {v = v} {w = w} {x = x} {s = s} {r = r} {ps = ps} {qs = qs} 
       record { behind = there.behind; alike = there.alike; is = (here.behind, m, here.is, there.is) }
 
 -- what is read in one way is read in another
-pub mapped : {l : ℕ} {v w : TextCounts} {s r : List Terminal} {ps : List PrintedPiece} {R Q : Reading} → ((k : ℕ) (a b : TextCounts) (t q : List Terminal) → R k a b t q → Q k a b t q) → IsPart l v w s r ps R →
+pub mapped : {l : ℕ} {v w : TextCounts} {s r : List Terminal} {ps : List PrintedPiece} {R Q : ReadRelation} → ((k : ℕ) (a b : TextCounts) (t q : List Terminal) → R k a b t q → Q k a b t q) → IsPart l v w s r ps R →
     IsPart l v w s r ps Q
-mapped tells part = record {
+mapped implies part = record {
   deeper = part.deeper;
   within = part.within;
   spelled = part.spelled;
-  read = λ k a t q room alike stand.
-      let done = part.read k a t q room alike stand in
-      record { behind = done.behind; alike = done.alike; is = tells k a done.behind t q done.is };
+  read = λ k a t q room alike prefix.
+      let done = part.read k a t q room alike prefix in
+      record { behind = done.behind; alike = done.alike; is = implies k a done.behind t q done.is };
 }
 
 -- the same of pieces that are equal
-pub same_pieces : {l : ℕ} {v w : TextCounts} {s r : List Terminal} {ps qs : List PrintedPiece} {R : Reading} → ps ≡ qs → IsPart l v w s r ps R → IsPart l v w s r qs R
+pub same_pieces : {l : ℕ} {v w : TextCounts} {s r : List Terminal} {ps qs : List PrintedPiece} {R : ReadRelation} → ps ≡ qs → IsPart l v w s r ps R → IsPart l v w s r qs R
 same_pieces {l = l} {v = v} {w = w} {s = s} {r = r} {R = R} same part = let P : List PrintedPiece → Type 0 = λ ps. IsPart l v w s r ps R in subst P same part
 
 -- what stands one level deeper
-pub inner : {l : ℕ} {v w : TextCounts} {s r : List Terminal} {ps : List PrintedPiece} {R : Reading} → IsPart (suc l) v w s r ps R → IsPart l v w s r ps (λ k. R (suc k))
+pub inner : {l : ℕ} {v w : TextCounts} {s r : List Terminal} {ps : List PrintedPiece} {R : ReadRelation} → IsPart (suc l) v w s r ps R → IsPart l v w s r ps (λ k. R (suc k))
 inner part = record {
   deeper = part.deeper;
   within = part.within;
   spelled = part.spelled;
-  read = λ k a t q room alike stand. let done = part.read (suc k) a t q (omega (arith, room)) alike stand in record { behind = done.behind; alike = done.alike; is = done.is };
+  read = λ k a t q room alike prefix. let done = part.read (suc k) a t q (omega (arith, room)) alike prefix in record { behind = done.behind; alike = done.alike; is = done.is };
 }
 
 -- what begins with a thing of a level within the limit
-pub from_level : {l : ℕ} {v w : TextCounts} {s r : List Terminal} {ps : List PrintedPiece} {R : Reading} (m : ℕ) → m ≤ 64 → IsPart l (at_level m v) w s r ps R → IsPart l v w s r ps R
+pub from_level : {l : ℕ} {v w : TextCounts} {s r : List Terminal} {ps : List PrintedPiece} {R : ReadRelation} (m : ℕ) → m ≤ 64 → IsPart l (at_level m v) w s r ps R → IsPart l v w s r ps R
 from_level m level part = record {
   deeper = omega (arith, part.deeper);
   within = λ h. part.within (omega (arith, level, h));
   spelled = part.spelled;
-  read = λ k a t q room alike stand. let done = part.read k a t q room alike stand in record { behind = done.behind; alike = done.alike; is = done.is };
+  read = λ k a t q room alike prefix. let done = part.read k a t q room alike prefix in record { behind = done.behind; alike = done.alike; is = done.is };
 }
 
 -- where a thing of the level of the part was read, the level at which it is read is within the limit
-pub at_own_level : {l : ℕ} {v w : TextCounts} {s r : List Terminal} {ps : List PrintedPiece} {R : Reading} → l ≤ w.deepest → IsPart l v w s r ps R →
+pub at_own_level : {l : ℕ} {v w : TextCounts} {s r : List Terminal} {ps : List PrintedPiece} {R : ReadRelation} → l ≤ w.deepest → IsPart l v w s r ps R →
     IsPart l v w s r ps (λ k a b t q. (is_within Nesting k ≡ true) × R k (at_level k a) b t q)
 at_own_level {w = w} some part = record {
   deeper = part.deeper;
   within = part.within;
   spelled = part.spelled;
-  read = λ k a t q room alike stand.
-      let done = part.read k (at_level k a) t q room alike stand in
+  read = λ k a t q room alike prefix.
+      let done = part.read k (at_level k a) t q room alike prefix in
       record { behind = done.behind; alike = done.alike; is = (level_is k (omega (arith, room, some)), done.is) };
 }
 
-abbrev pub Whole : Expr → Reading
+abbrev pub Whole : Expr → ReadRelation
 Whole x k a b t q = IsWhole limits k a b t q x
 
 -- a whole expression
@@ -195,15 +195,15 @@ whole_part {l = l} {v = v} {w = w} {s = s} {r = r} {x = x} h =
       deeper = kept.deeper;
       within = kept.within;
       spelled = kept.spelled;
-      read = λ k a t q room alike stand.
-          let read = kept.bare k (new_expression a) t q room (refl, alike.1, alike.2) stand in
+      read = λ k a t q room alike prefix.
+          let read = kept.bare k (new_expression a) t q room (refl, alike.1, alike.2) prefix in
           record { behind = read.behind; alike = read.alike; is = looser 10 (expr_row x) k (new_expression a) read.behind t q x kept.row_most read.is };
     }
 
-abbrev pub MoreArguments : ℕ → List Expr → Reading
+abbrev pub MoreArguments : ℕ → List Expr → ReadRelation
 MoreArguments n xs k a b t q = IsMoreArguments limits k n a b t q xs
 
-abbrev pub Arguments : List Expr → Reading
+abbrev pub Arguments : List Expr → ReadRelation
 Arguments xs k a b t q = IsArguments limits k a b t q xs
 
 -- the arguments behind n of them

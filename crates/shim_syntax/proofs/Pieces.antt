@@ -9,7 +9,7 @@ use Rattle.shim_base.specs.declared.TokenKind.TheVariants.{Word, Key, Number, Si
 use Rattle.shim_base.specs.declared.Sign.{Sign}
 use Rattle.shim_base.specs.Tokens.{is_spacing, is_digit, is_letter, is_name_byte, is_hex_digit, is_name, is_numeral, is_hex_numeral, sign_of, signs, IsNumeralOf, Spells, IsWithinLimits, IsLongestToken, Token, Place, place_after, IsComment, Cuts, ended, passed, token, spacing}
 use Rattle.shim_base.proofs.FirstToken.{both_true, entry-passes, letter-no_spacing, digit-no_spacing, no_empty_token}
-use Rattle.shim_base.proofs.Front.{no_comment_at, no_comment_second}
+use Rattle.shim_base.proofs.TextPrefix.{no_comment_at, no_comment_second}
 use Rattle.shim_base.proofs.Cutting.{token_at}
 use Rattle.shim_base.specs.declared.Ty.TheVariants.{Int64}
 use Rattle.shim_syntax.specs.declared.tree.Sort.TheVariants.{Value}
@@ -41,12 +41,12 @@ x-solid x h = grind (arith, nat_tests)
 zero_digit-solid : (b : ℕ) → (b == 48) ≡ true → is_solid b ≡ true
 zero_digit-solid b h = grind (arith, nat_tests)
 
--- where every byte passes one test, and this one tells another, every byte passes the other
+-- where every byte passes one test, and this one implies another, every byte passes the other
 all_weaker : (p q : ℕ → Bool) → ((b : ℕ) → p b ≡ true → q b ≡ true) → (bytes : List ℕ) → list_all p bytes ≡ true → list_all q bytes ≡ true
-all_weaker p q tells [] h = refl
-all_weaker p q tells (b ∷ bytes) h =
+all_weaker p q implies [] h = refl
+all_weaker p q implies (b ∷ bytes) h =
     let k = both_true (p b) (list_all p bytes) h in
-    rw (tells b k.0, all_weaker p q tells bytes k.1) refl
+    rw (implies b k.0, all_weaker p q implies bytes k.1) refl
 
 name-solid : (text : List ℕ) → is_name text ≡ true → list_all is_solid text ≡ true
 name-solid [] h = refl

@@ -22,9 +22,9 @@ use Rattle.shim_syntax.specs.Text.{IsText}
 use Rattle.shim_syntax.specs.Printing.{PrintedPiece, piece_text, pieces_text, key_piece, sign_piece, name_piece, version_piece, line_end_piece, sort_piece, stmt_shown, all_pieces, param_pieces, params_pieces, more_params_pieces, throws_pieces, more_throws_pieces, function_pieces, functions_pieces, pieces, canonical}
 use Rattle.shim_syntax.specs.Same.{function_without_lines, IsTextOfSame}
 use Rattle.shim_syntax.proofs.Pieces.{AreTokens, tokens_of, behind_piece, pieces_are_cut}
-use Rattle.shim_syntax.proofs.Standing.{Stand, nothing, split, pieces_stand, tokens_of_both, AreGood, cut_is_good, header_seen}
+use Rattle.shim_syntax.proofs.Standing.{ArePrefix, nothing, split, pieces_are_prefix, tokens_of_both, AreGood, cut_is_good, header_seen}
 use Rattle.shim_syntax.proofs.Shapes.{sign_spells}
-use Rattle.shim_syntax.proofs.Parts.{Reading, IsPart, Both, both, IsPiece, here, front_name, front_key, front_type, front_sort, front_sign, front_last, mapped, same_pieces}
+use Rattle.shim_syntax.proofs.Parts.{ReadRelation, IsPart, Both, both, IsPiece, here, front_name, front_key, front_type, front_sort, front_sign, front_last, mapped, same_pieces}
 use Rattle.shim_syntax.proofs.Readings.{Block, own_piece, behind_terminal}
 use Rattle.shim_syntax.proofs.Simple.{IsSort, is_sort, sort_read}
 use Rattle.shim_syntax.proofs.Statements.{block_part}
@@ -33,19 +33,19 @@ use Rattle.shim_syntax.proofs.Statements.{block_part}
 data IsSame (R : List Terminal → List Terminal → Type 0) : ℕ → TextCounts → TextCounts → List Terminal → List Terminal → Type 0 where
   uncounted : {k : ℕ} {a : TextCounts} {t q : List Terminal} → R t q → IsSame R k a a t q
 
-abbrev OneParam : Param → Reading
+abbrev OneParam : Param → ReadRelation
 OneParam x = IsSame (λ t q. IsParam t q x)
 
-abbrev Params : List Param → Reading
+abbrev Params : List Param → ReadRelation
 Params xs = IsSame (λ t q. IsParams limits t q xs)
 
-abbrev MoreParams : ℕ → List Param → Reading
+abbrev MoreParams : ℕ → List Param → ReadRelation
 MoreParams n xs = IsSame (λ t q. IsMoreParams limits n t q xs)
 
-abbrev Throws : List (List ℕ) → Reading
+abbrev Throws : List (List ℕ) → ReadRelation
 Throws xs = IsSame (λ t q. IsThrows limits t q xs)
 
-abbrev MoreThrows : ℕ → List (List ℕ) → Reading
+abbrev MoreThrows : ℕ → List (List ℕ) → ReadRelation
 MoreThrows n xs = IsSame (λ t q. IsMoreThrows limits n t q xs)
 
 -- a parameter with `&`
@@ -118,7 +118,7 @@ throws_part {l = l} {v = v} {r = r} (gr.throws {x = x} {q = o} {s = s} {xs = xs}
       build k a _ _ q (_, _, here i, (_, _, here j, uncounted rest)) = uncounted (gr.throws fits rest)
 
 -- the parts of a function
-abbrev Parts : Function → Reading
+abbrev Parts : Function → ReadRelation
 Parts f = Both (IsPiece (key_piece kw.Void)) (Both (IsPiece (name_piece f.name)) (Both (IsPiece (sign_piece g.LeftParen)) (Both (Params f.params) (Both (Throws f.throws) (Block f.body)))))
 
 parts_pieces : (params throws body : List PrintedPiece) → (params ++ sign_piece g.RightParen ∷ []) ++ ((throws ++ line_end_piece g.LeftBrace ∷ []) ++ body) ≡ params ++ sign_piece g.RightParen ∷ (throws ++ line_end_piece g.LeftBrace ∷ body)
@@ -153,20 +153,20 @@ record AreFunctionsRead (n : ℕ) (a : TextCounts) (t : List Terminal) (fs : Lis
 
 record AreKept (n : ℕ) (v : TextCounts) (s : List Terminal) (fs : List Function) : Type 0 where
   spelled : (ver : Bool) → AreGood ver s → AreTokens ver (functions_pieces fs)
-  read : (a : TextCounts) (t : List Terminal) (p : Place) → a.operators ≡ v.operators → a.two ≡ v.two → Stand (functions_pieces fs) t (End p ∷ []) → AreFunctionsRead n a t fs
+  read : (a : TextCounts) (t : List Terminal) (p : Place) → a.operators ≡ v.operators → a.two ≡ v.two → ArePrefix (functions_pieces fs) t (End p ∷ []) → AreFunctionsRead n a t fs
 
 none_kept : (n : ℕ) (v : TextCounts) (s : List Terminal) → AreKept n v s []
 none_kept n v s = record { spelled = λ ver good. tt; read = read } where
-  read : (a : TextCounts) (t : List Terminal) (p : Place) → a.operators ≡ v.operators → a.two ≡ v.two → Stand [] t (End p ∷ []) → AreFunctionsRead n a t []
+  read : (a : TextCounts) (t : List Terminal) (p : Place) → a.operators ≡ v.operators → a.two ≡ v.two → ArePrefix [] t (End p ∷ []) → AreFunctionsRead n a t []
   read a _ p same version nothing = record { read = []; same = refl; are = gr.program_end }
 
 one_kept : (n : ℕ) (v w : TextCounts) (s m : List Terminal) (f : Function) (fs : List Function) → is_within (Count ManyFunctions) (suc n) ≡ true → w.deepest ≤ 64 →
     IsPart 1 (new_function v) w s m (function_pieces f) (Parts f) → AreKept (suc n) w m fs → AreKept n v s (f ∷ fs)
-one_kept n v w s m f fs fits deep part more = record { spelled = spelled; read = λ a t p same version stand. by_parts a t p same version (split (function_pieces f) (functions_pieces fs) t (End p ∷ []) stand) } where
+one_kept n v w s m f fs fits deep part more = record { spelled = spelled; read = λ a t p same version prefix. by_parts a t p same version (split (function_pieces f) (functions_pieces fs) t (End p ∷ []) prefix) } where
   spelled : (ver : Bool) → AreGood ver s → AreTokens ver (functions_pieces (f ∷ fs))
   spelled ver good = let one = part.spelled ver good in tokens_of_both ver (function_pieces f) (functions_pieces fs) one.0 (more.spelled ver one.1)
 
-  by_parts : (a : TextCounts) (t : List Terminal) (p : Place) → a.operators ≡ v.operators → a.two ≡ v.two → (q : List Terminal) × Stand (function_pieces f) t q × Stand (functions_pieces fs) q (End p ∷ []) →
+  by_parts : (a : TextCounts) (t : List Terminal) (p : Place) → a.operators ≡ v.operators → a.two ≡ v.two → (q : List Terminal) × ArePrefix (function_pieces f) t q × ArePrefix (functions_pieces fs) q (End p ∷ []) →
       AreFunctionsRead n a t (f ∷ fs)
   by_parts a t p same version (q, one, rest) =
       let done = part.read 1 (new_function a) t q (omega (arith, deep)) (same, refl, version) one in
@@ -234,7 +234,7 @@ canonical_by ver ts _ header good (gr.version_1 {fs = fs} h) =
     let end = place_after start (canonical program) in
     let one : ver ≡ false = sym header ∙ no_header 0 nothing_read ts [] fs h in
     let are = subst (λ b. AreTokens b (functions_pieces fs)) one (kept.spelled ver good) in
-    let read = kept.read nothing_read (map (of_version false) (of_tokens (tokens_of start (functions_pieces fs)) (End end))) end refl refl (pieces_stand false start (functions_pieces fs) (End end) refl are) in
+    let read = kept.read nothing_read (map (of_version false) (of_tokens (tokens_of start (functions_pieces fs)) (End end))) end refl refl (pieces_are_prefix false start (functions_pieces fs) (End end) refl are) in
     is_shown false program read.read are (no_header_shown start end fs) (gr.version_1 read.are) read.same
 canonical_by ver _ _ header good (gr.version_2 {x = x} {y = y} {s = s} {fs = fs} shim two_is h) =
     let program : Program = record { version = 2; functions = fs } in
@@ -243,7 +243,7 @@ canonical_by ver _ _ header good (gr.version_2 {x = x} {y = y} {s = s} {fs = fs}
     let one : ver ≡ true = sym header ∙ (rw (shim, two_is) refl) in
     let are = subst (λ b. AreTokens b (functions_pieces fs)) one (kept.spelled ver good.1.1.1) in
     let place = behind_piece (behind_piece (behind_piece start (name_piece (codes "shim"))) version_piece) (line_end_piece g.Semicolon) in
-    let read = kept.read (in_version_2 nothing_read) (map (of_version true) (of_tokens (tokens_of place (functions_pieces fs)) (End end))) end refl refl (pieces_stand true place (functions_pieces fs) (End end) refl are) in
+    let read = kept.read (in_version_2 nothing_read) (map (of_version true) (of_tokens (tokens_of place (functions_pieces fs)) (End end))) end refl refl (pieces_are_prefix true place (functions_pieces fs) (End end) refl are) in
     is_shown true program read.read (header_spells, omega arith, (λ p. refl), (two_spells, omega (arith, ints), (λ p. refl), (sign_spells g.Semicolon, tt, (λ p. refl), are))) refl (gr.version_2 refl refl read.are) read.same
 
 -- the canonical text of a text's program is a text of the same program but for lines

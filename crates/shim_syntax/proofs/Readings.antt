@@ -13,33 +13,33 @@ use Rattle.shim_syntax.specs.Grammar as gr
 use Rattle.shim_syntax.specs.Printing.{PrintedPiece, StmtShown, stmt_shown, branch_pieces, all_pieces, end_pieces, block_pieces, fork_pieces, simple, without_semicolon, key_piece, line_end_piece}
 use Rattle.shim_syntax.specs.Same.{stmt_without_lines}
 use Rattle.shim_syntax.proofs.Pieces.{IsSeen}
-use Rattle.shim_syntax.proofs.Standing.{Stand, nothing, piece}
+use Rattle.shim_syntax.proofs.Standing.{ArePrefix, nothing, piece}
 use Rattle.shim_syntax.proofs.Shapes.{sign_spells}
 use Rattle.shim_syntax.proofs.Expressions.{IsAlike}
 use Rattle.shim_syntax.proofs.StatementShapes.{AreSame, AreSameBranches, branch_without_lines}
-use Rattle.shim_syntax.proofs.Parts.{Reading, IsDone, IsPart, Both, both, both_behind, IsPiece, here, mapped, same_pieces, at_own_level}
+use Rattle.shim_syntax.proofs.Parts.{ReadRelation, IsDone, IsPart, Both, both, both_behind, IsPiece, here, mapped, same_pieces, at_own_level}
 
 -- a statement
-abbrev pub One : Stmt → Reading
+abbrev pub One : Stmt → ReadRelation
 One x k a b t q = (y : Stmt) × (stmt_without_lines y ≡ stmt_without_lines x) × (is_par (first q) ≡ false → is_else (first q) ≡ false → IsStmt limits k a b t q (y ∷ []))
 
 -- statements at the front of a block
-abbrev pub Stmts : List Stmt → Reading
+abbrev pub Stmts : List Stmt → ReadRelation
 Stmts xs k a b t q = (ys : List Stmt) × AreSame ys xs × ((c : TextCounts) (z : List Terminal) (zs : List Stmt) → IsBlock limits k b c q z zs → IsBlock limits k a c t z (ys ++ zs))
 
 -- a block behind its left brace
-abbrev pub Block : List Stmt → Reading
+abbrev pub Block : List Stmt → ReadRelation
 Block xs k a b t q = (ys : List Stmt) × AreSame ys xs × IsBlock limits k a b t q ys
 
 -- a body in braces
-abbrev pub Body : List Stmt → Reading
+abbrev pub Body : List Stmt → ReadRelation
 Body xs k a b t q = (ys : List Stmt) × AreSame ys xs × (is_par (first q) ≡ false → IsBody limits k a b t q ys)
 
-abbrev pub OneBranch : Branch → Reading
+abbrev pub OneBranch : Branch → ReadRelation
 OneBranch x k a b t q = (y : Branch) × (branch_without_lines y ≡ branch_without_lines x) × IsBranch limits k a b t q y
 
 -- the branches behind n of them, without the first `par`
-abbrev pub Branches : ℕ → List Branch → Reading
+abbrev pub Branches : ℕ → List Branch → ReadRelation
 Branches n xs k a b t q = (ys : List Branch) × AreSameBranches ys xs × (is_par (first q) ≡ false → IsBranches limits k n a b t q ys)
 
 abbrev pub IsStmtsPart : ℕ → TextCounts → TextCounts → List Terminal → List Terminal → List Stmt → Type 0
@@ -104,22 +104,22 @@ own_piece {l = l} {v = v} p spells fits seen = record {
   spelled = λ ver good. ((spells, fits, seen ver, tt), good);
   read = read;
 } where
-  read : (k : ℕ) (a : TextCounts) (t q : List Terminal) → k + v.deepest ≤ l + 64 → IsAlike v a → Stand (p ∷ []) t q → IsDone (IsPiece p) k v a t q
+  read : (k : ℕ) (a : TextCounts) (t q : List Terminal) → k + v.deepest ≤ l + 64 → IsAlike v a → ArePrefix (p ∷ []) t q → IsDone (IsPiece p) k v a t q
   read k a _ q room alike (piece place nothing) = record { behind = a; alike = alike; is = here place }
 
 -- a terminal that the pieces don't have
-pub behind_terminal : {l : ℕ} {v w : TextCounts} {x : Terminal} {s r : List Terminal} {ps : List PrintedPiece} {R : Reading} → IsPart l v w s r ps R → IsPart l v w (x ∷ s) r ps R
+pub behind_terminal : {l : ℕ} {v w : TextCounts} {x : Terminal} {s r : List Terminal} {ps : List PrintedPiece} {R : ReadRelation} → IsPart l v w s r ps R → IsPart l v w (x ∷ s) r ps R
 behind_terminal part = record { deeper = part.deeper; within = part.within; spelled = λ ver good. part.spelled ver good.1; read = part.read }
 
 -- a part behind which nothing that counts was read
-pub with_idle : {l : ℕ} {v u w : TextCounts} {s m r : List Terminal} {ps qs : List PrintedPiece} {R Q : Reading} → IsPart l v u s m ps R → IsPart l u w m r qs Q → IsAlike u w → IsPart l v w s r ps R
+pub with_idle : {l : ℕ} {v u w : TextCounts} {s m r : List Terminal} {ps qs : List PrintedPiece} {R Q : ReadRelation} → IsPart l v u s m ps R → IsPart l u w m r qs Q → IsAlike u w → IsPart l v w s r ps R
 with_idle one two alike = record {
   deeper = omega (arith, one.deeper, two.deeper);
   within = λ h. two.within (one.within h);
   spelled = λ ver good. let first_part = one.spelled ver good in (first_part.0, (two.spelled ver first_part.1).1);
-  read = λ k a t q room start stand.
+  read = λ k a t q room start prefix.
       let deeper = two.deeper in
-      let done = one.read k a t q (omega (arith, room, deeper)) start stand in
+      let done = one.read k a t q (omega (arith, room, deeper)) start prefix in
       record { behind = done.behind; alike = (done.alike.0 ∙ sym alike.0, done.alike.1 ∙ sym alike.1, done.alike.2 ∙ sym alike.2); is = done.is };
 }
 
@@ -184,28 +184,28 @@ stmts_block xs ys one two =
       build k a b t q (_, _, (us, us_same, us_before), (vs, vs_same, block)) = (us ++ vs, same_both xs ys us vs us_same vs_same, us_before b q vs block)
 
 -- read in a body of its own
-pub data InBody (R : Reading) : ℕ → TextCounts → TextCounts → List Terminal → List Terminal → Type 0 where
+pub data InBody (R : ReadRelation) : ℕ → TextCounts → TextCounts → List Terminal → List Terminal → Type 0 where
   in_body : {k : ℕ} {a c : TextCounts} {t q : List Terminal} → R k (new_body a) c t q → InBody R k a (behind_body a.deepest c) t q
 
 -- what was read in a body of its own is
-pub body_of_own : {l : ℕ} {v u : TextCounts} {s r : List Terminal} {ps : List PrintedPiece} {R : Reading} → IsPart l (new_body v) u s r ps R → IsPart l v (behind_body v.deepest u) s r ps (InBody R)
+pub body_of_own : {l : ℕ} {v u : TextCounts} {s r : List Terminal} {ps : List PrintedPiece} {R : ReadRelation} → IsPart l (new_body v) u s r ps R → IsPart l v (behind_body v.deepest u) s r ps (InBody R)
 body_of_own part = record {
   deeper = omega arith;
   within = λ h. let level = part.within (omega arith) in omega (arith, h, level);
   spelled = part.spelled;
-  read = λ k a t q room alike stand.
-      let done = part.read k (new_body a) t q (omega (arith, room)) alike stand in
+  read = λ k a t q room alike prefix.
+      let done = part.read k (new_body a) t q (omega (arith, room)) alike prefix in
       record { behind = behind_body a.deepest done.behind; alike = done.alike; is = in_body done.is };
 }
 
 -- and so is what was read in no such body
-pub into_body : {l : ℕ} {v w : TextCounts} {s r : List Terminal} {ps : List PrintedPiece} {R : Reading} → IsPart l v w s r ps R → IsPart l v w s r ps (InBody R)
+pub into_body : {l : ℕ} {v w : TextCounts} {s r : List Terminal} {ps : List PrintedPiece} {R : ReadRelation} → IsPart l v w s r ps R → IsPart l v w s r ps (InBody R)
 into_body part = record {
   deeper = part.deeper;
   within = part.within;
   spelled = part.spelled;
-  read = λ k a t q room alike stand.
-      let done = part.read k (new_body a) t q room alike stand in
+  read = λ k a t q room alike prefix.
+      let done = part.read k (new_body a) t q room alike prefix in
       record { behind = behind_body a.deepest done.behind; alike = done.alike; is = in_body done.is };
 }
 

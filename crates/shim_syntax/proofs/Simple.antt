@@ -17,10 +17,10 @@ use Rattle.shim_syntax.specs.Limits.{Count, Nesting, is_within, limits}
 use Rattle.shim_syntax.specs.Grammar.{TextCounts, at_level, with_local, IsWhole, IsArguments, IsDeclared, IsDeclarations, IsFirst, IsTest, IsStep, IsThrowRest}
 use Rattle.shim_syntax.specs.Grammar as gr
 use Rattle.shim_syntax.specs.Printing.{PrintedPiece, StmtShown, stmt_shown, simple, key_piece, sign_piece, name_piece, line_end_piece, type_piece, sort_piece, expr_pieces, args_pieces, first_value_pieces, test_pieces, thrown_number_pieces, part_pieces}
-use Rattle.shim_syntax.proofs.Standing.{Stand, nothing, piece}
+use Rattle.shim_syntax.proofs.Standing.{ArePrefix, nothing, piece}
 use Rattle.shim_syntax.proofs.Expressions.{IsAlike, level_of}
 use Rattle.shim_syntax.proofs.StatementShapes.{AreSame, other_line, declare_shown, assign_shown, next_shown, next_assign_shown, assign_next_shown, get_shown, put_shown, call_shown, throw_shown}
-use Rattle.shim_syntax.proofs.Parts.{Reading, IsDone, IsPart, Both, both, IsPiece, here, front_name, front_key, front_type, front_sign, front_last, mapped, same_pieces, from_level, at_own_level, Whole, whole_part, Arguments, args_part}
+use Rattle.shim_syntax.proofs.Parts.{ReadRelation, IsDone, IsPart, Both, both, IsPiece, here, front_name, front_key, front_type, front_sign, front_last, mapped, same_pieces, from_level, at_own_level, Whole, whole_part, Arguments, args_part}
 use Rattle.shim_syntax.proofs.Readings.{One, IsStmtsPart, simple_pieces, one_stmt, stmts_more_behind}
 
 -- the word of a sort
@@ -53,14 +53,14 @@ local_part {l = l} {v = v} x p fits = record {
   spelled = λ ver good. ((good.0.0, good.0.1, good.0.2, tt), good.1);
   read = read;
 } where
-  read : (k : ℕ) (a : TextCounts) (t q : List Terminal) → k + v.deepest ≤ l + 64 → IsAlike v a → Stand (name_piece x ∷ []) t q → IsDone (IsLocal x) k (with_local v) a t q
+  read : (k : ℕ) (a : TextCounts) (t q : List Terminal) → k + v.deepest ≤ l + 64 → IsAlike v a → ArePrefix (name_piece x ∷ []) t q → IsDone (IsLocal x) k (with_local v) a t q
   read k a _ q room alike (piece place nothing) = record {
     behind = with_local a;
     alike = (alike.0, ap suc alike.1, alike.2);
     is = local place (ap (λ (n : ℕ). is_within (Count Locals) (suc n)) alike.1 ∙ fits);
   }
 
-abbrev pub Declared : List ℕ → Option Expr → Reading
+abbrev pub Declared : List ℕ → Option Expr → ReadRelation
 Declared x value k a b t q = IsDeclared limits k a b t q x value
 
 -- a declared name
@@ -174,17 +174,17 @@ put_part {q = d} {x = x} {value = value} line some h =
           (record { line = i.line; what = st.Put x value }, other_line i.line line (st.Put x value), λ no_par no_else. gr.plain (gr.put whole))
 
 -- what stands behind the exception of a `throw`, with the semicolon
-abbrev ThrowRest : Option Expr → Reading
+abbrev ThrowRest : Option Expr → ReadRelation
 ThrowRest x k a b t q = IsThrowRest limits k a b t q x
 
 -- what is read in version 2 alone, where the source is of version 2
-pub where_two : {l : ℕ} {v w : TextCounts} {s r : List Terminal} {ps : List PrintedPiece} {R : Reading} → v.two ≡ true → IsPart l v w s r ps R → IsPart l v w s r ps (λ k a b t q. (a.two ≡ true) × R k a b t q)
+pub where_two : {l : ℕ} {v w : TextCounts} {s r : List Terminal} {ps : List PrintedPiece} {R : ReadRelation} → v.two ≡ true → IsPart l v w s r ps R → IsPart l v w s r ps (λ k a b t q. (a.two ≡ true) × R k a b t q)
 where_two two part = record {
   deeper = part.deeper;
   within = part.within;
   spelled = part.spelled;
-  read = λ k a t q room alike stand.
-      let done = part.read k a t q room alike stand in
+  read = λ k a t q room alike prefix.
+      let done = part.read k a t q room alike prefix in
       record { behind = done.behind; alike = done.alike; is = (alike.2 ∙ two, done.is) };
 }
 
@@ -229,13 +229,13 @@ call_part {p = p} {f = f} {xs = xs} line some h =
             gr.plain (gr.call args no_par),
       )
 
-abbrev pub First : List Stmt → Reading
+abbrev pub First : List Stmt → ReadRelation
 First xs k a b t q = (ys : List Stmt) × AreSame ys xs × IsFirst limits k a b t q ys
 
-abbrev pub Step : List Stmt → Reading
+abbrev pub Step : List Stmt → ReadRelation
 Step xs k a b t q = (ys : List Stmt) × AreSame ys xs × IsStep limits k a b t q ys
 
-abbrev pub Test : Option Expr → Reading
+abbrev pub Test : Option Expr → ReadRelation
 Test x k a b t q = IsTest limits k a b t q x
 
 -- the pieces of a part of a `for` that is one statement

@@ -24,24 +24,24 @@ use Rattle.shim_syntax.specs.Printing.{PrintedPiece}
 use Rattle.shim_syntax.proofs.Pieces.{AreTokens, shown_as, tokens_of, behind_piece}
 
 -- the terminals of the pieces stand at the front of the first of these lists, and the second follows them
-pub data Stand : List PrintedPiece → List Terminal → List Terminal → Type 0 where
-  nothing : {r : List Terminal} → Stand [] r r
-  piece : {p : PrintedPiece} {ps : List PrintedPiece} {s r : List Terminal} (place : Place) → Stand ps s r → Stand (p ∷ ps) (shown_as p place ∷ s) r
+pub data ArePrefix : List PrintedPiece → List Terminal → List Terminal → Type 0 where
+  nothing : {r : List Terminal} → ArePrefix [] r r
+  piece : {p : PrintedPiece} {ps : List PrintedPiece} {s r : List Terminal} (place : Place) → ArePrefix ps s r → ArePrefix (p ∷ ps) (shown_as p place ∷ s) r
 
 -- pieces of two parts stand as the first and behind it the second
-pub split : (ps qs : List PrintedPiece) (s r : List Terminal) → Stand (ps ++ qs) s r → (m : List Terminal) × Stand ps s m × Stand qs m r
+pub split : (ps qs : List PrintedPiece) (s r : List Terminal) → ArePrefix (ps ++ qs) s r → (m : List Terminal) × ArePrefix ps s m × ArePrefix qs m r
 split [] qs s r h = (s, nothing, h)
 split (p ∷ ps) qs _ r (piece place h) = let more = split ps qs _ r h in (more.0, piece place more.1, more.2)
 
 -- the terminals of the tokens of pieces are those of the pieces
-pub pieces_stand : (ver : Bool) (place : Place) (ps : List PrintedPiece) (last : Terminal) → of_version ver last ≡ last → AreTokens ver ps
-    → Stand ps (map (of_version ver) (of_tokens (tokens_of place ps) last)) (last ∷ [])
-pieces_stand ver place [] last e are = let P : Terminal → Type 0 = λ t. Stand [] (t ∷ []) (last ∷ []) in subst P (sym e) nothing
-pieces_stand ver place (p ∷ ps) last e are =
+pub pieces_are_prefix : (ver : Bool) (place : Place) (ps : List PrintedPiece) (last : Terminal) → of_version ver last ≡ last → AreTokens ver ps
+    → ArePrefix ps (map (of_version ver) (of_tokens (tokens_of place ps) last)) (last ∷ [])
+pieces_are_prefix ver place [] last e are = let P : Terminal → Type 0 = λ t. ArePrefix [] (t ∷ []) (last ∷ []) in subst P (sym e) nothing
+pieces_are_prefix ver place (p ∷ ps) last e are =
     let at : Place = record { at = place.at; line = place.line } in
     let more = map (of_version ver) (of_tokens (tokens_of (behind_piece place p) ps) last) in
-    let P : Terminal → Type 0 = λ t. Stand (p ∷ ps) (t ∷ more) (last ∷ []) in
-    subst P (sym (are.2 at)) (piece at (pieces_stand ver (behind_piece place p) ps last e are.3))
+    let P : Terminal → Type 0 = λ t. ArePrefix (p ∷ ps) (t ∷ more) (last ∷ []) in
+    subst P (sym (are.2 at)) (piece at (pieces_are_prefix ver (behind_piece place p) ps last e are.3))
 
 -- tokens of two parts
 pub tokens_of_both : (ver : Bool) (ps qs : List PrintedPiece) → AreTokens ver ps → AreTokens ver qs → AreTokens ver (ps ++ qs)

@@ -14,7 +14,7 @@ use Rattle.shim_syntax.specs.Limits.{Count, is_within, limits}
 use Rattle.shim_syntax.specs.Grammar.{TextCounts, at_level, new_body, behind_body, as_branch, is_par, IsDeclarations, IsBlock, IsStmt, IsPlain, IsBody, IsBranch, IsBranches}
 use Rattle.shim_syntax.specs.Grammar as gr
 use Rattle.shim_syntax.specs.Printing.{PrintedPiece, branch_pieces, key_piece, line_end_piece}
-use Rattle.shim_syntax.proofs.Standing.{Stand, nothing}
+use Rattle.shim_syntax.proofs.Standing.{ArePrefix, nothing}
 use Rattle.shim_syntax.proofs.Expressions.{IsAlike, level_of}
 use Rattle.shim_syntax.proofs.StatementShapes.{branch_without_lines}
 use Rattle.shim_syntax.proofs.Parts.{IsDone, IsPart, Both, both, IsPiece, here, front_key, front_last, mapped, same_pieces, from_level, inner}
@@ -75,7 +75,7 @@ as_fork xs level part = record {
   deeper = omega arith;
   within = λ h. let deep = part.within (omega arith) in omega (arith, h, level, deep);
   spelled = part.spelled;
-  read = λ k a t q room alike stand. let done = part.read (suc k) a t q (omega (arith, room)) alike stand in record { behind = done.behind; alike = done.alike; is = done.is };
+  read = λ k a t q room alike prefix. let done = part.read (suc k) a t q (omega (arith, room)) alike prefix in record { behind = done.behind; alike = done.alike; is = done.is };
 }
 
 no_stmts : (k : ℕ) (a b : TextCounts) (t q : List Terminal) → IsPiece (line_end_piece g.RightBrace) k a b t q → Block [] k a b t q
@@ -84,7 +84,7 @@ no_stmts k a _ _ q (here p) = ([], refl, gr.block_end)
 -- the empty statement is none
 no_stmt : {l : ℕ} {v : TextCounts} {p : Place} {r : List Terminal} → IsStmtsPart l v v (Sign g.Semicolon p ∷ r) r []
 no_stmt {l = l} {v = v} = record { deeper = omega arith; within = λ h. h; spelled = λ ver good. (tt, good.1); read = read } where
-  read : (k : ℕ) (a : TextCounts) (t q : List Terminal) → k + v.deepest ≤ l + 64 → IsAlike v a → Stand [] t q → IsDone (Stmts []) k v a t q
+  read : (k : ℕ) (a : TextCounts) (t q : List Terminal) → k + v.deepest ≤ l + 64 → IsAlike v a → ArePrefix [] t q → IsDone (Stmts []) k v a t q
   read k a _ q room alike nothing = record { behind = a; alike = alike; is = ([], refl, λ c z zs more. more) }
 
 -- the last branch of a fork

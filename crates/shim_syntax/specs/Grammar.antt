@@ -1,5 +1,5 @@
 -- The grammar. `IsX .. s r v` says that an X which reads as v stands at the front of the terminals s, and that r follows it.
--- c tells which levels and numbers things may have, l is the level, and v and w are what was counted before it and behind it.
+-- c says which levels and numbers things may have, l is the level, and v and w are what was counted before it and behind it.
 use Rattle.std.specs.Prelude.{ℕ, ℤ, suc, max, ◌≡◌, List, [], ◌∷◌, ◌++◌, Option, Some, None, Bool, true, false}
 use Rattle.shim_base.specs.declared.token.Keyword.TheVariants as k
 use Rattle.shim_base.specs.declared.token.Sign.{Sign as SignOf}

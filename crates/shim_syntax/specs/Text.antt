@@ -14,7 +14,7 @@ pub record IsText (bytes : List ℕ) (program : Program) : Type 0 where
   pub read : IsRead bytes terminals
   pub derives : Derives limits terminals program
 
--- Some terminals that continue these derive a program, in which nothing that begins in these passes a limit. They may continue a text of either version: the first three terminals tell which it is, and none of these is a name that version 2 sees otherwise.
+-- Some terminals that continue these derive a program, in which nothing that begins in these passes a limit. They may continue a text of either version: the first three terminals decide which it is, and none of these is a name that version 2 sees otherwise.
 abbrev pub BeginsProgram : Limits → List Terminal → Type 0
 BeginsProgram c ts = (more : List Terminal) × (program : Program) × Derives (until more c) (ts ++ more) program
 

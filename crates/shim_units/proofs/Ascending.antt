@@ -16,10 +16,10 @@ falls xs at one within le up =
     omega arith
 
 -- each is below all that stand behind it
-apart : (xs : List ℕ) → IsStrictlyIncreasing xs → (i d : ℕ) → i + suc d < length xs → get_or xs i 0 < get_or xs (i + suc d) 0
-apart xs up i zero h = up i (omega arith)
-apart xs up i (suc d) h =
-    let first : get_or xs i 0 < get_or xs (i + suc d) 0 = apart xs up i d (omega arith) in
+below_later : (xs : List ℕ) → IsStrictlyIncreasing xs → (i d : ℕ) → i + suc d < length xs → get_or xs i 0 < get_or xs (i + suc d) 0
+below_later xs up i zero h = up i (omega arith)
+below_later xs up i (suc d) h =
+    let first : get_or xs i 0 < get_or xs (i + suc d) 0 = below_later xs up i d (omega arith) in
     let last : get_or xs (i + suc d) 0 < get_or xs (i + suc d + 1) 0 = up (i + suc d) (omega arith) in
     let e : i + suc d + 1 ≡ i + suc (suc d) = omega arith in
     let same : get_or xs (i + suc d + 1) 0 ≡ get_or xs (i + suc (suc d)) 0 = ap (λ k. get_or xs k 0) e in
@@ -28,7 +28,7 @@ apart xs up i (suc d) h =
 less : (xs : List ℕ) → IsStrictlyIncreasing xs → (i j : ℕ) → i < j → j < length xs → get_or xs i 0 < get_or xs j 0
 less xs up i j lt within =
     let e : i + suc (j - i - 1) ≡ j = omega arith in
-    let far : get_or xs i 0 < get_or xs (i + suc (j - i - 1)) 0 = apart xs up i (j - i - 1) (omega arith) in
+    let far : get_or xs i 0 < get_or xs (i + suc (j - i - 1)) 0 = below_later xs up i (j - i - 1) (omega arith) in
     let same : get_or xs (i + suc (j - i - 1)) 0 ≡ get_or xs j 0 = ap (λ k. get_or xs k 0) e in
     omega arith
 

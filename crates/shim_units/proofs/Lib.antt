@@ -1,6 +1,7 @@
 -- The lemmas of this crate.
 pub mod Counting
 pub mod PartSteps
+pub mod LiftInduction
 pub mod EachKind
 pub mod Ascending
 pub mod Marks

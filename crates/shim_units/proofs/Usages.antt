@@ -53,8 +53,8 @@ usage_other us u x e = same _ _ _ _ _ _
     (some_more (λ (v : Use). nat_eq v.slot x && is_written v.how) us u ∙ or_of_false (some (λ (v : Use). nat_eq v.slot x && is_written v.how) us) (nat_eq u.slot x && is_written u.how) (and_false (nat_eq u.slot x) (is_written u.how) e))
     (some_more (λ (v : Use). nat_eq v.slot x) us u ∙ or_of_false (some (λ (v : Use). nat_eq v.slot x) us) (nat_eq u.slot x) e)
 
-apart : (a b : ℕ) → (a ≡ b → ⊥) → nat_eq a b ≡ false
-apart a b ne = elim (eqb_tells a b) [ inl h ↦ absurd (ne h.1) | inr h ↦ h.0 ]
+unequal : (a b : ℕ) → (a ≡ b → ⊥) → nat_eq a b ≡ false
+unequal a b ne = elim (eqb_tells a b) [ inl h ↦ absurd (ne h.1) | inr h ↦ h.0 ]
 
 get_set_same : {A : Type 0} (xs : List A) (i : ℕ) (a : A) → i < length xs → slice_get (set xs i a) i ≡ Some a
 get_set_same [] i a lt = absurd (omega arith)
@@ -77,7 +77,7 @@ shows_here ms n us u m x h lt is below =
           let here : slice_get (set ms u.slot (with_use m u.how)) u.slot ≡ Some (with_use m u.how) = get_set_same ms u.slot (with_use m u.how) (omega (arith, h.long)) in
           subst (λ k. slice_get (set ms u.slot (with_use m u.how)) k ≡ Some (usage_of (us ++ u ∷ []) k)) (sym same)
           (here ∙ ap (λ v. Some (with_use v u.how)) is ∙ ap Some (sym (usage_here us u u.slot (eq-eqb u.slot u.slot refl))))
-      | inr other ↦ get_set_other ms u.slot x (with_use m u.how) other ∙ h.each x below ∙ ap Some (sym (usage_other us u x (apart u.slot x (λ q. other (sym q)))))
+      | inr other ↦ get_set_other ms u.slot x (with_use m u.how) other ∙ h.each x below ∙ ap Some (sym (usage_other us u x (unequal u.slot x (λ q. other (sym q)))))
     ]
 
 -- one more use, of a variable that has a usage

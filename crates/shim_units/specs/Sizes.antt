@@ -49,16 +49,16 @@ abbrev pub larger : ℕ → Extent → Extent
 larger n e = record { size = n + e.size; own = e.own; forked = e.forked; inside = e.inside }
 
 -- of two parts together
-abbrev pub both : Extent → Extent → Extent
-both a b = record { size = a.size + b.size; own = a.own + b.own; forked = a.forked + b.forked; inside = a.inside + b.inside }
+abbrev pub sum_of_two : Extent → Extent → Extent
+sum_of_two a b = record { size = a.size + b.size; own = a.own + b.own; forked = a.forked + b.forked; inside = a.inside + b.inside }
 
-abbrev together : List Extent → Extent
-together [] = plain 0
-together (e ∷ es) = both e (together es)
+abbrev sum_of_all : List Extent → Extent
+sum_of_all [] = plain 0
+sum_of_all (e ∷ es) = sum_of_two e (sum_of_all es)
 
 -- of a block branch, or of a fork: what is declared there is in units of their own
-abbrev pub apart : Extent → Extent
-apart e = record { size = suc e.size; own = 0; forked = e.own + e.forked; inside = e.size }
+abbrev pub in_own_units : Extent → Extent
+in_own_units e = record { size = suc e.size; own = 0; forked = e.own + e.forked; inside = e.size }
 
 -- the variable of a handler, where it has one
 abbrev pub variable_extent : Option ℕ → Extent
@@ -69,7 +69,7 @@ abbrev pub call_size : RCall → ℕ
 call_size c = suc (sum_of (map expr_size c.args))
 
 abbrev pub branch_extents : RBranchWhat-F Extent Extent Extent Extent → Extent
-branch_extents (RBranchWhat-F.RBranchWhat::Block body) = apart (together body)
+branch_extents (RBranchWhat-F.RBranchWhat::Block body) = in_own_units (sum_of_all body)
 branch_extents (RBranchWhat-F.RBranchWhat::Call c) = plain (call_size c)
 
 abbrev pub what_extents : RWhat-F Extent Extent Extent Extent → Extent
@@ -80,14 +80,14 @@ what_extents (RWhat-F.NextAssign x e) = plain (suc (expr_size e))
 what_extents (RWhat-F.AssignNext x y) = plain 2
 what_extents (RWhat-F.Get x y) = plain 2
 what_extents (RWhat-F.Put x e) = plain (suc (expr_size e))
-what_extents (RWhat-F.If e first other) = larger (suc (expr_size e)) (both (together first) (together other))
-what_extents (RWhat-F.While e body) = larger (suc (expr_size e)) (together body)
-what_extents (RWhat-F.For first test step body) = larger (suc (option_size test)) (both (together first) (both (together step) (together body)))
-what_extents (RWhat-F.RWhat::Block body) = larger 1 (together body)
+what_extents (RWhat-F.If e first other) = larger (suc (expr_size e)) (sum_of_two (sum_of_all first) (sum_of_all other))
+what_extents (RWhat-F.While e body) = larger (suc (expr_size e)) (sum_of_all body)
+what_extents (RWhat-F.For first test step body) = larger (suc (option_size test)) (sum_of_two (sum_of_all first) (sum_of_two (sum_of_all step) (sum_of_all body)))
+what_extents (RWhat-F.RWhat::Block body) = larger 1 (sum_of_all body)
 what_extents (RWhat-F.RWhat::Call c) = plain (call_size c)
-what_extents (RWhat-F.Try body x y handler) = larger 1 (both (together body) (both (variable_extent y) (together handler)))
+what_extents (RWhat-F.Try body x y handler) = larger 1 (sum_of_two (sum_of_all body) (sum_of_two (variable_extent y) (sum_of_all handler)))
 what_extents (RWhat-F.Throw x e) = plain (suc (option_size e))
-what_extents (RWhat-F.Par branches) = apart (together branches)
+what_extents (RWhat-F.Par branches) = in_own_units (sum_of_all branches)
 
 abbrev pub branch_what_extent : RBranchWhat → Extent
 branch_what_extent = fold-RBranchWhat Extent Extent Extent Extent branch_extents what_extents (λ b. b.what) (λ s. s.what)
@@ -102,10 +102,10 @@ abbrev pub stmt_extent : RStmt → Extent
 stmt_extent = fold-RStmt Extent Extent Extent Extent branch_extents what_extents (λ b. b.what) (λ s. s.what)
 
 abbrev pub extent : List RStmt → Extent
-extent body = together (map stmt_extent body)
+extent body = sum_of_all (map stmt_extent body)
 
 abbrev pub fork_extent : List RBranch → Extent
-fork_extent branches = together (map branch_extent branches)
+fork_extent branches = sum_of_all (map branch_extent branches)
 
 abbrev pub function_size : RFunction → ℕ
 function_size f = suc (length f.params + (length f.throws + (extent f.body).size))

@@ -99,7 +99,7 @@ fn index_in_ascending(numbers: &[u32], one: u32) -> usize
     }
 }
 
-// Marks the place of a number, and tells whether it wasn't marked before.
+// Marks the place of a number, and returns whether it wasn't marked before.
 fn mark(marks: &mut Vec<bool>, one: u32) -> Result<bool, NoMemory>
     ensures fresh { IfOk result (λ fresh. fresh ≡ not (slice_index_or marks.old.items one false)) }
     ensures marked { OnOk result ((x : ℕ) → slice_index_or marks.new.items x false ≡ slice_index_or marks.old.items x false || nat_eq one x) }

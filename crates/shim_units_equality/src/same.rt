@@ -3,7 +3,7 @@ ghost use Rattle.std.specs.Prelude.{◌≡◌, ◌↔◌, IsTrue};
 
 use shim_base::Name;
 
-/// What can be compared. Unlike `==` it tells apart all that contracts tell apart.
+/// What can be compared. Unlike `==` it distinguishes all that contracts distinguish.
 pub trait Same {
     /// Whether it is the same as the other one.
     fn same(&self, other: &Self) -> bool

@@ -1,4 +1,4 @@
--- The least number whose name isn't among the identifiers of a program, as its list of names tells it.
+-- The least number whose name isn't among the identifiers of a program, as its list of names gives it.
 use Rattle.std.specs.Prelude.{nat_lt}
 use Rattle.std.proofs.Common.{ℕ, IsTrue, ◌↔◌, Bool, not, ◌+◌, ◌<◌, ◌≤◌, ◌^◌, ◌≡◌, ◌⊎◌, inl, inr, List, [], ◌∷◌, ◌++◌, true, false, Option, Some, None, is_some, position, length, refl, sym, subst, arith}
 use Rattle.std.specs.List.{find}

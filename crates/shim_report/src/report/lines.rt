@@ -1,7 +1,7 @@
 // The lines of a report.
 ghost use Rattle.std.specs.Prelude.{◌≡◌, ◌++◌, OnOk, flat_map};
 ghost use Rattle.shim_local.specs.declared.LogWhat.TheVariants.{Caught, Trap as LoggedTrap};
-ghost use Rattle.shim_report.specs.Report.{end_line, events_line, history_line, log_line, outcome_text, output_line, own_line, told_line, value_part, wait_line};
+ghost use Rattle.shim_report.specs.Report.{end_line, events_line, history_line, log_line, outcome_text, output_line, own_line, log_what_line, value_part, wait_line};
 
 use super::words::{push_channel, push_hex_part, push_name, push_path, push_signed, trap_word};
 use shim_base::{List, Name, NoMemory, Path, Trap, push_decimal};
@@ -60,7 +60,7 @@ pub(super) fn push_log(text: &mut List<u8>, names: &[Name], log: &Log) -> Result
     }
 }
 
-#[tactic(auto, unfolding(crate::specs::Report::told_line))]
+#[tactic(auto, unfolding(crate::specs::Report::log_what_line))]
 fn push_caught(
     text: &mut List<u8>,
     names: &[Name],
@@ -68,7 +68,7 @@ fn push_caught(
     name: u32,
     line: u32,
 ) -> Result<(), NoMemory>
-    ensures { OnOk result (text.new ≡ text.old ++ told_line names.now path.now (Caught name line)) }
+    ensures { OnOk result (text.new ≡ text.old ++ log_what_line names.now path.now (Caught name line)) }
 {
     text.extend_from_slice(b"catch ")?;
     push_path(text, path)?;
@@ -79,7 +79,7 @@ fn push_caught(
     text.extend_from_slice(b"\n")
 }
 
-#[tactic(auto, unfolding(crate::specs::Report::told_line))]
+#[tactic(auto, unfolding(crate::specs::Report::log_what_line))]
 fn push_trapped(
     text: &mut List<u8>,
     names: &[Name],
@@ -87,7 +87,7 @@ fn push_trapped(
     trap: Trap,
     line: u32,
 ) -> Result<(), NoMemory>
-    ensures { OnOk result (text.new ≡ text.old ++ told_line names.now path.now (LoggedTrap trap line)) }
+    ensures { OnOk result (text.new ≡ text.old ++ log_what_line names.now path.now (LoggedTrap trap line)) }
 {
     text.extend_from_slice(b"trap ")?;
     push_path(text, path)?;

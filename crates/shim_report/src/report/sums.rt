@@ -7,7 +7,7 @@ use shim_base::{List, Name, NoMemory, push_decimal};
 use shim_local::{Ended, History, Log, LogWhat, Outcome};
 use std::alloc::Global;
 
-// Sums are told by their residue modulo this.
+// A sum is printed as its residue modulo this.
 const MODULUS: u64 = 1000000;
 
 // How many values all channels have been given. A count past 64 bits is want of memory.

@@ -1,4 +1,4 @@
-use Rattle.shim_base.proofs.Front.{cut_exactly_once}
+use Rattle.shim_base.proofs.TextPrefix.{cut_exactly_once}
 use Rattle.shim_base.proofs.laws.one_cutting.Goals as goal
 
 pub returns : goal.returns

@@ -1,6 +1,6 @@
 use Rattle.std.proofs.Common.{◌≡◌, length, false, ap, subst, arith, add-one, refl, rules}
 use Rattle.shim_grammar.proofs.Runs.{is_right_paren}
-use Rattle.shim_parser.specs.Reading.{ReaderView}
+use Rattle.shim_parser.specs.ReaderViews.{ReaderView}
 use Rattle.shim_parser.proofs.Exits.{propagates}
 use Rattle.shim_parser.proofs.CallExits.{none_reads, first_fails, arguments_start, arguments_end, next_fails, arguments_go, more_unwanted, not_right_paren}
 use Rattle.shim_parser.proofs.ExprExits.{expr_shorter}

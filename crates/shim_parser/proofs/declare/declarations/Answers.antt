@@ -1,5 +1,5 @@
 use Rattle.std.proofs.Common.{length, ap, arith, rules}
-use Rattle.shim_parser.specs.Reading.{ReaderView}
+use Rattle.shim_parser.specs.ReaderViews.{ReaderView}
 use Rattle.shim_parser.proofs.DeclareExits.{declared_shorter, declarations_go, declarations_end, behind_unwanted}
 use Rattle.shim_parser.proofs.declare.declarations.Goals as goal
 

@@ -1,7 +1,7 @@
 use Rattle.std.proofs.Common.{◌-◌, rules, arith, ap, sym, ◌∙◌, length, add-one}
 use Rattle.shim_syntax.specs.Grammar.{operator_row}
 use Rattle.shim_syntax.specs.declared.tree.Expr.TheVariants as tree
-use Rattle.shim_parser.specs.Reading.{ReaderView}
+use Rattle.shim_parser.specs.ReaderViews.{ReaderView}
 use Rattle.shim_parser.proofs.Exits.{propagates}
 use Rattle.shim_parser.proofs.ExprExits.{unary_enter_fails, unary_operand_fails, unary_reads, number_reads, variable_reads, parens_enter_fails, parens_row_fails, parens_punctuation_fails, parens_reads, chain_starts, chain_ends, chain_ends_other, no_row, chain_goes, expr_shorter}
 use Rattle.shim_parser.proofs.expr.+expr.Goals as goal

@@ -3,7 +3,7 @@ use Rattle.shim_syntax.specs.Terminals.{IsRead}
 use Rattle.shim_grammar.specs.Machine.{Source}
 use Rattle.shim_parser.specs.TokenView.{token_views}
 use Rattle.shim_parser.specs.Sources.{IsWholeSource}
-use Rattle.shim_parser.specs.Reading.{ReaderView, Fails}
+use Rattle.shim_parser.specs.ReaderViews.{ReaderView, Fails}
 use Rattle.shim_parser.proofs.ParserExits.{proper, text_is, fault_answers, only}
 use Rattle.shim_parser.proofs.parser.parse.Goals as goal
 

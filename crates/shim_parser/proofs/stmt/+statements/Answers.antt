@@ -7,11 +7,11 @@ use Rattle.shim_syntax.specs.declared.tree.BranchWhat.TheVariants as br
 use Rattle.shim_parser.specs.Statements.{IsAssigned, IsNamed, IsBehindPar}
 use Rattle.shim_parser.proofs.StmtExits.{advanced_same}
 use Rattle.shim_parser.specs.OpeningView.{opening_view}
-use Rattle.shim_parser.specs.Reading.{ReaderView, Reads}
+use Rattle.shim_parser.specs.ReaderViews.{ReaderView, Reads}
 use Rattle.shim_parser.proofs.Exits.{propagates}
 use Rattle.shim_parser.proofs.BodyExits as body
 use Rattle.shim_parser.proofs.NestedExits as nested
-use Rattle.shim_parser.proofs.StatementExits as arm
+use Rattle.shim_parser.proofs.StatementExits as cases
 use Rattle.shim_parser.proofs.Shorter as shorter
 use Rattle.shim_parser.proofs.StmtExits as exits
 use Rattle.shim_parser.proofs.stmt.+statements.Goals as goal
@@ -136,40 +136,40 @@ named-returns t c = exits.named_fork c.args.level c.args.line c.args.text.now c.
     (subst (λ u. IsBehindPar (record { line = c.args.line; what = br.Call (record { function = u; args = c.in_ok-args.args }) }) c.args.level c.call.new.tokens.counts c.branches.new.tokens.counts c.call.new.tokens.rest c.branches.new.tokens.rest c.in_ok-branches.field-0) c.in_ok-name.ensures c.in_ok-branches.ensures)
 
 pub statement-returns-in-Empty : goal.statement-returns-in-Empty
-statement-returns-in-Empty t c = arm.empty_arm c.args.level (record { at = c.peek-token.result.at; line = c.peek-token.result.line }) c.args.tokens.now c.enter.new.self c.advance.new.self c.in_ok-enter.ensures.0 c.in_ok-enter.ensures.1 c.advance.ensures (sym c.peek-token.ensures.is ∙ c.in-Some.ensures (record { at = c.peek-token.result.at; line = c.peek-token.result.line }) ∙ ap (λ o. opening_view o (record { at = c.peek-token.result.at; line = c.peek-token.result.line })) c.in-Empty.is) c.new.result c.new.ensures
+statement-returns-in-Empty t c = cases.empty_case c.args.level (record { at = c.peek-token.result.at; line = c.peek-token.result.line }) c.args.tokens.now c.enter.new.self c.advance.new.self c.in_ok-enter.ensures.0 c.in_ok-enter.ensures.1 c.advance.ensures (sym c.peek-token.ensures.is ∙ c.in-Some.ensures (record { at = c.peek-token.result.at; line = c.peek-token.result.line }) ∙ ap (λ o. opening_view o (record { at = c.peek-token.result.at; line = c.peek-token.result.line })) c.in-Empty.is) c.new.result c.new.ensures
 
 pub statement-returns-in-Declaration : goal.statement-returns-in-Declaration
-statement-returns-in-Declaration t c = arm.declaration_arm c.args.level (record { at = c.peek-token.result.at; line = c.peek-token.result.line }) c.args.tokens.now c.enter.new.self c.advance.new.self c.in_ok-enter.ensures.0 c.in_ok-enter.ensures.1 c.advance.ensures c.in-Declaration.ty (sym c.peek-token.ensures.is ∙ c.in-Some.ensures (record { at = c.peek-token.result.at; line = c.peek-token.result.line }) ∙ ap (λ o. opening_view o (record { at = c.peek-token.result.at; line = c.peek-token.result.line })) c.in-Declaration.is) c.declarations.new.tokens c.declarations.result c.declarations.ensures
+statement-returns-in-Declaration t c = cases.declaration_case c.args.level (record { at = c.peek-token.result.at; line = c.peek-token.result.line }) c.args.tokens.now c.enter.new.self c.advance.new.self c.in_ok-enter.ensures.0 c.in_ok-enter.ensures.1 c.advance.ensures c.in-Declaration.ty (sym c.peek-token.ensures.is ∙ c.in-Some.ensures (record { at = c.peek-token.result.at; line = c.peek-token.result.line }) ∙ ap (λ o. opening_view o (record { at = c.peek-token.result.at; line = c.peek-token.result.line })) c.in-Declaration.is) c.declarations.new.tokens c.declarations.result c.declarations.ensures
 
 pub statement-returns-in-Name : goal.statement-returns-in-Name
-statement-returns-in-Name t c = arm.named_arm c.args.level (record { at = c.peek-token.result.at; line = c.peek-token.result.line }) c.args.tokens.now c.enter.new.self c.advance.new.self c.in_ok-enter.ensures.0 c.in_ok-enter.ensures.1 c.advance.ensures c.in-Name.text.now (sym c.peek-token.ensures.is ∙ c.in-Some.ensures (record { at = c.peek-token.result.at; line = c.peek-token.result.line }) ∙ ap (λ o. opening_view o (record { at = c.peek-token.result.at; line = c.peek-token.result.line })) c.in-Name.is) c.named.new.tokens c.named.result c.one-in-Name.result c.named.ensures c.one-in-Name.ensures
+statement-returns-in-Name t c = cases.named_case c.args.level (record { at = c.peek-token.result.at; line = c.peek-token.result.line }) c.args.tokens.now c.enter.new.self c.advance.new.self c.in_ok-enter.ensures.0 c.in_ok-enter.ensures.1 c.advance.ensures c.in-Name.text.now (sym c.peek-token.ensures.is ∙ c.in-Some.ensures (record { at = c.peek-token.result.at; line = c.peek-token.result.line }) ∙ ap (λ o. opening_view o (record { at = c.peek-token.result.at; line = c.peek-token.result.line })) c.in-Name.is) c.named.new.tokens c.named.result c.one-in-Name.result c.named.ensures c.one-in-Name.ensures
 
 pub statement-returns-in-Next : goal.statement-returns-in-Next
-statement-returns-in-Next t c = arm.keyed_arm c.args.level (record { at = c.peek-token.result.at; line = c.peek-token.result.line }) c.args.tokens.now c.enter.new.self c.advance.new.self c.in_ok-enter.ensures.0 c.in_ok-enter.ensures.1 c.advance.ensures k.Next (sym c.peek-token.ensures.is ∙ c.in-Some.ensures (record { at = c.peek-token.result.at; line = c.peek-token.result.line }) ∙ ap (λ o. opening_view o (record { at = c.peek-token.result.at; line = c.peek-token.result.line })) c.in-Next.is) (Word ∷ AfterNext c.args.level ∷ []) (λ z s u. refl)
+statement-returns-in-Next t c = cases.keyed_case c.args.level (record { at = c.peek-token.result.at; line = c.peek-token.result.line }) c.args.tokens.now c.enter.new.self c.advance.new.self c.in_ok-enter.ensures.0 c.in_ok-enter.ensures.1 c.advance.ensures k.Next (sym c.peek-token.ensures.is ∙ c.in-Some.ensures (record { at = c.peek-token.result.at; line = c.peek-token.result.line }) ∙ ap (λ o. opening_view o (record { at = c.peek-token.result.at; line = c.peek-token.result.line })) c.in-Next.is) (Word ∷ AfterNext c.args.level ∷ []) (λ z s u. refl)
     c.next.new.tokens c.next.result c.one-in-Next.result c.next.ensures c.one-in-Next.ensures
 
 pub statement-returns-in-Put : goal.statement-returns-in-Put
-statement-returns-in-Put t c = arm.keyed_arm c.args.level (record { at = c.peek-token.result.at; line = c.peek-token.result.line }) c.args.tokens.now c.enter.new.self c.advance.new.self c.in_ok-enter.ensures.0 c.in_ok-enter.ensures.1 c.advance.ensures k.Put (sym c.peek-token.ensures.is ∙ c.in-Some.ensures (record { at = c.peek-token.result.at; line = c.peek-token.result.line }) ∙ ap (λ o. opening_view o (record { at = c.peek-token.result.at; line = c.peek-token.result.line })) c.in-Put.is) (Word ∷ Fixed punctuation.Comma ∷ Expression c.args.level ∷ Operators c.args.level ∷ Fixed punctuation.Semicolon ∷ []) (λ z s u. refl)
+statement-returns-in-Put t c = cases.keyed_case c.args.level (record { at = c.peek-token.result.at; line = c.peek-token.result.line }) c.args.tokens.now c.enter.new.self c.advance.new.self c.in_ok-enter.ensures.0 c.in_ok-enter.ensures.1 c.advance.ensures k.Put (sym c.peek-token.ensures.is ∙ c.in-Some.ensures (record { at = c.peek-token.result.at; line = c.peek-token.result.line }) ∙ ap (λ o. opening_view o (record { at = c.peek-token.result.at; line = c.peek-token.result.line })) c.in-Put.is) (Word ∷ Fixed punctuation.Comma ∷ Expression c.args.level ∷ Operators c.args.level ∷ Fixed punctuation.Semicolon ∷ []) (λ z s u. refl)
     c.put.new.tokens c.put.result c.one-in-Put.result c.put.ensures c.one-in-Put.ensures
 
 pub statement-returns-in-If : goal.statement-returns-in-If
-statement-returns-in-If t c = arm.keyed_arm c.args.level (record { at = c.peek-token.result.at; line = c.peek-token.result.line }) c.args.tokens.now c.enter.new.self c.advance.new.self c.in_ok-enter.ensures.0 c.in_ok-enter.ensures.1 c.advance.ensures k.If (sym c.peek-token.ensures.is ∙ c.in-Some.ensures (record { at = c.peek-token.result.at; line = c.peek-token.result.line }) ∙ ap (λ o. opening_view o (record { at = c.peek-token.result.at; line = c.peek-token.result.line })) c.in-If.is) (nested.IfStack c.args.level) (λ z s u. refl)
+statement-returns-in-If t c = cases.keyed_case c.args.level (record { at = c.peek-token.result.at; line = c.peek-token.result.line }) c.args.tokens.now c.enter.new.self c.advance.new.self c.in_ok-enter.ensures.0 c.in_ok-enter.ensures.1 c.advance.ensures k.If (sym c.peek-token.ensures.is ∙ c.in-Some.ensures (record { at = c.peek-token.result.at; line = c.peek-token.result.line }) ∙ ap (λ o. opening_view o (record { at = c.peek-token.result.at; line = c.peek-token.result.line })) c.in-If.is) (nested.IfStack c.args.level) (λ z s u. refl)
     c.if_statement.new.tokens c.if_statement.result c.one-in-If.result c.if_statement.ensures c.one-in-If.ensures
 
 pub statement-returns-in-While : goal.statement-returns-in-While
-statement-returns-in-While t c = arm.keyed_arm c.args.level (record { at = c.peek-token.result.at; line = c.peek-token.result.line }) c.args.tokens.now c.enter.new.self c.advance.new.self c.in_ok-enter.ensures.0 c.in_ok-enter.ensures.1 c.advance.ensures k.While (sym c.peek-token.ensures.is ∙ c.in-Some.ensures (record { at = c.peek-token.result.at; line = c.peek-token.result.line }) ∙ ap (λ o. opening_view o (record { at = c.peek-token.result.at; line = c.peek-token.result.line })) c.in-While.is) (Fixed punctuation.LeftParen ∷ Expression c.args.level ∷ Operators c.args.level ∷ Fixed punctuation.RightParen ∷ Body (suc c.args.level) ∷ []) (λ z s u. refl)
+statement-returns-in-While t c = cases.keyed_case c.args.level (record { at = c.peek-token.result.at; line = c.peek-token.result.line }) c.args.tokens.now c.enter.new.self c.advance.new.self c.in_ok-enter.ensures.0 c.in_ok-enter.ensures.1 c.advance.ensures k.While (sym c.peek-token.ensures.is ∙ c.in-Some.ensures (record { at = c.peek-token.result.at; line = c.peek-token.result.line }) ∙ ap (λ o. opening_view o (record { at = c.peek-token.result.at; line = c.peek-token.result.line })) c.in-While.is) (Fixed punctuation.LeftParen ∷ Expression c.args.level ∷ Operators c.args.level ∷ Fixed punctuation.RightParen ∷ Body (suc c.args.level) ∷ []) (λ z s u. refl)
     c.while_loop.new.tokens c.while_loop.result c.one-in-While.result c.while_loop.ensures c.one-in-While.ensures
 
 pub statement-returns-in-For : goal.statement-returns-in-For
-statement-returns-in-For t c = arm.keyed_arm c.args.level (record { at = c.peek-token.result.at; line = c.peek-token.result.line }) c.args.tokens.now c.enter.new.self c.advance.new.self c.in_ok-enter.ensures.0 c.in_ok-enter.ensures.1 c.advance.ensures k.For (sym c.peek-token.ensures.is ∙ c.in-Some.ensures (record { at = c.peek-token.result.at; line = c.peek-token.result.line }) ∙ ap (λ o. opening_view o (record { at = c.peek-token.result.at; line = c.peek-token.result.line })) c.in-For.is) (Fixed punctuation.LeftParen ∷ First (suc c.args.level) ∷ Test c.args.level ∷ Step (suc c.args.level) ∷ Body (suc c.args.level) ∷ []) (λ z s u. refl)
+statement-returns-in-For t c = cases.keyed_case c.args.level (record { at = c.peek-token.result.at; line = c.peek-token.result.line }) c.args.tokens.now c.enter.new.self c.advance.new.self c.in_ok-enter.ensures.0 c.in_ok-enter.ensures.1 c.advance.ensures k.For (sym c.peek-token.ensures.is ∙ c.in-Some.ensures (record { at = c.peek-token.result.at; line = c.peek-token.result.line }) ∙ ap (λ o. opening_view o (record { at = c.peek-token.result.at; line = c.peek-token.result.line })) c.in-For.is) (Fixed punctuation.LeftParen ∷ First (suc c.args.level) ∷ Test c.args.level ∷ Step (suc c.args.level) ∷ Body (suc c.args.level) ∷ []) (λ z s u. refl)
     c.for_loop.new.tokens c.for_loop.result c.one-in-For.result c.for_loop.ensures c.one-in-For.ensures
 
 pub statement-returns-in-Try : goal.statement-returns-in-Try
-statement-returns-in-Try t c = arm.keyed_arm c.args.level (record { at = c.peek-token.result.at; line = c.peek-token.result.line }) c.args.tokens.now c.enter.new.self c.advance.new.self c.in_ok-enter.ensures.0 c.in_ok-enter.ensures.1 c.advance.ensures k.Try (sym c.peek-token.ensures.is ∙ c.in-Some.ensures (record { at = c.peek-token.result.at; line = c.peek-token.result.line }) ∙ ap (λ o. opening_view o (record { at = c.peek-token.result.at; line = c.peek-token.result.line })) c.in-Try.is) (nested.TryStack c.args.level) (λ z s u. refl)
+statement-returns-in-Try t c = cases.keyed_case c.args.level (record { at = c.peek-token.result.at; line = c.peek-token.result.line }) c.args.tokens.now c.enter.new.self c.advance.new.self c.in_ok-enter.ensures.0 c.in_ok-enter.ensures.1 c.advance.ensures k.Try (sym c.peek-token.ensures.is ∙ c.in-Some.ensures (record { at = c.peek-token.result.at; line = c.peek-token.result.line }) ∙ ap (λ o. opening_view o (record { at = c.peek-token.result.at; line = c.peek-token.result.line })) c.in-Try.is) (nested.TryStack c.args.level) (λ z s u. refl)
     c.try_statement.new.tokens c.try_statement.result c.one-in-Try.result c.try_statement.ensures c.one-in-Try.ensures
 
 pub statement-returns-in-Throw : goal.statement-returns-in-Throw
-statement-returns-in-Throw t c = arm.keyed_arm c.args.level (record { at = c.peek-token.result.at; line = c.peek-token.result.line }) c.args.tokens.now c.enter.new.self c.advance.new.self c.in_ok-enter.ensures.0 c.in_ok-enter.ensures.1 c.advance.ensures k.Throw (sym c.peek-token.ensures.is ∙ c.in-Some.ensures (record { at = c.peek-token.result.at; line = c.peek-token.result.line }) ∙ ap (λ o. opening_view o (record { at = c.peek-token.result.at; line = c.peek-token.result.line })) c.in-Throw.is) (Word ∷ ThrowRest c.args.level ∷ []) (λ z s u. refl)
+statement-returns-in-Throw t c = cases.keyed_case c.args.level (record { at = c.peek-token.result.at; line = c.peek-token.result.line }) c.args.tokens.now c.enter.new.self c.advance.new.self c.in_ok-enter.ensures.0 c.in_ok-enter.ensures.1 c.advance.ensures k.Throw (sym c.peek-token.ensures.is ∙ c.in-Some.ensures (record { at = c.peek-token.result.at; line = c.peek-token.result.line }) ∙ ap (λ o. opening_view o (record { at = c.peek-token.result.at; line = c.peek-token.result.line })) c.in-Throw.is) (Word ∷ ThrowRest c.args.level ∷ []) (λ z s u. refl)
     c.throw.new.tokens c.throw.result c.one-in-Throw.result c.throw.ensures c.one-in-Throw.ensures
 
 pub try_statement-returns-in_err-tried : goal.try_statement-returns-in_err-tried

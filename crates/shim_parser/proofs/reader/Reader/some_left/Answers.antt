@@ -1,6 +1,6 @@
 use Rattle.std.proofs.Common.{List, ◌∷◌, ◌≡◌, subst}
 use Rattle.shim_syntax.specs.Terminals.{Terminal, first}
-use Rattle.shim_parser.specs.Reading.{ReaderView}
+use Rattle.shim_parser.specs.ReaderViews.{ReaderView}
 use Rattle.shim_parser.proofs.ParserExits.{proper_some}
 use Rattle.shim_parser.proofs.reader.Reader.some_left.Goals as goal
 

@@ -19,11 +19,11 @@ use Rattle.shim_base.proofs.Passing.{line_passes, IsCloserAt, block_passes, bloc
 use Rattle.shim_base.proofs.Cutting.{first_takes, token_at, fault_at, cuts_once}
 
 -- what stands at the front of bytes
-pub data Front : List ℕ → Type 0 where
-  no_bytes : Front []
-  passing : (bytes over rest : List ℕ) → Skips bytes over rest → Front bytes
-  taken : (bytes text rest : List ℕ) (kind : TokenKind) → (IsComment bytes → ⊥) → IsLongestToken bytes text rest kind → IsWithinLimits text kind → Front bytes
-  fault : (bytes : List ℕ) (kind : LexKind) → ((over rest : List ℕ) → Skips bytes over rest → ⊥) → IsFault kind bytes → Front bytes
+pub data TextPrefix : List ℕ → Type 0 where
+  no_bytes : TextPrefix []
+  passing : (bytes over rest : List ℕ) → Skips bytes over rest → TextPrefix bytes
+  taken : (bytes text rest : List ℕ) (kind : TokenKind) → (IsComment bytes → ⊥) → IsLongestToken bytes text rest kind → IsWithinLimits text kind → TextPrefix bytes
+  fault : (bytes : List ℕ) (kind : LexKind) → ((over rest : List ℕ) → Skips bytes over rest → ⊥) → IsFault kind bytes → TextPrefix bytes
 
 -- a slash is one
 is_byte : (b c : ℕ) → (b == c) ≡ true → b ≡ c
@@ -110,54 +110,54 @@ find_closer [] = inr (λ k h. let within = h.within in absurd (omega arith))
 find_closer (b ∷ text) = closer_from b text (closer_here b text) (find_closer text)
 
 -- what a block comment is
-block_front : (text : List ℕ) → HasCloser text ⊎ ((k : ℕ) → IsCloserAt text k → ⊥) → Front (47 ∷ 42 ∷ text)
-block_front text (inl c) = passing (47 ∷ 42 ∷ text) (47 ∷ 42 ∷ (take c.at text ++ block_closer)) (drop (suc (suc c.at)) text) (block_passes text c.at c.is c.before)
-block_front text (inr none) = fault (47 ∷ 42 ∷ text) OpenComment (λ over rest. no_pass_of_open (47 ∷ 42 ∷ text) over rest (block_open text none)) (block_open text none)
+block_prefix : (text : List ℕ) → HasCloser text ⊎ ((k : ℕ) → IsCloserAt text k → ⊥) → TextPrefix (47 ∷ 42 ∷ text)
+block_prefix text (inl c) = passing (47 ∷ 42 ∷ text) (47 ∷ 42 ∷ (take c.at text ++ block_closer)) (drop (suc (suc c.at)) text) (block_passes text c.at c.is c.before)
+block_prefix text (inr none) = fault (47 ∷ 42 ∷ text) OpenComment (λ over rest. no_pass_of_open (47 ∷ 42 ∷ text) over rest (block_open text none)) (block_open text none)
 
 -- a first token that is a name is a token or too long
-word_front : (bytes text rest : List ℕ) (found : Option Keyword) → (IsComment bytes → ⊥) → IsLongestToken bytes text rest (name_kind found) → Front bytes
-word_front bytes text rest (Some key) no_comment first = taken bytes text rest (Key key) no_comment first tt
-word_front bytes text rest None no_comment first = by_size (cases_lt 64 (length text)) where
-  by_size : (64 < length text) ⊎ (length text ≤ 64) → Front bytes
+word_prefix : (bytes text rest : List ℕ) (found : Option Keyword) → (IsComment bytes → ⊥) → IsLongestToken bytes text rest (name_kind found) → TextPrefix bytes
+word_prefix bytes text rest (Some key) no_comment first = taken bytes text rest (Key key) no_comment first tt
+word_prefix bytes text rest None no_comment first = by_size (cases_lt 64 (length text)) where
+  by_size : (64 < length text) ⊎ (length text ≤ 64) → TextPrefix bytes
   by_size (inl lt) = fault bytes LongName (λ over behind. no_pass_of_token bytes text rest over behind Word no_comment first) (no_comment, text, rest, first, lt)
   by_size (inr le) = taken bytes text rest Word no_comment first le
 
 -- a first token that is a number is a token or too big
-number_front : (bytes text rest : List ℕ) (n : ℕ) → (IsComment bytes → ⊥) → IsLongestToken bytes text rest (Number (pos n)) → Front bytes
-number_front bytes text rest n no_comment first = by_size (cases_lt n (2 ^ 63)) where
-  by_size : (n < 2 ^ 63) ⊎ (2 ^ 63 ≤ n) → Front bytes
+number_prefix : (bytes text rest : List ℕ) (n : ℕ) → (IsComment bytes → ⊥) → IsLongestToken bytes text rest (Number (pos n)) → TextPrefix bytes
+number_prefix bytes text rest n no_comment first = by_size (cases_lt n (2 ^ 63)) where
+  by_size : (n < 2 ^ 63) ⊎ (2 ^ 63 ≤ n) → TextPrefix bytes
   by_size (inl lt) = taken bytes text rest (Number (pos n)) no_comment first (omega (arith, ints, lt))
   by_size (inr le) = fault bytes BigNumber (λ over behind. no_pass_of_token bytes text rest over behind (Number (pos n)) no_comment first) (no_comment, text, rest, n, first, le)
 
 -- what a digit begins
-digit_front : (b : ℕ) (bytes : List ℕ) (hex : Bool) → is_hex_numeral (take 3 (b ∷ bytes)) ≡ hex → is_digit b ≡ true → (IsComment (b ∷ bytes) → ⊥) → Front (b ∷ bytes)
-digit_front b bytes false h d no_comment =
+digit_prefix : (b : ℕ) (bytes : List ℕ) (hex : Bool) → is_hex_numeral (take 3 (b ∷ bytes)) ≡ hex → is_digit b ≡ true → (IsComment (b ∷ bytes) → ⊥) → TextPrefix (b ∷ bytes)
+digit_prefix b bytes false h d no_comment =
     let n = prefix_len is_digit (b ∷ bytes) in
-    number_front (b ∷ bytes) (take n (b ∷ bytes)) (drop n (b ∷ bytes)) (decimal_value (take n (b ∷ bytes))) no_comment (decimal_is_first b bytes n d h refl)
-digit_front b [] true h d no_comment = absurd (cc)
-digit_front b (x ∷ []) true h d no_comment = absurd (cc)
-digit_front b (x ∷ e ∷ bytes) true h d no_comment =
+    number_prefix (b ∷ bytes) (take n (b ∷ bytes)) (drop n (b ∷ bytes)) (decimal_value (take n (b ∷ bytes))) no_comment (decimal_is_first b bytes n d h refl)
+digit_prefix b [] true h d no_comment = absurd (cc)
+digit_prefix b (x ∷ []) true h d no_comment = absurd (cc)
+digit_prefix b (x ∷ e ∷ bytes) true h d no_comment =
     let n = prefix_len is_hex_digit (e ∷ bytes) in
-    number_front (b ∷ x ∷ e ∷ bytes) (b ∷ x ∷ take n (e ∷ bytes)) (drop n (e ∷ bytes)) (hex_value (take n (e ∷ bytes))) no_comment (hex_is_first b x e bytes n h refl)
+    number_prefix (b ∷ x ∷ e ∷ bytes) (b ∷ x ∷ take n (e ∷ bytes)) (drop n (e ∷ bytes)) (hex_value (take n (e ∷ bytes))) no_comment (hex_is_first b x e bytes n h refl)
 
 -- what begins with neither a letter nor a digit nor spacing
-other_front : (b : ℕ) (bytes : List ℕ) (two one : Option Sign) → sign_of (take 2 (b ∷ bytes)) ≡ two → sign_of (b ∷ []) ≡ one → is_letter b ≡ false → is_digit b ≡ false → is_spacing b ≡ false →
-    (IsComment (b ∷ bytes) → ⊥) → Front (b ∷ bytes)
-other_front b [] two (Some sign) s t l d no_space no_comment =
+other_prefix : (b : ℕ) (bytes : List ℕ) (two one : Option Sign) → sign_of (take 2 (b ∷ bytes)) ≡ two → sign_of (b ∷ []) ≡ one → is_letter b ≡ false → is_digit b ≡ false → is_spacing b ≡ false →
+    (IsComment (b ∷ bytes) → ⊥) → TextPrefix (b ∷ bytes)
+other_prefix b [] two (Some sign) s t l d no_space no_comment =
     taken (b ∷ []) (b ∷ []) [] (SignKind sign) no_comment (sign_is_first b [] 1 sign l d (omega arith) t (λ m lt le within. absurd (omega arith))) tt
-other_front b [] two None s t l d no_space no_comment =
+other_prefix b [] two None s t l d no_space no_comment =
     fault (b ∷ []) BadByte (λ over rest. no_pass b [] over rest no_space no_comment) ((λ e. absurd (cc)), no_comment, λ text rest kind. no_sign_no_first b [] text rest kind l d none) where
       none : (m : ℕ) → 1 ≤ m → m ≤ 2 → sign_of (take m (b ∷ [])) ≡ None
       none zero some le = absurd (omega arith)
       none (suc zero) some le = t
       none (suc (suc m)) some le = t
-other_front b (c ∷ bytes) (Some sign) one s t l d no_space no_comment =
+other_prefix b (c ∷ bytes) (Some sign) one s t l d no_space no_comment =
     taken (b ∷ c ∷ bytes) (b ∷ c ∷ []) bytes (SignKind sign) no_comment (sign_is_first b (c ∷ bytes) 2 sign l d (omega arith) s (λ m lt le within. absurd (omega arith))) tt
-other_front b (c ∷ bytes) None (Some sign) s t l d no_space no_comment =
+other_prefix b (c ∷ bytes) None (Some sign) s t l d no_space no_comment =
     taken (b ∷ c ∷ bytes) (b ∷ []) (c ∷ bytes) (SignKind sign) no_comment (sign_is_first b (c ∷ bytes) 1 sign l d (omega arith) t none) tt where
       none : (m : ℕ) → 1 < m → m ≤ 2 → m ≤ length (b ∷ c ∷ bytes) → sign_of (take m (b ∷ c ∷ bytes)) ≡ None
       none m lt le within = let two : 2 ≡ m = omega arith in ap (λ (n : ℕ). sign_of (take n (b ∷ c ∷ bytes))) (sym two) ∙ s
-other_front b (c ∷ bytes) None None s t l d no_space no_comment =
+other_prefix b (c ∷ bytes) None None s t l d no_space no_comment =
     fault (b ∷ c ∷ bytes) BadByte (λ over rest. no_pass b (c ∷ bytes) over rest no_space no_comment)
     ((λ e. absurd (cc)), no_comment, λ text rest kind. no_sign_no_first b (c ∷ bytes) text rest kind l d none) where
       none : (m : ℕ) → 1 ≤ m → m ≤ 2 → sign_of (take m (b ∷ c ∷ bytes)) ≡ None
@@ -167,31 +167,31 @@ other_front b (c ∷ bytes) None None s t l d no_space no_comment =
       none (suc (suc (suc m))) some le = absurd (omega arith)
 
 -- what stands where neither spacing nor a comment does
-token_front : (b : ℕ) (bytes : List ℕ) → is_spacing b ≡ false → (IsComment (b ∷ bytes) → ⊥) → Front (b ∷ bytes)
-token_front b bytes no_space no_comment = by_letter (is_letter b) (is_digit b) refl refl where
-  by_letter : (letter digit : Bool) → is_letter b ≡ letter → is_digit b ≡ digit → Front (b ∷ bytes)
+token_prefix : (b : ℕ) (bytes : List ℕ) → is_spacing b ≡ false → (IsComment (b ∷ bytes) → ⊥) → TextPrefix (b ∷ bytes)
+token_prefix b bytes no_space no_comment = by_letter (is_letter b) (is_digit b) refl refl where
+  by_letter : (letter digit : Bool) → is_letter b ≡ letter → is_digit b ≡ digit → TextPrefix (b ∷ bytes)
   by_letter true digit l d =
       let n = prefix_len is_name_byte (b ∷ bytes) in
-      word_front (b ∷ bytes) (take n (b ∷ bytes)) (drop n (b ∷ bytes)) (keyword_of (take n (b ∷ bytes))) no_comment (name_is_first b bytes n l refl)
-  by_letter false true l d = digit_front b bytes (is_hex_numeral (take 3 (b ∷ bytes))) refl d no_comment
-  by_letter false false l d = other_front b bytes (sign_of (take 2 (b ∷ bytes))) (sign_of (b ∷ [])) refl refl l d no_space no_comment
+      word_prefix (b ∷ bytes) (take n (b ∷ bytes)) (drop n (b ∷ bytes)) (keyword_of (take n (b ∷ bytes))) no_comment (name_is_first b bytes n l refl)
+  by_letter false true l d = digit_prefix b bytes (is_hex_numeral (take 3 (b ∷ bytes))) refl d no_comment
+  by_letter false false l d = other_prefix b bytes (sign_of (take 2 (b ∷ bytes))) (sign_of (b ∷ [])) refl refl l d no_space no_comment
 
 -- something stands at the front of any bytes
-comment_front : (b : ℕ) (bytes : List ℕ) → is_spacing b ≡ false → Begins (b ∷ bytes) line_opener ⊎ (Begins (b ∷ bytes) block_opener ⊎ (IsComment (b ∷ bytes) → ⊥)) → Front (b ∷ bytes)
-comment_front b bytes no_space (inl begins) =
+comment_prefix : (b : ℕ) (bytes : List ℕ) → is_spacing b ≡ false → Begins (b ∷ bytes) line_opener ⊎ (Begins (b ∷ bytes) block_opener ⊎ (IsComment (b ∷ bytes) → ⊥)) → TextPrefix (b ∷ bytes)
+comment_prefix b bytes no_space (inl begins) =
     let n = prefix_len is_on_line begins.0 in
-    let P : List ℕ → Type 0 = λ l. Front l in
+    let P : List ℕ → Type 0 = λ l. TextPrefix l in
     subst P (sym begins.1) (passing (47 ∷ 47 ∷ begins.0) (47 ∷ 47 ∷ take n begins.0) (drop n begins.0) (line_passes begins.0 n refl))
-comment_front b bytes no_space (inr (inl begins)) = let P : List ℕ → Type 0 = λ l. Front l in subst P (sym begins.1) (block_front begins.0 (find_closer begins.0))
-comment_front b bytes no_space (inr (inr no_comment)) = token_front b bytes no_space no_comment
+comment_prefix b bytes no_space (inr (inl begins)) = let P : List ℕ → Type 0 = λ l. TextPrefix l in subst P (sym begins.1) (block_prefix begins.0 (find_closer begins.0))
+comment_prefix b bytes no_space (inr (inr no_comment)) = token_prefix b bytes no_space no_comment
 
 -- what stands at the front of any bytes
-pub front : (bytes : List ℕ) → Front bytes
-front [] = no_bytes
-front (b ∷ bytes) = by_spacing (is_spacing b) refl where
-  by_spacing : (space : Bool) → is_spacing b ≡ space → Front (b ∷ bytes)
+pub text_prefix : (bytes : List ℕ) → TextPrefix bytes
+text_prefix [] = no_bytes
+text_prefix (b ∷ bytes) = by_spacing (is_spacing b) refl where
+  by_spacing : (space : Bool) → is_spacing b ≡ space → TextPrefix (b ∷ bytes)
   by_spacing true s = passing (b ∷ bytes) (b ∷ []) bytes (spacing b bytes s)
-  by_spacing false s = comment_front b bytes s (opening (b ∷ bytes))
+  by_spacing false s = comment_prefix b bytes s (opening (b ∷ bytes))
 
 -- what is passed over takes bytes
 pub pass_takes : (bytes over rest : List ℕ) → Skips bytes over rest → (1 ≤ length over) × (bytes ≡ over ++ rest)
@@ -206,16 +206,16 @@ record HasCutting (place : Place) (bytes : List ℕ) : Type 0 where
   cuts : Cuts place bytes tokens end
 
 -- what stands at the front, and a cutting of what follows, make a cutting
-cut_front : (most : ℕ) (place : Place) (bytes : List ℕ) → length bytes ≤ suc most → Front bytes → ((next : Place) (rest : List ℕ) → length rest ≤ most → HasCutting next rest) →
+cut_prefix : (most : ℕ) (place : Place) (bytes : List ℕ) → length bytes ≤ suc most → TextPrefix bytes → ((next : Place) (rest : List ℕ) → length rest ≤ most → HasCutting next rest) →
     HasCutting place bytes
-cut_front most place _ le no_bytes again = record { tokens = []; end = None; cuts = ended place }
-cut_front most place bytes le (passing _ over rest passes) again =
+cut_prefix most place _ le no_bytes again = record { tokens = []; end = None; cuts = ended place }
+cut_prefix most place bytes le (passing _ over rest passes) again =
     let takes = pass_takes bytes over rest passes in
     let size : length bytes ≡ length over + length rest = ap (λ (l : List ℕ). length l) takes.1 ∙ length-append over rest in
     let some = takes.0 in
     let more = again (place_after place over) rest (omega (arith, size, some, le)) in
     record { tokens = more.tokens; end = more.end; cuts = passed place bytes over rest more.tokens more.end passes more.cuts }
-cut_front most place bytes le (taken _ text rest kind no_comment first fits) again =
+cut_prefix most place bytes le (taken _ text rest kind no_comment first fits) again =
     let takes = first_takes bytes text rest kind first in
     let more = again (place_after place text) rest (omega (arith, takes.0, takes.1, le)) in
     record {
@@ -223,13 +223,13 @@ cut_front most place bytes le (taken _ text rest kind no_comment first fits) aga
       end = more.end;
       cuts = token place bytes text rest kind more.tokens more.end no_comment first fits more.cuts;
     }
-cut_front most place bytes le (fault _ kind no_pass is) again = record { tokens = []; end = Some (fault_at place kind); cuts = faulty place bytes kind no_pass is }
+cut_prefix most place bytes le (fault _ kind no_pass is) again = record { tokens = []; end = Some (fault_at place kind); cuts = faulty place bytes kind no_pass is }
 
 -- bytes of a bounded length have a cutting
 cut_bounded : (most : ℕ) (place : Place) (bytes : List ℕ) → length bytes ≤ most → HasCutting place bytes
 cut_bounded zero place [] le = record { tokens = []; end = None; cuts = ended place }
 cut_bounded zero place (b ∷ bytes) le = absurd (omega arith)
-cut_bounded (suc most) place bytes le = cut_front most place bytes le (front bytes) (cut_bounded most)
+cut_bounded (suc most) place bytes le = cut_prefix most place bytes le (text_prefix bytes) (cut_bounded most)
 
 -- there is exactly one cutting
 pub cut_exactly_once : (place : Place) (bytes : List ℕ) → IsCutOnce place bytes
