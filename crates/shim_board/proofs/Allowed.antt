@@ -12,9 +12,9 @@ use Rattle.shim_board.specs.declared.view.View.{View}
 use Rattle.shim_board.specs.declared.content.Content.{Content}
 use Rattle.shim_board.specs.declared.content.Content.TheVariants.{Nothing, Piece, Net}
 use Rattle.shim_board.specs.Counting.{one_at, one_pair, times, one_if}
-use Rattle.shim_board.specs.Views.{noted_with, at_slot, after_look, after_turn_seen, after_claim, after_give, after_take, after_leave, after_hold, after_put, after_collect, first_or, Ascends, seeing, HasLooked, HasClaimed, carried, out_claimed, out_turn}
+use Rattle.shim_board.specs.Views.{noted_with, at_slot, after_look, after_turn_seen, after_claim, after_give, after_take, after_leave, after_reserve, after_put, after_collect, first_or, Ascends, seeing, HasLooked, HasClaimed, carried, out_claimed, out_turn}
 use Rattle.shim_board.specs.Kept.{word_of, CountsKept, Table, Seated, ValuesKept, Kept, in_hand, in_hands, IsEmptyOrBack}
-use Rattle.shim_board.specs.Steps.{HasLookedOnce, HasClaimedOrLooked, HasGiven, HasTakenOrLooked, HasLeft, HoldsEmpty, HoldsBack, HasCollected, HasPut}
+use Rattle.shim_board.specs.Steps.{HasLookedOnce, HasClaimedOrLooked, HasGiven, HasTakenOrLooked, HasLeftTurn, HoldsEmpty, HoldsBack, HasCollected, HasPut}
 use Rattle.shim_board.proofs.Totals.{times-append, total-has, total-set, total-none, total-two}
 use Rattle.shim_board.proofs.Keeps.{Change, moved, moving, looks, claims, takes_turn, leaves_turn, sees_turn}
 use Rattle.shim_board.proofs.Keeps as changes
@@ -60,7 +60,7 @@ module _ {T N M : Type 0} (label : N → M) (board : M) (slots id : ℕ) (me : S
         subst (λ b. IsKept (stepped s (k + 1) (either b (old + 1) x) id me.1 w keeps)) (sym (ne_eqb x old miss))
             (moved s.words s.views r.0 id me.0 w k x at (omega arith) (looks me.0 k x) sits, stays label board s r.1 id me.0 w k x at (omega arith) refl refl refl refl),
         λ j e. let same : k ≡ j = omega arith in
-            ((λ hit. absurd (miss hit)), (λ _. (ap (λ (i : ℕ). (after_look me.0 i x, me.1)) same, (λ saw. let le = r.0.seen id me.0 at k old (subst (λ (i : ℕ). 0 < times i old me.0.seen) (sym same) saw) in omega arith)))),
+            ((λ hit. absurd (miss hit)), (λ _. (ap (λ (i : ℕ). (after_look me.0 i x, me.1)) same, (λ looked. let le = r.0.seen id me.0 at k old (subst (λ (i : ℕ). 0 < times i old me.0.seen) (sym same) looked) in omega arith)))),
       ))
 
   pub gives_at : (k q : ℕ) (y : T) → k + 1 < slots → me.0.claimed ≡ Some (k, q) → me.1 ≡ (k + 1, Piece y) ∷ rest me.1 → Allows IsKept slots id me (k + 1) (λ x. (x + 1) % 2 ^ 64) (HasGiven (step slots (k + 1) 1 0 none) me)
@@ -123,7 +123,7 @@ module _ {T N M : Type 0} (label : N → M) (board : M) (slots id : ℕ) (me : S
 
   pub holds_empty_at : (k r : ℕ) → k + 1 < slots → me.0.turn ≡ 1 → me.0.hand ≡ None → 0 < times k r me.0.noted → Allows IsKept slots id me (k + 1) (λ x. x) (HoldsEmpty (step slots (k + 1) 0 0 none) me)
   holds_empty_at k q inside mine idle some_note s r one_each at small = let x : ℕ = get_or s.words (k + 1) 0 in let as_deep = r.1.one_each in let out = none_out s r at mine idle k in let h : (j : ℕ) → in_hand j me.0.hand ≡ 0 = λ j. ap (in_hand j) idle in
-      let w = after_hold me.0 k x in let sum = total-set (λ (a : View M). in_hand k a.hand) s.views id me.0 w at in let now : in_hands k (set s.views id w) ≡ 1 = let e = h k in omega arith in
+      let w = after_reserve me.0 k x in let sum = total-set (λ (a : View M). in_hand k a.hand) s.views id me.0 w at in let now : in_hands k (set s.views id w) ≡ 1 = let e = h k in omega arith in
       let is = (r.0.noted id me.0 at k q some_note).1 in let empty : x % 4 ≡ 0 = omega arith in let still : IsEmptyOrBack x = ((λ e. omega arith), (λ e. omega arith)) in (
         w,
         takes (k + 1) Nothing,
@@ -133,14 +133,14 @@ module _ {T N M : Type 0} (label : N → M) (board : M) (slots id : ℕ) (me : S
           placed label board s r.1 id me.0 w k x at (omega arith) (set s.homes (k + 1) none) (length-set s.homes (k + 1) none) (λ j other. set_else s.homes (k + 1) j none other) (λ j other. let e = h j in omega arith)
               ((λ (z : x % 4 ≡ 1). absurd (still.0 z)), (λ _ (z : in_hands k (set s.views id w) ≡ 0). absurd (omega arith)), (λ _ (z : in_hands k (set s.views id w) ≡ 0). absurd (omega arith))) refl refl,
         ),
-        λ j q' e there. let same : k ≡ j = omega arith in let is' : x ≡ 4 * q' = (r.0.noted id me.0 at k q' (subst (λ (i : ℕ). 0 < times i q' me.0.noted) (sym same) there)).1 in λ i. (after_hold me.0 (same i) (is' i), (same i + 1, Nothing) ∷ me.1),
+        λ j q' e there. let same : k ≡ j = omega arith in let is' : x ≡ 4 * q' = (r.0.noted id me.0 at k q' (subst (λ (i : ℕ). 0 < times i q' me.0.noted) (sym same) there)).1 in λ i. (after_reserve me.0 (same i) (is' i), (same i + 1, Nothing) ∷ me.1),
       )
 
   pub holds_back_at : (k : ℕ) → k + 1 < slots → me.0.turn ≡ 1 → me.0.hand ≡ None → Allows IsKept slots id me (k + 1) (λ x. x) (HoldsBack (step slots (k + 1) 0 0 none) me)
   holds_back_at k inside mine idle s r one_each at small = let x : ℕ = get_or s.words (k + 1) 0 in let as_deep = r.1.one_each in let out = none_out s r at mine idle k in let h : (j : ℕ) → in_hand j me.0.hand ≡ 0 = λ j. ap (in_hand j) idle in
       dite (ℕ_discrete (x % 4) 3)
       (λ back. let still : IsEmptyOrBack x = ((λ e. omega arith), (λ e. omega arith)) in let has = (r.1.slots k (omega arith)).2 back out in
-      let w = after_hold me.0 k x in let sum = total-set (λ (a : View M). in_hand k a.hand) s.views id me.0 w at in let now : in_hands k (set s.views id w) ≡ 1 = let e = h k in omega arith in (
+      let w = after_reserve me.0 k x in let sum = total-set (λ (a : View M). in_hand k a.hand) s.views id me.0 w at in let now : in_hands k (set s.views id w) ≡ 1 = let e = h k in omega arith in (
         w,
         takes (k + 1) (Piece has.0),
         has.1,
@@ -149,7 +149,7 @@ module _ {T N M : Type 0} (label : N → M) (board : M) (slots id : ℕ) (me : S
           placed label board s r.1 id me.0 w k x at (omega arith) (set s.homes (k + 1) none) (length-set s.homes (k + 1) none) (λ j other. set_else s.homes (k + 1) j none other) (λ j other. let e = h j in omega arith)
               ((λ (z : x % 4 ≡ 1). absurd (still.0 z)), (λ _ (z : in_hands k (set s.views id w) ≡ 0). absurd (omega arith)), (λ _ (z : in_hands k (set s.views id w) ≡ 0). absurd (omega arith))) refl refl,
         ),
-        λ j e. let same : k ≡ j = omega arith in ((λ _. (has.0, λ i. (after_hold me.0 (same i) x, (same i + 1, Piece has.0) ∷ me.1))), (λ other. absurd (other back))),
+        λ j e. let same : k ≡ j = omega arith in ((λ _. (has.0, λ i. (after_reserve me.0 (same i) x, (same i + 1, Piece has.0) ∷ me.1))), (λ other. absurd (other back))),
       ))
       (λ not_back. let u = after_look me.0 k x in (
         u,
@@ -176,7 +176,7 @@ module _ {T N M : Type 0} (label : N → M) (board : M) (slots id : ℕ) (me : S
         λ j q' e. let same = same_Some (k, 4 * q + 3) (j, 4 * q' + 3) (sym has ∙ e) in let a : k ≡ j = ap (λ z. z.0) same in let b : 4 * q + 3 ≡ 4 * q' + 3 = ap (λ z. z.1) same in let d : q ≡ q' = omega arith in λ i. (after_collect me.0 (a i) (d i), rest me.1),
       )
 
-  pub leaves_turn_at : (net : N) → 0 < slots → me.0.turn ≡ 1 → me.0.hand ≡ None → me.0.name ≡ Some (label net) → me.1 ≡ (0, Net net) ∷ rest me.1 → Allows IsKept slots id me 0 (λ _. 0) (λ _. HasLeft (step slots 0 0 0 none) me 0)
+  pub leaves_turn_at : (net : N) → 0 < slots → me.0.turn ≡ 1 → me.0.hand ≡ None → me.0.name ≡ Some (label net) → me.1 ≡ (0, Net net) ∷ rest me.1 → Allows IsKept slots id me 0 (λ _. 0) (λ _. HasLeftTurn (step slots 0 0 0 none) me 0)
   leaves_turn_at net some_slots mine idle named out s r one_each at small = let as_deep = r.1.one_each in let w = after_leave me.0 in let is = r.1.names id me.0 at sits in (
     w,
     gives,

@@ -103,12 +103,12 @@ module _ {T N M : Type 0} {g : Ghosts N M} (b : Board T N M) (chairs : List (Cha
         (λ n1. dite (ℕ_discrete (w % 4) 3) (λ back. with_piece k (last.rule.back k inside back (out k)) (omega arith))
         (λ n3. absurd (not_taken k (omega arith)))))
 
-    stands : (n : ℕ) → n ≤ slots_of b → map slot_of (left_in s n) ≡ standing s.words n
-    stands zero low = refl
-    stands (suc n) low = let places = last.places in map-append slot_of (left_in s n) (left_at n (word_of s.words n) (get_elem? s.homes (n + 1))) ∙ (λ i. (stands n (omega arith)) i ++ (one_left n (omega arith)) i)
+    standing_is : (n : ℕ) → n ≤ slots_of b → map slot_of (left_in s n) ≡ standing s.words n
+    standing_is zero low = refl
+    standing_is (suc n) low = let places = last.places in map-append slot_of (left_in s n) (left_at n (word_of s.words n) (get_elem? s.homes (n + 1))) ∙ (λ i. (standing_is n (omega arith)) i ++ (one_left n (omega arith)) i)
 
   pub same_slots : (net net' : N) (left left' : List (ℕ × T)) → AreLeft b chairs net left → AreLeft b chairs net' left' → map (λ p. p.0) left ≡ map (λ p. p.0) left'
   same_slots net net' left left' a a' = let same : (k : ℕ) → word_of a.2.0.words k ≡ word_of a'.2.0.words k = λ k. fixed (word_of a.2.0.words k) (word_of a'.2.0.words k)
       (λ r. puts a.0 a.1 a.2.0 a.2.1 k r ∙ sym (puts a'.0 a'.1 a'.2.0 a'.2.1 k r)) (λ r. claims a.0 a.1 a.2.0 a.2.1 k r ∙ sym (claims a'.0 a'.1 a'.2.0 a'.2.1 k r))
       (λ r. collections a.0 a.1 a.2.0 a.2.1 k r ∙ sym (collections a'.0 a'.1 a'.2.0 a'.2.1 k r)) (not_taken a.0 a.1 a.2.0 a.2.1 k) (not_taken a'.0 a'.1 a'.2.0 a'.2.1 k) in
-      ap (map slot_of) a.2.3 ∙ stands a.0 a.1 a.2.0 a.2.1 (slots_of b) (omega arith) ∙ same_standing a.2.0.words a'.2.0.words (slots_of b) same ∙ sym (stands a'.0 a'.1 a'.2.0 a'.2.1 (slots_of b) (omega arith)) ∙ sym (ap (map slot_of) a'.2.3)
+      ap (map slot_of) a.2.3 ∙ standing_is a.0 a.1 a.2.0 a.2.1 (slots_of b) (omega arith) ∙ same_standing a.2.0.words a'.2.0.words (slots_of b) same ∙ sym (standing_is a'.0 a'.1 a'.2.0 a'.2.1 (slots_of b) (omega arith)) ∙ sym (ap (map slot_of) a'.2.3)

@@ -9,7 +9,7 @@ use Rattle.std.proofs.lemmas.Option.{none-some, same_Some}
 use Rattle.atomic_table.proofs.Lists.{at_set}
 use Rattle.shim_board.specs.declared.view.View.{View}
 use Rattle.shim_board.specs.Counting.{one_below, one_at, one_pair, times, without, occurs, one_if, total}
-use Rattle.shim_board.specs.Views.{noted_with, after_look, after_turn_seen, after_hold, after_put, after_collect, after_take, after_leave, after_claim, after_give}
+use Rattle.shim_board.specs.Views.{noted_with, after_look, after_turn_seen, after_reserve, after_put, after_collect, after_take, after_leave, after_claim, after_give}
 use Rattle.shim_board.specs.Kept.{IsEmptyOrBack, word_of, CountsKept}
 use Rattle.shim_board.proofs.Totals.{total-set, total-has, total-two, without-same, without-else, times-append, count_of-set}
 
@@ -221,7 +221,7 @@ module _ {M : Type 0} where
     (λ z h. let was = r.hand id v at k z h in let is = was.1 in let s0 = was.2.0 in let s1 = was.2.1 in dite (ℕ_discrete (z % 4) 1) (λ a. absurd (s0 a)) (λ a. dite (ℕ_discrete (z % 4) 2) (λ b. absurd (s1 b)) (λ b. absurd (omega arith)))),
   )
 
-  pub holds_slot : (v : (View M)) (k x : ℕ) → v.turn ≡ 1 → IsEmptyOrBack x → Change v (after_hold v k x) k x x
+  pub holds_slot : (v : (View M)) (k x : ℕ) → v.turn ≡ 1 → IsEmptyOrBack x → Change v (after_reserve v k x) k x x
   holds_slot v k x mine still = record {
     grows = omega arith;
     puts = λ q. refl;

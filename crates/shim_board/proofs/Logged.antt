@@ -22,7 +22,7 @@ among_passed (e ∷ es) k x y h = ⊎_elim
 -- Each word below the present one was passed once. A piece went in at an even word and came out at the odd one behind it, and is in the slot in between
 pub record Logged {T : Type 0} (w : ℕ → ℕ) (piece : ℕ → Option T) (done : List (SlotEntry T)) : Type 0 where
   pub went : (k x : ℕ) → passed k x done ≡ one_below x (w k)
-  pub stands : (k x : ℕ) → x % 2 ≡ 0 → w k ≡ x + 1 → (y : T) × (piece k ≡ Some y) × IsAmong (entry k x y) done
+  pub in_slot : (k x : ℕ) → x % 2 ≡ 0 → w k ≡ x + 1 → (y : T) × (piece k ≡ Some y) × IsAmong (entry k x y) done
   pub came_out : (k x : ℕ) (y : T) → x % 2 ≡ 0 → IsAmong (entry k (x + 1) y) done → IsAmong (entry k x y) done
   pub goes : (k x : ℕ) (y : T) → x % 2 ≡ 0 → IsAmong (entry k x y) done → IsAmong (entry k (x + 1) y) done ⊎ ((w k ≡ x + 1) × (piece k ≡ Some y))
   pub next : (k x : ℕ) (y : T) → x % 2 ≡ 1 → IsAmong (entry k x y) done → (w k ≡ x + 1) ⊎ ((z : T) × IsAmong (entry k (x + 1) z) done)
@@ -38,9 +38,9 @@ module _ {T : Type 0} (w w' : ℕ → ℕ) (piece piece' : ℕ → Option T) (do
   pub goes_in : x % 2 ≡ 0 → piece' k ≡ Some y → Logged w' piece' (entry k x y ∷ done)
   goes_in even in_ = record {
     went = counted;
-    stands = λ j z z_even at. dite (ℕ_discrete j k)
+    in_slot = λ j z z_even at. dite (ℕ_discrete j k)
         (λ (e : j ≡ k). let b : w' j ≡ x + 1 = ap w' e ∙ now in let same : z ≡ x = omega arith in (y, ap piece' e ∙ in_, inl (same_entry j k z x y y e same refl)))
-        (λ other. let a = words_else j other in let s = r.stands j z z_even (sym a ∙ at) in (s.0, pieces_else j other ∙ s.1, inr s.2));
+        (λ other. let a = words_else j other in let s = r.in_slot j z z_even (sym a ∙ at) in (s.0, pieces_else j other ∙ s.1, inr s.2));
     came_out = λ j z y' z_even h. ⊎_elim
         (λ (is : entry j (z + 1) y' ≡ entry k x y). absurd (let b : z + 1 ≡ x = ap (λ e. e.word) is in omega arith))
         (λ later. inr (r.came_out j z y' z_even later)) h;
@@ -66,12 +66,12 @@ module _ {T : Type 0} (w w' : ℕ → ℕ) (piece piece' : ℕ → Option T) (do
   pub goes_out : x % 2 ≡ 1 → piece k ≡ Some y → Logged w' piece' (entry k x y ∷ done)
   goes_out odd had = record {
     went = counted;
-    stands = λ j z z_even at. dite (ℕ_discrete j k)
+    in_slot = λ j z z_even at. dite (ℕ_discrete j k)
         (λ (e : j ≡ k). absurd (let b : w' j ≡ x + 1 = ap w' e ∙ now in omega arith))
-        (λ other. let a = words_else j other in let s = r.stands j z z_even (sym a ∙ at) in (s.0, pieces_else j other ∙ s.1, inr s.2));
+        (λ other. let a = words_else j other in let s = r.in_slot j z z_even (sym a ∙ at) in (s.0, pieces_else j other ∙ s.1, inr s.2));
     came_out = λ j z y' z_even h. ⊎_elim
         (λ (is : entry j (z + 1) y' ≡ entry k x y). let a : j ≡ k = ap (λ e. e.slot) is in let b : z + 1 ≡ x = ap (λ e. e.word) is in let d : y' ≡ y = ap (λ e. e.value) is in
-        let s = r.stands j z z_even (ap w a ∙ was ∙ sym b) in let same : s.0 ≡ y' = same_Some s.0 y' (sym s.1 ∙ ap piece a ∙ had ∙ ap Some (sym d)) in
+        let s = r.in_slot j z z_even (ap w a ∙ was ∙ sym b) in let same : s.0 ≡ y' = same_Some s.0 y' (sym s.1 ∙ ap piece a ∙ had ∙ ap Some (sym d)) in
         inr (subst (λ v. IsAmong (entry j z v) done) same s.2))
         (λ later. inr (r.came_out j z y' z_even later)) h;
     goes = λ j z y' z_even h. ⊎_elim

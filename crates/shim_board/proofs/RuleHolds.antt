@@ -8,7 +8,7 @@ use Rattle.shim_board.specs.declared.content.Content.TheVariants.{Net}
 use Rattle.shim_board.specs.declared.view.View.{View}
 use Rattle.shim_board.specs.Counting.{one_at, one_pair, times, occurs, one_if, total}
 use Rattle.shim_board.specs.Kept.{word_of, IsEmptyOrBack, in_hand, in_hands, Table, Kept}
-use Rattle.shim_board.specs.Rule.{Rule, IsOutOfHand, IsHeld, ExactlyOne, NothingDone, IsOpening}
+use Rattle.shim_board.specs.Rule.{Rule, IsOutOfHand, TurnIsHeld, ExactlyOne, NothingDone, IsOpening}
 use Rattle.shim_board.proofs.Totals.{total-has, total-two, total-none}
 use Rattle.shim_board.proofs.Allowed.{taken}
 use Rattle.shim_board.proofs.Ends.{same_net}
@@ -67,8 +67,8 @@ module _ {T N M : Type 0} (label : N → M) (board : M) (s : Table T N M) (r : K
       let a : one_if k p u.claimed ≡ one_pair k p (k, p) = ap (one_if k p) has in let b : one_if k p v.claimed ≡ one_pair k p (k, q) = ap (one_if k p) has' in
       let two = total-two (λ w. one_if k p w.claimed) s.views i j u v at at' other in let e = r.0.claimed k p in omega arith))
 
-  one_turn : IsHeld label board s → ExactlyOne label board s (λ v. v.turn ≡ 1)
-  one_turn held = let o = total-one (λ (v : View M). v.turn) s.views (r.0.turns ∙ held) in let le = total-has (λ (v : View M). v.turn) s.views o.0 o.1 o.2 in let all = r.0.turns in
+  one_turn : TurnIsHeld label board s → ExactlyOne label board s (λ v. v.turn ≡ 1)
+  one_turn turn_held = let o = total-one (λ (v : View M). v.turn) s.views (r.0.turns ∙ turn_held) in let le = total-has (λ (v : View M). v.turn) s.views o.0 o.1 o.2 in let all = r.0.turns in
       (o.0, o.1, o.2, (let here = o.3 in omega arith), λ i u at mine. o.4 i u at (omega arith))
 
   one_claimant : (k : ℕ) → word_of s.words k % 4 ≡ 2 → ExactlyOne label board s (λ v. v.claimed ≡ Some (k, word_of s.words k / 4))
@@ -78,7 +78,7 @@ module _ {T N M : Type 0} (label : N → M) (board : M) (s : Table T N M) (r : K
   net_named : (x : N) → get_elem? s.homes 0 ≡ some (some (Net x)) → label x ≡ board
   net_named x at = dite (ℕ_discrete (get_or s.words 0 0) 0)
       (λ free. let n = r.1.net free in ap label (same_net x n.0 _ _ refl refl (some-injective _ _ (some-injective _ _ (sym at ∙ n.1)))) ∙ n.2)
-      (λ held. let two = r.0.turn in absurd (some-ne-none _ (some-injective _ _ (sym at ∙ r.1.net_out (omega arith)))))
+      (λ turn_held. let two = r.0.turn in absurd (some-ne-none _ (some-injective _ _ (sym at ∙ r.1.net_out (omega arith)))))
 
   pub holds : Rule label board s
   holds = record {
@@ -97,7 +97,7 @@ module _ {T N M : Type 0} (label : N → M) (board : M) (s : Table T N M) (r : K
     collected_by_one = λ k q low. total-one (λ (v : View M). times k q v.collections) s.views (let e = r.0.collections k q in omega arith);
     taken_by_one = one_claimant;
     turn = dite (ℕ_discrete (get_or s.words 0 0) 0) (λ e. inl e) (λ e. inr (let t = r.0.turn in omega arith));
-    held = one_turn;
+    turn_held = one_turn;
     free = λ e j v at. let le = total-has (λ (u : View M). u.turn) s.views j v at in let all = r.0.turns in omega arith;
     noted = r.0.noted;
     hand = λ j v at k x h. let was = r.0.hand j v at k x h in (was.0, was.1, empty_or_back x was.2);

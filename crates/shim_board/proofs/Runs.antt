@@ -10,9 +10,9 @@ use lib.Seq.{set-get_or}
 use Rattle.atomic_table.proofs.Lists.{set_else}
 use Rattle.shim_board.specs.declared.view.View.{View}
 use Rattle.shim_board.specs.Counting.{times, one_if}
-use Rattle.shim_board.specs.Views.{spent, after_join, after_look, after_turn_seen, after_hold, after_put, after_claim, after_give, after_collect, after_take, after_leave}
+use Rattle.shim_board.specs.Views.{spent, after_join, after_look, after_turn_seen, after_reserve, after_put, after_claim, after_give, after_collect, after_take, after_leave}
 use Rattle.shim_board.specs.Kept.{word_of, CountsKept}
-use Rattle.shim_board.specs.Run.{BoardRun, StepKind, split, join, look, look_turn, hold, put, claim, give, collect, take_turn, leave_turn, BoardStep, is_spent, is_none, is_slot, is_noted_below, changed_at, holds_nothing, with_view, moves, moves_out, joins, may, does, after_step, after, opened, board_run, Went, AtMostOnce, NothingLost}
+use Rattle.shim_board.specs.Run.{BoardRun, StepKind, split, join, look, look_turn, reserve, put, claim, give, collect, take_turn, leave_turn, BoardStep, is_spent, is_none, is_slot, is_noted_below, changed_at, holds_nothing, with_view, moves, moves_out, joins, may, does, after_step, after, opened, board_run, Went, AtMostOnce, NothingLost}
 use Rattle.shim_board.proofs.Totals.{total-two}
 use Rattle.shim_board.proofs.Keeps.{Change, moved, moving, looks, takes_turn, leaves_turn, sees_turn}
 use Rattle.shim_board.proofs.Keeps as changes
@@ -126,8 +126,8 @@ module _ {T N M : Type 0} where
     step_keeps (join other) m = joins_keep other (get_elem? s.views other) refl (eqb-true id 0 m)
     step_keeps (look k) m = looks_on k (ltb-true (k + 1) (length s.words) m) (after_look v k (word_of s.words k)) (looks v k (word_of s.words k))
     step_keeps look_turn m = (subst (λ ws. CountsKept ws (set s.views id (after_turn_seen v (get_or s.words 0 0)))) (set-get_or s.words 0 0) (sees_turn s.words s.views r.0 id v at r.2 sits), r.1, r.2)
-    step_keeps (hold k) m = let a = both _ _ m in let b = both _ _ a.0 in let d = both _ _ b.0 in let e = both _ _ d.0 in
-        looks_on k (ltb-true (k + 1) (length s.words) e.0) (after_hold v k (word_of s.words k))
+    step_keeps (reserve k) m = let a = both _ _ m in let b = both _ _ a.0 in let d = both _ _ b.0 in let e = both _ _ d.0 in
+        looks_on k (ltb-true (k + 1) (length s.words) e.0) (after_reserve v k (word_of s.words k))
         (changes.holds_slot v k (word_of s.words k) (eqb-true v.turn 1 e.1) ((λ one. not_eqb (word_of s.words k % 4) 1 b.1 one), (λ two. not_eqb (word_of s.words k % 4) 2 a.1 two)))
     step_keeps (put k y) m = let x : ℕ = word_of s.words k in let a = both _ _ m in let b = both _ _ a.0 in let d = both _ _ b.0 in let e = both _ _ d.0 in
         let empty : x % 4 ≡ 0 = eqb-true (x % 4) 0 b.1 in let note = noted_below k v.noted a.1 in
@@ -167,7 +167,7 @@ module _ {T N M : Type 0} where
     starts (label net) (slots + 1),
     record {
       went = λ k x. let z = zeros (slots + 1) (k + 1) in omega arith;
-      stands = λ k x even at. absurd (let z = zeros (slots + 1) (k + 1) in omega arith);
+      in_slot = λ k x even at. absurd (let z = zeros (slots + 1) (k + 1) in omega arith);
       came_out = λ k x y even h. absurd h;
       goes = λ k x y even h. absurd h;
       next = λ k x y odd h. absurd h;
@@ -196,8 +196,8 @@ module _ {T N M : Type 0} where
     nothing_lost = record {
       put = λ k q y h. r.1.goes k (4 * q) y (omega arith) h;
       given = given_goes;
-      full = λ k q at. r.1.stands k (4 * q) (omega arith) at;
-      back = λ k q at. r.1.stands k (4 * q + 2) (omega arith) (at ∙ (let e : 4 * q + 3 ≡ 4 * q + 2 + 1 = omega arith in e));
+      full = λ k q at. r.1.in_slot k (4 * q) (omega arith) at;
+      back = λ k q at. r.1.in_slot k (4 * q + 2) (omega arith) (at ∙ (let e : 4 * q + 3 ≡ 4 * q + 2 + 1 = omega arith in e));
       claimed = λ k q y h. ⊎_elim
           (λ (is : word_of s.words k ≡ 4 * q + 1 + 1). let one = r.0.claimed k q in let has = total-some (λ (a : View M). one_if k q a.claimed) s.views (omega arith) in let mine = one_if_some k q has.1.claimed has.3 in inl (has.0, has.1, has.2, mine, r.0.owned has.0 has.1 has.2 k q mine))
           (λ (n : (z : T) × Went s k (4 * q + 1 + 1) z). let e : 4 * q + 1 + 1 ≡ 4 * q + 2 = omega arith in let given_ = subst (λ x. Went s k x n.0) e n.1 in inr (n.0, given_, given_goes k q n.0 given_))

@@ -11,9 +11,9 @@ use Rattle.shim_board.specs.declared.chair.Chair.{Chair}
 use Rattle.shim_board.specs.declared.view.View.{View}
 use Rattle.shim_board.specs.Counting.{one_below, one_at, times, occurs, one_if, total, Each}
 use Rattle.shim_board.specs.Views.{fresh, spent, after_split, split_off, after_join, carried, out_claimed, out_turn}
-use Rattle.shim_board.specs.Chairs.{chairs_known, view_of, chairs_told, IsIdleOn, AreAll}
+use Rattle.shim_board.specs.Chairs.{chairs_known, view_of, chairs_counted, IsIdleOn, AreAll}
 use Rattle.shim_board.specs.Closing.{SameLists, HasAllOf}
-use Rattle.shim_board.specs.Kept.{word_of, chair_count, CountsKept, IsEmptyOrBack, in_hand, HomeFits, Kept, HoldsNothing}
+use Rattle.shim_board.specs.Kept.{word_of, chair_count, CountsKept, IsEmptyOrBack, in_hand, SlotFits, Kept, HoldsNothing}
 use Rattle.shim_board.proofs.Totals.{all-each, each-add, each-remove, total-remove, total-set, total-snoc, times-append, occurs-append}
 
 long : (xs ys : List ℕ) → xs ≢ [] → xs ++ ys ≢ []
@@ -99,7 +99,7 @@ module _ {T N M : Type 0} (label : N → M) (board : M) where
     forks s.words s.views r.0 v at sits,
     record {
       one_each = r.1.one_each;
-      slots = λ k i. subst (λ (o : ℕ). HomeFits {T = T} {N = N} (word_of s.words k) o (get_elem? s.homes (k + 1))) (sym (forked s.views 0 v (after_split v) (split_off v) at (λ u. in_hand k u.hand) refl ∙ (omega arith))) (r.1.slots k i);
+      slots = λ k i. subst (λ (o : ℕ). SlotFits {T = T} {N = N} (word_of s.words k) o (get_elem? s.homes (k + 1))) (sym (forked s.views 0 v (after_split v) (split_off v) at (λ u. in_hand k u.hand) refl ∙ (omega arith))) (r.1.slots k i);
       net = r.1.net;
       net_out = r.1.net_out;
       names = λ j u e. each_forked s.views 0 v (after_split v) (split_off v) at (λ u. u.numbers ≢ [] → u.name ≡ Some board) r.1.names (λ h. r.1.names 0 v at sits) (λ h. r.1.names 0 v at sits) j u e;
@@ -111,7 +111,7 @@ module _ {T N M : Type 0} (label : N → M) (board : M) where
     joins s.words s.views r.0 other v w at apart there sits idle free,
     record {
       one_each = r.1.one_each;
-      slots = λ k i. subst (λ (o : ℕ). HomeFits {T = T} {N = N} (word_of s.words k) o (get_elem? s.homes (k + 1)))
+      slots = λ k i. subst (λ (o : ℕ). SlotFits {T = T} {N = N} (word_of s.words k) o (get_elem? s.homes (k + 1)))
           (sym (glued s.views 0 other v w (after_join v w) spent at apart there (λ u. in_hand k u.hand) (let h : in_hand k w.hand ≡ 0 = ap (in_hand k) empty in omega arith) refl)) (r.1.slots k i);
       net = r.1.net;
       net_out = r.1.net_out;
@@ -126,9 +126,9 @@ module _ {T N M : Type 0} (label : N → M) (board : M) where
   joins_first id other v w zero_is sits rests = subst (λ (j : ℕ). Joins (Kept {T = T} label board) j v other w (after_join v w) spent) (sym zero_is) (joins_at other v w sits rests.0 rests.1 rests.2)
 
 -- the chairs but chair 0 know no count
-pub told_no_more : (chairs number : ℕ) → 0 < number → chairs_known chairs number ≡ 0
-told_no_more chairs zero above = absurd (omega arith)
-told_no_more chairs (suc number) above = refl
+pub counts_no_more : (chairs number : ℕ) → 0 < number → chairs_known chairs number ≡ 0
+counts_no_more chairs zero above = absurd (omega arith)
+counts_no_more chairs (suc number) above = refl
 
 module _ {T N M : Type 0} where
   pub nothing_out : (v : View M) → HoldsNothing v → carried {T = T} {N = N} v ≡ []
@@ -158,16 +158,16 @@ module _ {M : Type 0} where
 
     -- with chair 0, which knows how many there are, these are all
     pub dealt_all : 0 < n → (f c).numbers ≡ 0 ∷ [] → (f c).count ≡ n → Each P all × (0 < total (λ c. (f c).count) all) × ((x : ℕ) → total (λ c. occurs x (f c).numbers) all ≡ one_below x (total (λ c. (f c).count) all))
-    dealt_all some_chairs own count = let t = total-snoc (λ c. (f c).count) cs c in let told : total (λ c. (f c).count) all ≡ n = ap (total (λ c. (f c).count)) is ∙ omega arith in (
+    dealt_all some_chairs own count = let t = total-snoc (λ c. (f c).count) cs c in let count_is : total (λ c. (f c).count) all ≡ n = ap (total (λ c. (f c).count)) is ∙ omega arith in (
       subst (Each P) (sym is) (each-add P cs c each here),
       omega arith,
-      λ x. ap (total (λ c. occurs x (f c).numbers)) is ∙ (let a = numbers x in let b = total-snoc (λ c. occurs x (f c).numbers) cs c in let d = ap (occurs x) own in omega arith) ∙ ap (one_below x) (sym told),
+      λ x. ap (total (λ c. occurs x (f c).numbers)) is ∙ (let a = numbers x in let b = total-snoc (λ c. occurs x (f c).numbers) cs c in let d = ap (occurs x) own in omega arith) ∙ ap (one_below x) (sym count_is),
     )
 
   -- chairs that aren't chair 0 know no count
-  others_told : {C : Type 0} (f : C → View M) → ((d : C) → occurs 0 (f d).numbers ≡ 0 → (f d).count ≡ 0) → (ys : List C) → total (λ d. occurs 0 (f d).numbers) ys ≡ 0 → total (λ d. (f d).count) ys ≡ 0
-  others_told f h [] e = refl
-  others_told f h (y ∷ ys) e = let a = h y (omega arith) in let b = others_told f h ys (omega arith) in omega arith
+  others_counted : {C : Type 0} (f : C → View M) → ((d : C) → occurs 0 (f d).numbers ≡ 0 → (f d).count ≡ 0) → (ys : List C) → total (λ d. occurs 0 (f d).numbers) ys ≡ 0 → total (λ d. (f d).count) ys ≡ 0
+  others_counted f h [] e = refl
+  others_counted f h (y ∷ ys) e = let a = h y (omega arith) in let b = others_counted f h ys (omega arith) in omega arith
 
   -- chair 0 is taken out of all chairs
   pub first_out : {C : Type 0} (f : C → View M) (P : C → Type 0) (xs ys : List C) (at n : ℕ) (c : C) → ((d : C) → occurs 0 (f d).numbers ≡ 0 → (f d).count ≡ 0) → at < length xs → ys ≡ take at xs ++ drop (at + 1) xs → c ≡ get_or xs at c → occurs 0 (f c).numbers ≡ 1
@@ -176,8 +176,8 @@ module _ {M : Type 0} where
   first_out f P xs ys at n c know inside rest is first each counts all = let split = each-remove P xs at c inside each in
       let left : (h : _ → ℕ) → total h ys + h c ≡ total h xs = λ h. subst (λ (z : List _ × _). total h z.0 + h z.1 ≡ total h xs) (λ i. (sym rest i, sym is i)) (total-remove h xs at c inside) in
       let none_first : total (λ d. occurs 0 (f d).numbers) ys ≡ 0 = let a = left (λ d. occurs 0 (f d).numbers) in let b = all 0 in omega arith in
-      let told : n ≡ (f c).count = let a = left (λ d. (f d).count) in let b = others_told f know ys none_first in omega arith in
-      (subst (Each P) (sym rest) split.0, subst P (sym is) split.1, λ x. (let a = left (λ d. occurs x (f d).numbers) in let b = all x in omega arith) ∙ ap (one_below x) told, left)
+      let count_is : n ≡ (f c).count = let a = left (λ d. (f d).count) in let b = others_counted f know ys none_first in omega arith in
+      (subst (Each P) (sym rest) split.0, subst P (sym is) split.1, λ x. (let a = left (λ d. occurs x (f d).numbers) in let b = all x in omega arith) ∙ ap (one_below x) count_is, left)
 
 pub get_some : {A : Type 0} (xs : List A) (at : ℕ) (d : A) → at < length xs → slice_get xs at ≡ Some (get_or xs at d)
 get_some [] at d inside = absurd (omega arith)
@@ -191,7 +191,7 @@ module _ {T N M : Type 0} {g : Ghosts N M} where
       → Each (IsIdleOn b) ys × IsIdleOn b c × ((x : ℕ) → occurs x (view_of c).numbers + total (λ d. occurs x (view_of d).numbers) ys ≡ one_below x (view_of c).count) × ((h : Chair T N M g → ℕ) → total h ys + h c ≡ total h xs)
   first_taken b xs items ys at c same inside first is rest idle all = let long = ap length same in
       let zero_is : c.number ≡ 0 = subst (λ o. IfSome o (λ d. d.number ≡ 0)) (get_some items at c inside ∙ ap Some (sym is)) first in let own = ap (occurs 0) c.numbered in
-      first_out (λ d. view_of d) (IsIdleOn b) xs ys at (chairs_told xs) c (λ d none_here. d.counts (λ z. let e = ap (occurs 0) d.numbered in omega arith)) (omega arith)
+      first_out (λ d. view_of d) (IsIdleOn b) xs ys at (chairs_counted xs) c (λ d none_here. d.counts (λ z. let e = ap (occurs 0) d.numbered in omega arith)) (omega arith)
       (rest ∙ ap (λ l. take at l ++ drop (at + 1) l) same) (is ∙ ap (λ l. get_or l at c) same) (omega arith) (all-each _ _ idle) refl all.1
 
   -- the lists of the chairs that chair 0 takes in
@@ -206,8 +206,8 @@ module _ {T N M : Type 0} {g : Ghosts N M} where
   )
 
   -- chair 0 has taken in all the others
-  pub has_all : (v : View M) (c : Chair T N M g) (ys xs : List (Chair T N M g)) → SameLists v [] (view_of c) ys → ((h : Chair T N M g → ℕ) → total h ys + h c ≡ total h xs) → HoldsNothing v → HasAllOf v xs
-  has_all v c ys xs same left rests = record {
+  pub has_all_counts : (v : View M) (c : Chair T N M g) (ys xs : List (Chair T N M g)) → SameLists v [] (view_of c) ys → ((h : Chair T N M g → ℕ) → total h ys + h c ≡ total h xs) → HoldsNothing v → HasAllOf v xs
+  has_all_counts v c ys xs same left rests = record {
     puts = λ k r. let a = same.0 k r in let b = left (λ d. times k r (view_of d).puts) in omega arith;
     claims = λ k r. let a = same.1 k r in let b = left (λ d. times k r (view_of d).claims) in omega arith;
     collections = λ k r. let a = same.2 k r in let b = left (λ d. times k r (view_of d).collections) in omega arith;

@@ -44,14 +44,14 @@ module _ {T N M : Type 0} {g : Ghosts N M} where
   abbrev pub IsNewOn : Board T N M → ℕ → Chair T N M g → Type 0
   IsNewOn b chairs c = IsIdleOn b c × (seen_of c ≡ 0) × ((number : ℕ) × (number < chairs) × (view_of c ≡ fresh (Some (name_of g.name b)) number (chairs_known chairs number)))
 
-  -- d stands for the same chairs as c
+  -- d counts for the same chairs as c
   abbrev pub StandsAs : Chair T N M g → Chair T N M g → Type 0
   StandsAs c d = ((view_of d).numbers ≡ (view_of c).numbers) × ((view_of d).count ≡ (view_of c).count)
 
   -- how many chairs their board has, where chair 0 is among these
-  abbrev pub chairs_told : List (Chair T N M g) → ℕ
-  chairs_told chairs = total (λ c. (view_of c).count) chairs
+  abbrev pub chairs_counted : List (Chair T N M g) → ℕ
+  chairs_counted chairs = total (λ c. (view_of c).count) chairs
 
   -- these are all chairs of their board: each number below their count is one chair's
   abbrev pub AreAll : List (Chair T N M g) → Type 0
-  AreAll chairs = (0 < chairs_told chairs) × ((x : ℕ) → total (λ c. occurs x (view_of c).numbers) chairs ≡ one_below x (chairs_told chairs))
+  AreAll chairs = (0 < chairs_counted chairs) × ((x : ℕ) → total (λ c. occurs x (view_of c).numbers) chairs ≡ one_below x (chairs_counted chairs))

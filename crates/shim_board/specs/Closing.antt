@@ -10,7 +10,7 @@ use Rattle.shim_board.specs.declared.content.Content.TheVariants.{Piece, Net}
 use Rattle.shim_board.specs.declared.view.View.{View}
 use Rattle.shim_board.specs.Counting.{times, total}
 use Rattle.shim_board.specs.Views.{spent}
-use Rattle.shim_board.specs.Kept.{word_of, Home, Table, HoldsNothing}
+use Rattle.shim_board.specs.Kept.{word_of, SlotValue, Table, HoldsNothing}
 use Rattle.shim_board.specs.Rule.{Rule}
 use Rattle.shim_board.specs.Chairs.{name_of, slots_of, view_of}
 
@@ -23,7 +23,7 @@ OthersSpent {M} views = (j : ℕ) (v : View M) → get_elem? views j ≡ some v 
 
 module _ {T N : Type 0} where
   -- the piece of the slot k, with its number, where its word x is FULL or BACK
-  abbrev pub left_at : ℕ → ℕ → maybe.Option (Home T N) → List (ℕ × T)
+  abbrev pub left_at : ℕ → ℕ → maybe.Option (SlotValue T N) → List (ℕ × T)
   left_at k x (some (some (Piece y))) = cond (is_full_or_back x) ((k, y) ∷ []) []
   left_at k x _ = []
 

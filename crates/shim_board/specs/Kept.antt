@@ -48,12 +48,12 @@ abbrev pub in_hands : {M : Type 0} → ℕ → List (View M) → ℕ
 in_hands k views = total (λ v. in_hand k v.hand) views
 
 -- what is at home in a place, if it isn't out with a chair
-abbrev pub Home : Type 0 → Type 0 → Type 0
-Home T N = maybe.Option (Content T N)
+abbrev pub SlotValue : Type 0 → Type 0 → Type 0
+SlotValue T N = maybe.Option (Content T N)
 
 -- what is at home in a slot with the word x that so many chairs have in hand
-abbrev pub HomeFits : {T N : Type 0} → ℕ → ℕ → maybe.Option (Home T N) → Type 0
-HomeFits {T} x held h = (x % 4 ≡ 1 → (y : T) × (h ≡ some (some (Piece y)))) × (x % 4 ≡ 0 → held ≡ 0 → h ≡ some (some Nothing)) × (x % 4 ≡ 3 → held ≡ 0 → (y : T) × (h ≡ some (some (Piece y))))
+abbrev pub SlotFits : {T N : Type 0} → ℕ → ℕ → maybe.Option (SlotValue T N) → Type 0
+SlotFits {T} x count h = (x % 4 ≡ 1 → (y : T) × (h ≡ some (some (Piece y)))) × (x % 4 ≡ 0 → count ≡ 0 → h ≡ some (some Nothing)) × (x % 4 ≡ 3 → count ≡ 0 → (y : T) × (h ≡ some (some (Piece y))))
 
 abbrev pub Table : Type 0 → Type 0 → Type 0 → Type 0
 Table T N M = State (Content T N) (View M)
@@ -66,7 +66,7 @@ module _ {T N M : Type 0} (label : N → M) (board : M) (s : Table T N M) where
   -- the places and the names
   pub record ValuesKept : Type 0 where
     pub one_each : length s.words ≡ length s.homes
-    pub slots : (k : ℕ) → k + 1 < length s.homes → HomeFits (word_of s.words k) (in_hands k s.views) (get_elem? s.homes (k + 1))
+    pub slots : (k : ℕ) → k + 1 < length s.homes → SlotFits (word_of s.words k) (in_hands k s.views) (get_elem? s.homes (k + 1))
     pub net : slice_index s.words 0 ≡ 0 → (x : N) × (get_elem? s.homes 0 ≡ some (some (Net x))) × (label x ≡ board)
     pub net_out : slice_index s.words 0 ≡ 1 → get_elem? s.homes 0 ≡ some none
     pub names : (j : ℕ) (v : View M) → get_elem? s.views j ≡ some v → v.numbers ≢ [] → v.name ≡ Some board

@@ -44,8 +44,8 @@ module _ {T N M : Type 0} (label : N → M) (board : M) (s : Table T N M) where
   abbrev pub IsFree : Type 0
   IsFree = slice_index s.words 0 ≡ 0
 
-  abbrev pub IsHeld : Type 0
-  IsHeld = slice_index s.words 0 ≡ 1
+  abbrev pub TurnIsHeld : Type 0
+  TurnIsHeld = slice_index s.words 0 ≡ 1
 
   -- exactly one chair has P
   abbrev pub ExactlyOne : (View M → Type 0) → Type 0
@@ -75,8 +75,8 @@ module _ {T N M : Type 0} (label : N → M) (board : M) (s : Table T N M) where
     pub collected_by_one : (k r : ℕ) → 4 * r + 3 < word_of s.words k → ExactlyOne (λ v. 0 < times k r v.collections)
     pub taken_by_one : (k : ℕ) → IsTaken (word_of s.words k) → ExactlyOne (λ v. v.claimed ≡ Some (k, round_of (word_of s.words k)))
     -- the turn is free or held; exactly one chair has it where it is held, and none where it is free
-    pub turn : IsFree ⊎ IsHeld
-    pub held : IsHeld → ExactlyOne (λ v. v.turn ≡ 1)
+    pub turn : IsFree ⊎ TurnIsHeld
+    pub turn_held : TurnIsHeld → ExactlyOne (λ v. v.turn ≡ 1)
     pub free : IsFree → (j : ℕ) (v : View M) → HasView j v → v.turn ≡ 0
     -- only the chair with the turn has noted slots or one in hand; a noted slot is EMPTY, of that round; one in hand is EMPTY or BACK, with the word seen
     pub noted : (j : ℕ) (v : View M) → HasView j v → (k r : ℕ) → 0 < times k r v.noted → (v.turn ≡ 1) × (word_of s.words k ≡ 4 * r)

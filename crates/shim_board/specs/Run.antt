@@ -5,7 +5,7 @@ use mathlib.Core.Option as maybe
 use lib.ListN.{get_elem?}
 use Rattle.shim_board.specs.declared.view.View.{View}
 use Rattle.shim_board.specs.Counting.{one_pair, times, total}
-use Rattle.shim_board.specs.Views.{first_chair, spent, split_off, after_split, after_join, after_look, after_turn_seen, after_hold, after_put, after_claim, after_give, after_collect, after_take, after_leave}
+use Rattle.shim_board.specs.Views.{first_chair, spent, split_off, after_split, after_join, after_look, after_turn_seen, after_reserve, after_put, after_claim, after_give, after_collect, after_take, after_leave}
 use Rattle.shim_board.specs.Kept.{word_of}
 
 -- The kinds of step, with the slot, and with what a step brings. A look at the turn's word is a look, too
@@ -14,7 +14,7 @@ pub data StepKind (T N : Type 0) : Type 0 where
   join : ℕ → StepKind T N
   look : ℕ → StepKind T N
   look_turn : StepKind T N
-  hold : ℕ → StepKind T N
+  reserve : ℕ → StepKind T N
   put : ℕ → T → StepKind T N
   claim : ℕ → StepKind T N
   give : ℕ → T → StepKind T N
@@ -104,7 +104,7 @@ module _ {T N M : Type 0} where
     may (join other) = id == 0
     may (look k) = has_slot k
     may look_turn = true
-    may (hold k) = has_slot k && (v.turn == 1) && is_none v.hand && not (word k % 4 == 1) && not (word k % 4 == 2)
+    may (reserve k) = has_slot k && (v.turn == 1) && is_none v.hand && not (word k % 4 == 1) && not (word k % 4 == 2)
     may (put k y) = has_slot k && (v.turn == 1) && is_slot v.hand k && (word k % 4 == 0) && is_noted_below k v.noted
     may (claim k) = has_slot k && (word k % 4 == 1) && is_none v.claimed
     may (give k y) = has_slot k && (word k % 4 == 2) && is_slot v.claimed k
@@ -118,7 +118,7 @@ module _ {T N M : Type 0} where
     does (join other) = joins s v other (get_elem? s.views other)
     does (look k) = with_view s id (after_look v k (word k))
     does look_turn = with_view s id (after_turn_seen v (slice_index s.words 0))
-    does (hold k) = with_view s id (after_hold v k (word k))
+    does (reserve k) = with_view s id (after_reserve v k (word k))
     does (put k y) = moves s id (after_put v k (word k / 4)) k (Some y) y
     does (claim k) = moves_out s id (after_claim v k (word k / 4)) k (s.piece k)
     does (give k y) = moves s id (after_give v) k (Some y) y
@@ -220,4 +220,4 @@ by j kind = record { chair = j; kind = kind }
 
 -- The piece y goes out over the slot 0 from chair 0 to chair 1, and z comes back
 abbrev pub one_round : {T N : Type 0} → T → T → List (BoardStep T N)
-one_round y z = by 0 split ∷ by 0 take_turn ∷ by 0 (look 0) ∷ by 0 (hold 0) ∷ by 0 (put 0 y) ∷ by 1 (claim 0) ∷ by 1 (give 0 z) ∷ by 0 (hold 0) ∷ by 0 (collect 0) ∷ []
+one_round y z = by 0 split ∷ by 0 take_turn ∷ by 0 (look 0) ∷ by 0 (reserve 0) ∷ by 0 (put 0 y) ∷ by 1 (claim 0) ∷ by 1 (give 0 z) ∷ by 0 (reserve 0) ∷ by 0 (collect 0) ∷ []

@@ -1,10 +1,10 @@
--- What each step tells the call that does it, of the number found and of the chair before and after.
+-- What the call that does a step knows from it, of the number found and of the chair before and after.
 use Rattle.std.specs.Prelude.{◌≡◌, ◌≢◌, ℕ, ◌+◌, ◌*◌, ◌/◌, ◌%◌, ◌<◌, ◌∷◌, Some}
 use Rattle.atomic_table.specs.Table.{Step, rest}
 use Rattle.shim_board.specs.declared.content.Content.{Content}
 use Rattle.shim_board.specs.declared.content.Content.TheVariants.{Nothing, Piece, Net}
 use Rattle.shim_board.specs.Counting.{times}
-use Rattle.shim_board.specs.Views.{after_look, after_turn_seen, after_hold, after_put, after_claim, after_give, after_collect, after_take, after_leave}
+use Rattle.shim_board.specs.Views.{after_look, after_turn_seen, after_reserve, after_put, after_claim, after_give, after_collect, after_take, after_leave}
 use Rattle.shim_board.specs.Kept.{Seated}
 
 module _ {T N M : Type 0} where
@@ -14,11 +14,11 @@ module _ {T N M : Type 0} where
 
   -- a load at a noted slot: it is EMPTY, of the noted round, and in hand from then on
   abbrev pub HoldsEmpty : Step (Content T N) → Seated T N M → ℕ → Seated T N M → Type 0
-  HoldsEmpty st m x m' = (k r : ℕ) → st.word ≡ k + 1 → 0 < times k r m.0.noted → m' ≡ (after_hold m.0 k (4 * r), (k + 1, Nothing) ∷ m.1)
+  HoldsEmpty st m x m' = (k r : ℕ) → st.word ≡ k + 1 → 0 < times k r m.0.noted → m' ≡ (after_reserve m.0 k (4 * r), (k + 1, Nothing) ∷ m.1)
 
   -- a load at a slot, which is in hand from then on where it is BACK
   abbrev pub HoldsBack : Step (Content T N) → Seated T N M → ℕ → Seated T N M → Type 0
-  HoldsBack st m x m' = (k : ℕ) → st.word ≡ k + 1 → (x % 4 ≡ 3 → (y : T) × (m' ≡ (after_hold m.0 k x, (k + 1, Piece y) ∷ m.1))) × (x % 4 ≢ 3 → m' ≡ (after_look m.0 k x, m.1))
+  HoldsBack st m x m' = (k : ℕ) → st.word ≡ k + 1 → (x % 4 ≡ 3 → (y : T) × (m' ≡ (after_reserve m.0 k x, (k + 1, Piece y) ∷ m.1))) × (x % 4 ≢ 3 → m' ≡ (after_look m.0 k x, m.1))
 
   abbrev pub HasPut : Step (Content T N) → Seated T N M → ℕ → Seated T N M → Type 0
   HasPut st m x m' = (k r : ℕ) → m.0.hand ≡ Some (k, 4 * r) → m' ≡ (after_put m.0 k r, rest m.1)
@@ -38,5 +38,5 @@ module _ {T N M : Type 0} where
   abbrev pub HasTakenOrLooked : (N → M) → Step (Content T N) → Seated T N M → ℕ → Seated T N M → Type 0
   HasTakenOrLooked label st m x m' = (x ≡ 0 → (net : N) × (m' ≡ (after_take m.0, (0, Net net) ∷ m.1)) × (m.0.name ≡ Some (label net))) × (x ≢ 0 → (x ≡ 1) × (m' ≡ (after_turn_seen m.0 x, m.1)))
 
-  abbrev pub HasLeft : Step (Content T N) → Seated T N M → ℕ → Seated T N M → Type 0
-  HasLeft st m x m' = m' ≡ (after_leave m.0, rest m.1)
+  abbrev pub HasLeftTurn : Step (Content T N) → Seated T N M → ℕ → Seated T N M → Type 0
+  HasLeftTurn st m x m' = m' ≡ (after_leave m.0, rest m.1)

@@ -46,8 +46,8 @@ module _ {M : Type 0} where
     after_turn_seen x = record v { turns_seen = v.turns_seen ++ x ∷ [] }
 
     -- the slot k is in hand, with the word x
-    abbrev pub after_hold : ℕ → ℕ → View M
-    after_hold k x = record v { hand = Some (k, x) }
+    abbrev pub after_reserve : ℕ → ℕ → View M
+    after_reserve k x = record v { hand = Some (k, x) }
 
     abbrev pub after_put : ℕ → ℕ → View M
     after_put k r = record v { puts = v.puts ++ (k, r) ∷ []; hand = None; noted = without k v.noted }

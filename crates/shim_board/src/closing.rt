@@ -41,7 +41,7 @@ impl<T: Drop, N: Named + Drop> Board<T, N> {
     ghost use Rattle.shim_board.specs.Closing.{AreLastOf, AreLeft, SameLists};
 
     /// Closes a board, with all of its chairs, in any order, of which none has the turn or a claimed slot.
-    /// Want of memory changes nothing.
+    /// Running out of memory changes nothing.
     pub fn close(
         self,
         alloc: Global,

@@ -36,9 +36,9 @@ impl<T: Drop, N: Named + Drop> Board<T, N> {
         None
     }
 
-    /// Puts a piece into a slot that was noted in this turn, of a round below 2^62 - 1, so that words stay
-    /// in 64 bits: its word becomes FULL, of the same round. This clause, and those of the other calls, tell what becomes of the view; what that says of the word is the
-    /// law `rule`.
+    /// Puts a piece into a slot that was noted in this turn, of a round below 2^62 - 1, so that words stay in
+    /// 64 bits: its word becomes FULL, of the same round. This clause, and those of the other calls, say what
+    /// becomes of the view; what that says of the word is the law `rule`.
     pub fn put(&self, chair: &mut Chair<T, N>, slot: u64, value: T)
         requires chair { IsOn self.now chair.old }
         requires slot { HasSlot self.now slot }

@@ -1,4 +1,4 @@
-// The rule of the table, and what each of its steps tells the call that does it.
+// The rule of the table, and what the call that does a step knows from it.
 use crate::content::Content;
 use crate::view::View;
 use atomic_table::{Join, Play, Split, TableRule};
@@ -93,9 +93,9 @@ impl<T, N: Named> Play<Content<T, N>, View<N::Label>> for TakeTurn {
 pub(crate) struct LeaveTurn;
 
 impl<T, N: Named> Play<Content<T, N>, View<N::Label>> for LeaveTurn {
-    ghost use Rattle.shim_board.specs.Steps.{HasLeft};
+    ghost use Rattle.shim_board.specs.Steps.{HasLeftTurn};
 
-    ghost then = { HasLeft };
+    ghost then = { HasLeftTurn };
 }
 
 /// One more chair, beside chair 0.

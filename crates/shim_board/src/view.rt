@@ -22,7 +22,7 @@ pub struct View<M> {
     pub turns_seen: LinkedList<u64>,
     /// 1 with the turn, and else 0.
     pub turn: u64,
-    /// The numbers of the chairs that this one stands for: its own, until others join it.
+    /// The numbers of the chairs that this one counts for: its own, until others join it.
     pub numbers: LinkedList<u64>,
     /// How many chairs the board has, at chair 0; else 0.
     pub count: u64,

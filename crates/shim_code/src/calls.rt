@@ -65,7 +65,7 @@ fn emit_args(code: &mut Draft, params: &[UParam], args: &[Arg]) -> Result<(), No
     Ok(())
 }
 
-// A count that 32 bits do not hold is taken for want of memory.
+// A count that 32 bits do not hold counts as out of memory.
 fn count(many: usize) -> Result<u32, NoMemory>
     ensures { IfOk result (λ n. n ≡ many) }
 {

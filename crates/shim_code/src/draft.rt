@@ -70,7 +70,7 @@ impl Draft {
         }))
     }
 
-    /// The place of the next instruction. A place that 32 bits do not hold is taken for want of memory.
+    /// The place of the next instruction. A place that 32 bits do not hold counts as out of memory.
     pub fn here(&self) -> Result<u32, NoMemory>
         ensures { IfOk result (λ at. at ≡ length self.now) }
     {
@@ -123,8 +123,8 @@ impl Draft {
         Ok(())
     }
 
-    /// The whole code, with the numbers of the statements at their marks. A number that 32 bits do not
-    /// hold is taken for want of memory.
+    /// The whole code, with the numbers of the statements at their marks. A number that 32 bits do not hold
+    /// counts as out of memory.
     pub fn finish(self) -> Result<List<MachineInstr>, NoMemory>
         ensures { IfOk result (λ code. code ≡ numbered 0 self) }
     {

@@ -1,7 +1,7 @@
 // The instructions of a unit's code.
 use shim_base::{BinOp, List, UnOp};
 
-/// What a process stands at where a statement, or its second part, begins.
+/// What a process is at where a statement, or its second part, begins.
 #[derive(Clone, Copy, Debug, PartialEq, Eq)]
 pub enum MarkKind {
     Quiet,

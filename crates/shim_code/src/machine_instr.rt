@@ -12,7 +12,7 @@ pub struct Mark {
     pub number: u32,
     pub kind: MarkKind,
     /// The first part of the statement is done: of `next x = e` the assignment, of `x = next y` the
-    /// meeting.
+    /// rendezvous.
     pub halfway: bool,
 }
 

@@ -11,7 +11,7 @@ use shim_base::{List, NoMemory};
 use shim_units::{Accepted, Unit};
 use std::alloc::Global;
 
-/// The code of an accepted program. There is no refusal but want of memory.
+/// The code of an accepted program. It fails only if memory runs out.
 pub fn compile(alloc: Global, program: &Accepted) -> Result<Code, NoMemory>
     ensures { IfOk result (λ code. code ≡ program.now) }
 {

@@ -1,4 +1,4 @@
--- What an event logs tells whether it has a process catch a label.
+-- By what an event logs it has a process catch a label, or doesn't.
 use Rattle.std.proofs.Common.{◌≡◌, ◌≤◌, ℕ, ℤ, true, false, Option, Some, None, List, [], ◌∷◌, ◌++◌, inl, inr, cond, ltb, refl, sym, ap, subst, ◌∙◌, ltb-false, le-ltb}
 use Rattle.std.proofs.lemmas.List.{append-nil, append_cancel_left}
 use Rattle.std.specs.Prelude.{unwrap_or}
@@ -17,11 +17,11 @@ use Rattle.shim_semantics.specs.Trees.{Tree, Event, Own, Meet, Poison, Close, En
 use Rattle.shim_semantics.proofs.Alone.{does, doer, does_close}
 use Rattle.shim_laws_schedules.proofs.Entries.{get_other}
 use Rattle.shim_laws_schedules.proofs.Elsewhere.{closing}
-use Rattle.shim_laws_schedules.proofs.Opened.{Opened, opened, its_kind}
+use Rattle.shim_laws_schedules.proofs.EventParts.{EventParts, split_event, its_kind}
 use Rattle.shim_laws_schedules.proofs.PoisonDiamond.{nodes_changed_some}
 use Rattle.shim_laws_schedules.specs.Throws.{Throws, ClosesWith, Catches, by_throw, by_close, catcher, CatchesAreLogged}
 use Rattle.shim_laws_schedules.proofs.Events.{paths_same}
-use Rattle.shim_laws_schedules.proofs.Threw.{does_steps, opened_stands}
+use Rattle.shim_laws_schedules.proofs.Threw.{does_steps, split_in_tree}
 use Rattle.shim_base.proofs.Facts.{some_same, none_some, cond_some, true_or_false}
 
 -- ---- what the map of the logs has afterwards
@@ -104,7 +104,7 @@ module _ {S : Type 0} (o : Ops S) where
 
   -- ---- the node of an event
 
-  module _ (t u : Tree S) (e : Event) (w : Opened o e t u) where
+  module _ (t u : Tree S) (e : Event) (w : EventParts o e t u) where
     old_is : (p : Path) (n : Node S) → p ≡ doer e → StandsAt o t.root p n → w.old ≡ n
     old_is p n at s = some_same w.old n (sym w.there ∙ (ap (at_route t.root) (sym w.route_is) ∙ (ap (λ z. at_route t.root (route (o.path (state t.root)) z)) (sym at) ∙ s.there)))
 
@@ -115,21 +115,21 @@ module _ {S : Type 0} (o : Ops S) where
     others_logs p n = ap (λ z. logs_at z.logs p) (sym w.is) ∙ logs_other t.logs (doer e) p w.new.effects.logs n
 
     -- a catch that it logs
-    tells : (p : Path) (name line : ℕ) → p ≡ doer e → NodeCatches w.old name line → (x : ℕ) × (v : ℤ) × (c : Catches o t e p x v) × (o.handler (catcher c) x ≡ (name, line))
-    tells p name line at (at_throw k x v live throws gives low handler) =
+    catch_of : (p : Path) (name line : ℕ) → p ≡ doer e → NodeCatches w.old name line → (x : ℕ) × (v : ℤ) × (c : Catches o t e p x v) × (o.handler (catcher c) x ≡ (name, line))
+    catch_of p name line at (at_throw k x v live throws gives low handler) =
         let is : e ≡ Own (doer e) = does_steps e (ap (same_own_action (does e)) (sym (ap (own_action_of o) live ∙ ap own_action_at throws)) ∙ its_kind o e t u w) in
-        let c : Throws o t e p x v = record { is = is ∙ ap Own (sym at); thrower = k; stands = opened_stands o e t u w p (Live k) at live; throws = throws; gives = gives } in
+        let c : Throws o t e p x v = record { is = is ∙ ap Own (sym at); thrower = k; in_tree = split_in_tree o e t u w p (Live k) at live; throws = throws; gives = gives } in
         (x, v, by_throw c low, handler)
-    tells p name line at (at_close k ks x forked done least low handler) =
+    catch_of p name line at (at_close k ks x forked done least low handler) =
         let is : e ≡ Close (doer e) = does_close e (ap (same_own_action (does e)) (sym (ap (own_action_of o) forked)) ∙ its_kind o e t u w) in
-        let c : ClosesWith o t e p x.label (handed x.given) = record { is = is ∙ ap Close (sym at); parent = k; children = ks; stands = opened_stands o e t u w p (Forked k ks) at forked; done = done; death = x; prevails = least; labelled = refl; hands = refl } in
+        let c : ClosesWith o t e p x.label (handed x.given) = record { is = is ∙ ap Close (sym at); parent = k; children = ks; in_tree = split_in_tree o e t u w p (Forked k ks) at forked; done = done; death = x; prevails = least; labelled = refl; hands = refl } in
         (x.label, handed x.given, by_close c low, handler)
 
-    alone_tells : (p : Path) (name line : ℕ) (more : List LogWhat) → logs_at u.logs p ≡ logs_at t.logs p ++ Caught name line ∷ more → (x : ℕ) × (v : ℤ) × (c : Catches o t e p x v) × (o.handler (catcher c) x ≡ (name, line))
-    alone_tells p name line more f = elim (paths_same p (doer e)) [
+    alone_caught : (p : Path) (name line : ℕ) (more : List LogWhat) → logs_at u.logs p ≡ logs_at t.logs p ++ Caught name line ∷ more → (x : ℕ) × (v : ℤ) × (c : Catches o t e p x v) × (o.handler (catcher c) x ≡ (name, line))
+    alone_caught p name line more f = elim (paths_same p (doer e)) [
       | inl at ↦
           let effects = append_cancel_left (logs_at t.logs p) w.new.effects.logs (Caught name line ∷ more) (sym (alone_logs p at) ∙ f) in
-          tells p name line at (node_catches w.old w.new name line more w.here effects)
+          catch_of p name line at (node_catches w.old w.new name line more w.here effects)
       | inr n ↦ nothing_more (logs_at u.logs p) (logs_at t.logs p) more name line (others_logs p (λ z. n (sym z))) f
     ]
 
@@ -137,7 +137,7 @@ module _ {S : Type 0} (o : Ops S) where
     throw_logs : (p : Path) (x : ℕ) (v : ℤ) (c : Throws o t e p x v) → o.base c.thrower ≤ x → logs_at u.logs p ≡ logs_at t.logs p ++ Caught (o.handler c.thrower x).0 (o.handler c.thrower x).1 ∷ []
     throw_logs p x v c low =
         let at : p ≡ doer e = sym (ap doer c.is) in
-        let old = old_is p (Live c.thrower) at c.stands in
+        let old = old_is p (Live c.thrower) at c.in_tree in
         let new : thrown o c.thrower (death_with x v) ≡ w.new =
         ap (throwing o c.thrower x) (sym c.gives) ∙ some_same (throwing o c.thrower x (o.number c.thrower)) w.new (sym (ap (act_live o c.thrower) c.throws) ∙ (ap (act_here o) (sym old) ∙ w.here)) in
         alone_logs p at ∙ ap (λ z. logs_at t.logs p ++ z.logs) (sym (ap (λ z. z.effects) new) ∙ caught_logs c.thrower (death_with x v) low)
@@ -146,7 +146,7 @@ module _ {S : Type 0} (o : Ops S) where
         → logs_at u.logs p ≡ logs_at t.logs p ++ Caught (o.handler (o.join c.parent (states c.children) false) x).0 (o.handler (o.join c.parent (states c.children) false) x).1 ∷ []
     close_logs p x v c low =
         let at : p ≡ doer e = sym (ap doer c.is) in
-        let old = old_is p (Forked c.parent c.children) at c.stands in
+        let old = old_is p (Forked c.parent c.children) at c.in_tree in
         let joined = o.join c.parent (states c.children) false in
         let left = closing o c.parent c.children w.new (ap (act_here o) (sym old) ∙ w.here) in
         let new : thrown o joined c.death ≡ w.new = sym (ap (closed o c.parent (states c.children)) c.prevails) ∙ left.1 in
@@ -157,14 +157,14 @@ module _ {S : Type 0} (o : Ops S) where
   -- ---- every event
 
   caught_logged : (t u : Tree S) (e : Event) (p : Path) (x : ℕ) (v : ℤ) → after o e t ≡ Some u → (c : Catches o t e p x v) → logs_at u.logs p ≡ logs_at t.logs p ++ Caught (o.handler (catcher c) x).0 (o.handler (catcher c) x).1 ∷ []
-  caught_logged t u e p x v h (by_throw c low) = throw_logs t u e (opened o e t u (λ z. let w = sym z ∙ ap does c.is in absurd (cc w)) h) p x v c low
-  caught_logged t u e p x v h (by_close c low) = close_logs t u e (opened o e t u (λ z. let w = sym z ∙ ap does c.is in absurd (cc w)) h) p x v c low
+  caught_logged t u e p x v h (by_throw c low) = throw_logs t u e (split_event o e t u (λ z. let w = sym z ∙ ap does c.is in absurd (cc w)) h) p x v c low
+  caught_logged t u e p x v h (by_close c low) = close_logs t u e (split_event o e t u (λ z. let w = sym z ∙ ap does c.is in absurd (cc w)) h) p x v c low
 
   logged_caught : (t u : Tree S) (e : Event) (p : Path) (name line : ℕ) (more : List LogWhat) → after o e t ≡ Some u → logs_at u.logs p ≡ logs_at t.logs p ++ Caught name line ∷ more
       → (x : ℕ) × (v : ℤ) × (c : Catches o t e p x v) × (o.handler (catcher c) x ≡ (name, line))
-  logged_caught t u (Own q) p name line more h f = alone_tells t u (Own q) (opened o (Own q) t u (λ z. absurd cc) h) p name line more f
-  logged_caught t u (Close q) p name line more h f = alone_tells t u (Close q) (opened o (Close q) t u (λ z. absurd cc) h) p name line more f
-  logged_caught t u (End q) p name line more h f = alone_tells t u (End q) (opened o (End q) t u (λ z. absurd cc) h) p name line more f
+  logged_caught t u (Own q) p name line more h f = alone_caught t u (Own q) (split_event o (Own q) t u (λ z. absurd cc) h) p name line more f
+  logged_caught t u (Close q) p name line more h f = alone_caught t u (Close q) (split_event o (Close q) t u (λ z. absurd cc) h) p name line more f
+  logged_caught t u (End q) p name line more h f = alone_caught t u (End q) (split_event o (End q) t u (λ z. absurd cc) h) p name line more f
   logged_caught t u (Poison q c) p name line more h f =
       nothing_more (logs_at u.logs p) (logs_at t.logs p) more name line (ap (λ z. logs_at z p) (nodes_changed_logs t u (poisons o q c t.root) h)) f
   logged_caught t u (Meet c) p name line more h f =
@@ -172,4 +172,4 @@ module _ {S : Type 0} (o : Ops S) where
       nothing_more (logs_at u.logs p) (logs_at t.logs p) more name line (ap (λ z. logs_at z.logs p) (sym w.1)) f
 
   pub catches_are_logged : CatchesAreLogged o
-  catches_are_logged = record { logged = caught_logged; told = logged_caught }
+  catches_are_logged = record { logged = caught_logged; caught = logged_caught }

@@ -115,7 +115,7 @@ module _ {S : Type 0} where
   none_dead h [] = refl
   none_dead h (l ∷ ls) = none_dead h ls
 
-  -- of children that are done the prevailing death tells
+  -- of children that are done the prevailing death decides
   done_dead : (h : ℕ) (ks : Nodes S) → all_done ks ≡ true → any_dead_below h ks ≡ under (prevailing_death ks) h
   unfolding under
   done_dead h no_node d = refl

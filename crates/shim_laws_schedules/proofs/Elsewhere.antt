@@ -15,7 +15,7 @@ use Rattle.shim_semantics.proofs.SoundEvents.{here_keeps}
 use Rattle.shim_laws_schedules.specs.Waiting.{all_wait, all_wait_below, is_unshared}
 use Rattle.shim_laws_schedules.proofs.AllWait.{Alike, alike_put}
 use Rattle.shim_laws_schedules.proofs.Unshared.{is_unshared_alike}
-use Rattle.shim_laws_schedules.proofs.Homes.{Outside, Home, unshared_is_unshared, ready_goes}
+use Rattle.shim_laws_schedules.proofs.Homes.{Outside, ReadyHome, unshared_is_unshared, ready_goes}
 use Rattle.shim_base.proofs.Facts.{some_same, none_some, first_holds, second_holds, either_holds, cond_some, true_or_false, not_false, or_false}
 
 -- ---- below one that acts nobody goes
@@ -112,7 +112,7 @@ module _ {S : Type 0} (o : Ops S) where
     all_wait_at_in c (suc i) q (node_and k ks) m h e = all_wait_at_in c i q ks m (second_holds (all_wait o c k) (all_wait_below o c ks) h) e
 
   -- the channel is declared neither by who acts, nor below
-  pub acts_outside : (c : Channel) (n m : Node S) (q : List ℕ) (a : Acted S) → SoundBelow o n → Home o c n → at q n ≡ Some m → act_here o m ≡ Some a → o.shares (state m) c ≡ false → Outside c (o.path (state m))
+  pub acts_outside : (c : Channel) (n m : Node S) (q : List ℕ) (a : Acted S) → SoundBelow o n → ReadyHome o c n → at q n ≡ Some m → act_here o m ≡ Some a → o.shares (state m) c ≡ false → Outside c (o.path (state m))
   acts_outside c n m q a s home e h none_of r is =
       let x = at_path o n home.node home.branches s home.there in
       let y = at_path o n m q s e in
@@ -139,7 +139,7 @@ module _ {S : Type 0} (o : Ops S) where
     pub behind : is_unshared o c a.node ≡ true
     pub alike : Alike o c n (put q a.node n)
 
-  pub acts_aside : LocalLaws o → (c : Channel) (q : List ℕ) (n m : Node S) (a : Acted S) → SoundBelow o n → all_wait o c n ≡ true → Home o c n → at q n ≡ Some m → act_here o m ≡ Some a → ActsAside c q n m a
+  pub acts_aside : LocalLaws o → (c : Channel) (q : List ℕ) (n m : Node S) (a : Acted S) → SoundBelow o n → all_wait o c n ≡ true → ReadyHome o c n → at q n ≡ Some m → act_here o m ≡ Some a → ActsAside c q n m a
   acts_aside law c q n m a s h home e f =
       let below = sound_at o q n m s e in
       let unshared = acts_unshared c m a (all_wait_at c q n m h e) f in

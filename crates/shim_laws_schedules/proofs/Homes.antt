@@ -33,7 +33,7 @@ abbrev first_place : Path → ℕ
 first_place [] = 0
 first_place (x ∷ p) = x.1
 
--- behind a path the place of the child tells the way
+-- behind a path the place of the child gives the way
 pub same_branch : (p : Path) (f i j : ℕ) (r s : Path) → p ++ (f, i) ∷ r ≡ p ++ (f, j) ∷ s → i ≡ j
 same_branch p f i j r s e = ap first_place (append_cancel_left p ((f, i) ∷ r) ((f, j) ∷ s) e)
 
@@ -236,7 +236,7 @@ module _ {S : Type 0} (o : Ops S) where
   -- ---- and back
 
   -- the node of the process that declared the channel: it is ready on the channel, and shares it
-  pub record Home (c : Channel) (n : Node S) : Type 0 where
+  pub record ReadyHome (c : Channel) (n : Node S) : Type 0 where
     pub branches : List ℕ
     pub node : Node S
     pub there : at branches n ≡ Some node
@@ -245,7 +245,7 @@ module _ {S : Type 0} (o : Ops S) where
     pub shared : o.shares (state node) c ≡ true
 
   -- the same among the children of a fork
-  record HomeIn (c : Channel) (ks : Nodes S) : Type 0 where
+  record ReadyHomeIn (c : Channel) (ks : Nodes S) : Type 0 where
     which : ℕ
     branches : List ℕ
     node : Node S
@@ -255,7 +255,7 @@ module _ {S : Type 0} (o : Ops S) where
     shared : o.shares (state node) c ≡ true
 
   mutual
-    pub all_wait_home : (c : Channel) (n : Node S) → SoundBelow o n → (o.shares (state n) c ≡ true → c.home ≡ o.path (state n)) → all_wait o c n ≡ true → has_sharer o c n ≡ true → Home c n
+    pub all_wait_home : (c : Channel) (n : Node S) → SoundBelow o n → (o.shares (state n) c ≡ true → c.home ≡ o.path (state n)) → all_wait o c n ≡ true → has_sharer o c n ≡ true → ReadyHome c n
     all_wait_home c (Ended l) s own h t = absurd cc
     all_wait_home c (Dead l x) s own h t = absurd cc
     all_wait_home c (Live l) s own h t = record { branches = []; node = Live l; there = refl; path = sym (own t); is_ready = all_wait_ready c (Live l) h t refl; shared = t }
@@ -268,7 +268,7 @@ module _ {S : Type 0} (o : Ops S) where
               record { branches = w.which ∷ w.branches; node = w.node; there = w.there; path = w.path; is_ready = w.is_ready; shared = w.shared }
         ]
 
-    all_wait_home_in : (c : Channel) (l : S) (f j : ℕ) (ks : Nodes S) → SoundChildren o l f j ks → o.shares l c ≡ false → all_wait_below o c ks ≡ true → any_has_sharer o c ks ≡ true → HomeIn c ks
+    all_wait_home_in : (c : Channel) (l : S) (f j : ℕ) (ks : Nodes S) → SoundChildren o l f j ks → o.shares l c ≡ false → all_wait_below o c ks ≡ true → any_has_sharer o c ks ≡ true → ReadyHomeIn c ks
     all_wait_home_in c l f j no_node s n h t = absurd cc
     all_wait_home_in c l f j (node_and k ks) s n h t =
         elim (either_holds (has_sharer o c k) (any_has_sharer o c ks) t) [
@@ -296,7 +296,7 @@ module _ {S : Type 0} (o : Ops S) where
       by_route None h = absurd cc
       by_route (Some q) h = found q (at q n) refl h
 
-  pub home_meets : (c : Channel) (n : Node S) → SoundBelow o n → Home c n → meets o c n ≡ true
+  pub home_meets : (c : Channel) (n : Node S) → SoundBelow o n → ReadyHome c n → meets o c n ≡ true
   home_meets c n s x =
       ap (λ z. home_is_ready o c (at_route n z)) (route_of o n x.node x.branches c.home s x.there x.path)
       ∙ (ap (home_is_ready o c) x.there ∙ both_hold _ _ (ap (λ z. same_path z c.home) x.path ∙ same_path_refl c.home) x.is_ready)

@@ -6,7 +6,7 @@ use Rattle.shim_local.specs.Process.{Ops}
 use Rattle.shim_local.specs.Laws.{LocalLaws}
 use Rattle.shim_semantics.specs.Nodes.{Node, Nodes, Live, Forked, Ended, Dead, Death, death, no_node, node_and, state, goes, all_done, any_sharer, ready, all_ready}
 use Rattle.shim_semantics.specs.Acts.{Acted, act_here}
-use Rattle.shim_semantics.specs.Poison.{poisoned, is_doomed, is_ready_child, one_poisoned, can_poison, poison_here, above, before_rest, after_one, poison, poison_child}
+use Rattle.shim_semantics.specs.Poison.{poisoned, is_doomed, is_ready_child, one_poisoned, can_poison, poison_node, above, before_rest, after_one, poison, poison_child}
 use Rattle.shim_semantics.specs.Places.{at, child_at, SoundBelow, SoundChildren, IsChild}
 use Rattle.shim_semantics.proofs.HowMany.{clash, no_less}
 use Rattle.shim_semantics.proofs.Routes.{at_path}
@@ -116,14 +116,14 @@ module _ {S : Type 0} (o : Ops S) where
     pub none_below : NotBelow c (o.path l)
     pub is : Forked l (one_poisoned o c (death (o.handlers l - 1)) i ks) ≡ m
 
-  pub here_can : LocalLaws o → (c : Channel) (i : ℕ) (l : S) (ks : Nodes S) (m : Node S) → SoundBelow o (Forked l ks) → FromAbove c l → poison_here o c i (Forked l ks) ≡ Some m → CanPoison c i l ks m
+  pub here_can : LocalLaws o → (c : Channel) (i : ℕ) (l : S) (ks : Nodes S) (m : Node S) → SoundBelow o (Forked l ks) → FromAbove c l → poison_node o c i (Forked l ks) ≡ Some m → CanPoison c i l ks m
   here_can law c i l ks m s from e =
       let w = cond_some (can_poison o l c i ks) (Forked l (one_poisoned o c (death (o.handlers l - 1)) i ks)) m e in
       let r = first_holds (is_ready_child o c i ks) (is_doomed o (o.handlers l) c i ks) w.0 in
       let d = second_holds (is_ready_child o c i ks) (is_doomed o (o.handlers l) c i ks) w.0 in
       record { waits = r; doomed = d; none_below = from (poisoned_shares o law (o.handlers l) c i l ks s r d); is = w.1 }
 
-  pub here_poisons : (c : Channel) (i : ℕ) (l : S) (ks : Nodes S) → is_ready_child o c i ks ≡ true → is_doomed o (o.handlers l) c i ks ≡ true → poison_here o c i (Forked l ks) ≡ Some (Forked l (one_poisoned o c (death (o.handlers l - 1)) i ks))
+  pub here_poisons : (c : Channel) (i : ℕ) (l : S) (ks : Nodes S) → is_ready_child o c i ks ≡ true → is_doomed o (o.handlers l) c i ks ≡ true → poison_node o c i (Forked l ks) ≡ Some (Forked l (one_poisoned o c (death (o.handlers l - 1)) i ks))
   here_poisons c i l ks r d = ap (λ b. cond b (Some (Forked l (one_poisoned o c (death (o.handlers l - 1)) i ks))) None) (both_hold (is_ready_child o c i ks) (is_doomed o (o.handlers l) c i ks) r d)
 
   -- ---- no poison at or below a fork whose children are done

@@ -8,7 +8,7 @@ pub mod Homes
 pub mod Kills
 pub mod MeetDiamond
 pub mod Meets
-pub mod Opened
+pub mod EventParts
 pub mod PoisonDiamond
 pub mod PoisonMeets
 pub mod PoisonTwice
@@ -31,7 +31,7 @@ pub mod DeadBelow
 pub mod Forks
 pub mod Numbers
 pub mod DiedThrown
-pub mod Leaves
+pub mod NewDeaths
 pub mod Stood
 pub mod MeetSpares
 pub mod PoisonSpares

@@ -20,7 +20,7 @@ use Rattle.shim_laws_schedules.proofs.Entries.{recorded_swap}
 use Rattle.shim_laws_schedules.proofs.Homes.{meets_all_wait, all_wait_meets, all_wait_home}
 use Rattle.shim_laws_schedules.proofs.Elsewhere.{acts_aside}
 use Rattle.shim_laws_schedules.proofs.Meets.{is_unshared_there, is_unshared_put, received_alike, received_twice}
-use Rattle.shim_laws_schedules.proofs.Opened.{counted, later_twice, told, Opened, opened, shut}
+use Rattle.shim_laws_schedules.proofs.EventParts.{counted, later_twice, with_effects, EventParts, split_event, join_event}
 use Rattle.shim_base.proofs.Facts.{cond_some}
 
 module _ {S : Type 0} (o : Ops S) where
@@ -66,8 +66,8 @@ module _ {S : Type 0} (o : Ops S) where
   -- ---- with an event of one process
 
   -- the same trees, as the two orders make them
-  told_met : (e : Event) (c : Channel) (v : ℤ) (name : ℕ) (t : Tree S) (n m : Node S) (s : Effects) → m ≡ received o c v n → told e (met_as c v name t) m s ≡ met_as c v name (told e t n s)
-  told_met e c v name t n m s h = λ i. record {
+  with_effects_met : (e : Event) (c : Channel) (v : ℤ) (name : ℕ) (t : Tree S) (n m : Node S) (s : Effects) → m ≡ received o c v n → with_effects e (met_as c v name t) m s ≡ met_as c v name (with_effects e t n s)
+  with_effects_met e c v name t n m s h = λ i. record {
     root = h i;
     output = t.output ++ s.bytes;
     histories = recorded t.histories c name v;
@@ -76,27 +76,27 @@ module _ {S : Type 0} (o : Ops S) where
     events = later_twice e t.events i;
   }
 
-  meet_opened : LocalLaws o → (c : Channel) (e : Event) (t : Tree S) (b : Tree S) → IsSoundTree o t → IsAlone e → all_wait o c t.root ≡ true → has_sharer o c t.root ≡ true → after o e t ≡ Some b → Opened o e t b → Joined (Meet c) e (meeting c t) b
-  meet_opened law c e t b s d h g f x =
+  meet_split : LocalLaws o → (c : Channel) (e : Event) (t : Tree S) (b : Tree S) → IsSoundTree o t → IsAlone e → all_wait o c t.root ≡ true → has_sharer o c t.root ≡ true → after o e t ≡ Some b → EventParts o e t b → Joined (Meet c) e (meeting c t) b
+  meet_split law c e t b s d h g f x =
       let v : ℤ = value_in c t.root in
       let name : ℕ = name_in c t.root in
       let home = all_wait_home o c t.root s.below (s.own c) h g in
       let aside = acts_aside o law c x.place t.root x.old x.new s.below h home x.there x.here in
       let kept = here_keeps o law x.old x.new (sound_at o x.place t.root x.old s.below x.there) x.here in
-      let changed : Tree S = told e t (put x.place x.new.node t.root) x.new.effects in
+      let changed : Tree S = with_effects e t (put x.place x.new.node t.root) x.new.effects in
       let sound : IsSoundTree o changed = (events_keep_sound o law).kept t s e changed (f ∙ ap Some (sym x.is)) in
       let second : after o (Meet c) changed ≡ Some (met_as c v name changed) = meets_alike c t.root changed sound h g aside.alike in
       let path = (meeting_stays o law c v t.root s.below).follows.path in
       let there = is_unshared_there o law c v x.place t.root x.old s.below x.there aside.before in
-      let first : after o e (meeting c t) ≡ Some (told e (meeting c t) (put x.place x.new.node (received o c v t.root)) x.new.effects) =
-      shut o e (meeting c t) x.place x.old x.new d (ap (λ z. route z (doer e)) path ∙ x.route_is) there x.its x.here in
-      let same = told_met e c v name t (put x.place x.new.node t.root) (put x.place x.new.node (received o c v t.root)) x.new.effects (is_unshared_put o law c v x.place x.new.node t.root kept.below aside.behind) in
+      let first : after o e (meeting c t) ≡ Some (with_effects e (meeting c t) (put x.place x.new.node (received o c v t.root)) x.new.effects) =
+      join_event o e (meeting c t) x.place x.old x.new d (ap (λ z. route z (doer e)) path ∙ x.route_is) there x.its x.here in
+      let same = with_effects_met e c v name t (put x.place x.new.node t.root) (put x.place x.new.node (received o c v t.root)) x.new.effects (is_unshared_put o law c v x.place x.new.node t.root kept.below aside.behind) in
       subst (Joined (Meet c) e (meeting c t)) x.is (record { tree = met_as c v name changed; first = first ∙ ap Some same; second = second })
 
   pub meet_alone : LocalLaws o → (c : Channel) (e : Event) (t a b : Tree S) → IsSoundTree o t → IsAlone e → after o (Meet c) t ≡ Some a → after o e t ≡ Some b → Joined (Meet c) e a b
   meet_alone law c e t a b s d h f =
       let x = has_met law c t a s h in
-      subst (λ z. Joined (Meet c) e z b) x.is (meet_opened law c e t b s d x.does_wait x.sharer_is_there f (opened o e t b d f))
+      subst (λ z. Joined (Meet c) e z b) x.is (meet_split law c e t b s d x.does_wait x.sharer_is_there f (split_event o e t b d f))
 
   -- ---- with another meeting
 

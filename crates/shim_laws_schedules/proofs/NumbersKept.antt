@@ -14,7 +14,7 @@ use Rattle.shim_laws_schedules.proofs.DeadBelow.{dead_below, any_dead_below, don
 use Rattle.shim_laws_schedules.proofs.Numbers.{DiedWith, AnyDiedWith, Numbered, none_died, any_died_dead, prevailing_gives, prevailing_numbered}
 use Rattle.shim_laws_schedules.proofs.DiedThrown.{died_thrown}
 use Rattle.shim_laws_schedules.proofs.Forks.{same_fork}
-use Rattle.shim_laws_schedules.proofs.Leaves.{joined_base}
+use Rattle.shim_laws_schedules.proofs.NewDeaths.{joined_base}
 use Rattle.shim_laws_schedules.proofs.MeetSpares.{received_fork}
 use Rattle.shim_laws_schedules.proofs.PoisonSpares.{poisoned_fork}
 use Rattle.shim_base.proofs.Facts.{some_same, none_some, cond_some}

@@ -18,7 +18,7 @@ use Rattle.shim_semantics.proofs.PoisonStays.{poison_stays}
 use Rattle.shim_semantics.proofs.SoundEvents.{here_keeps, events_keep_sound}
 use Rattle.shim_laws_schedules.specs.Waiting.{all_wait, has_sharer}
 use Rattle.shim_laws_schedules.specs.ChangingPlaces.{PoisonsChangePlaces}
-use Rattle.shim_laws_schedules.proofs.Opened.{counted, later_twice, told, root_path, Opened, opened, shut}
+use Rattle.shim_laws_schedules.proofs.EventParts.{counted, later_twice, with_effects, root_path, EventParts, split_event, join_event}
 use Rattle.shim_laws_schedules.proofs.Meets.{received_at}
 use Rattle.shim_laws_schedules.proofs.MeetDiamond.{meeting, has_met, met_as, value_in, name_in, meets_alike, Joined}
 use Rattle.shim_laws_schedules.proofs.Kills.{root_from_above, act_poison}
@@ -84,8 +84,8 @@ module _ {S : Type 0} (o : Ops S) where
   -- ---- with an event of one process
 
   -- the same trees, as the two orders make them
-  told_change_nodes : (e : Event) (t : Tree S) (n m k : Node S) (s : Effects) → told e (with_root t m) k s ≡ with_root (told e t n s) k
-  told_change_nodes e t n m k s = λ i. record {
+  with_effects_change_nodes : (e : Event) (t : Tree S) (n m k : Node S) (s : Effects) → with_effects e (with_root t m) k s ≡ with_root (with_effects e t n s) k
+  with_effects_change_nodes e t n m k s = λ i. record {
     root = k;
     output = t.output ++ s.bytes;
     histories = t.histories;
@@ -94,29 +94,29 @@ module _ {S : Type 0} (o : Ops S) where
     events = later_twice e t.events i;
   }
 
-  poison_opened : LocalLaws o → (p : Path) (c : Channel) (e : Event) (t b : Tree S) (m : Node S) → IsSoundTree o t → IsAlone e → HasPoisoned p c t.root m → Opened o e t b → Joined o (Poison p c) e (with_root t m) b
-  poison_opened law p c e t b m s d x y =
+  poison_split : LocalLaws o → (p : Path) (c : Channel) (e : Event) (t b : Tree S) (m : Node S) → IsSoundTree o t → IsAlone e → HasPoisoned p c t.root m → EventParts o e t b → Joined o (Poison p c) e (with_root t m) b
+  poison_split law p c e t b m s d x y =
       let place = y.place in
       let new : Node S = y.new.node in
       let last = last_branch x.place x.further in
       let fork = to_fork x.place x.further in
       let w = act_poison o law c last fork place t.root m y.old y.new s.below (root_from_above o c (state t.root) (s.own c)) x.is y.there y.here in
       let kept = here_keeps o law y.old y.new (sound_at o place t.root y.old s.below y.there) y.here in
-      let changed : Tree S = told e t (put place new t.root) y.new.effects in
-      let first : after o e (with_root t m) ≡ Some (told e (with_root t m) (put place new m) y.new.effects) =
-      shut o e (with_root t m) place y.old y.new d (ap (λ z. route z (doer e)) (poison_path law c x.place x.further t.root m s.below x.is) ∙ y.route_is) w.there y.its y.here in
+      let changed : Tree S = with_effects e t (put place new t.root) y.new.effects in
+      let first : after o e (with_root t m) ≡ Some (with_effects e (with_root t m) (put place new m) y.new.effects) =
+      join_event o e (with_root t m) place y.old y.new d (ap (λ z. route z (doer e)) (poison_path law c x.place x.further t.root m s.below x.is) ∙ y.route_is) w.there y.its y.here in
       let k = child_there c x.place x.further (put place new t.root) (put place new m) w.poisons in
       let child_path = act_path o place (x.place ∷ x.further) t.root y.old x.child k.0 y.new y.there y.here kept.follows.path x.there k.1 in
       let again : poisons o p c (put place new t.root) ≡ Some (put place new m) =
       poisons_there p c x.place x.further (put place new t.root) (put place new m) k.0 (ap (λ z. route z p) (root_path o law place t.root y.old y.new s.below y.there y.here) ∙ x.route_is) k.1 (child_path ∙ x.path) w.poisons in
       let second : after o (Poison p c) changed ≡ Some (with_root changed (put place new m)) = ap (change_nodes changed) again in
-      let same = told_change_nodes e t (put place new t.root) m (put place new m) y.new.effects in
+      let same = with_effects_change_nodes e t (put place new t.root) m (put place new m) y.new.effects in
       subst (Joined o (Poison p c) e (with_root t m)) y.is (record { tree = with_root changed (put place new m); first = first ∙ ap Some same; second = second })
 
   poison_alone : LocalLaws o → (p : Path) (c : Channel) (e : Event) (t a b : Tree S) → IsSoundTree o t → IsAlone e → after o (Poison p c) t ≡ Some a → after o e t ≡ Some b → Joined o (Poison p c) e a b
   poison_alone law p c e t a b s d h f =
       let x = nodes_changed_some t a (poisons o p c t.root) h in
-      subst (λ z. Joined o (Poison p c) e z b) x.2 (poison_opened law p c e t b x.0 s d (has_poisoned p c t.root x.0 x.1) (opened o e t b d f))
+      subst (λ z. Joined o (Poison p c) e z b) x.2 (poison_split law p c e t b x.0 s d (has_poisoned p c t.root x.0 x.1) (split_event o e t b d f))
 
   -- ---- with a meeting
 

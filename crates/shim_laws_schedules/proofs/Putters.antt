@@ -29,23 +29,23 @@ module _ {S : Type 0} (o : Ops S) where
   closed_silent l ks None = refl
   closed_silent l ks (Some x) = thrown_silent (o.join l ks false) x
 
-  -- what tells the same puts the same
-  told : (x a : Acted S) → x.effects.bytes ≡ [] → x ≡ a → a.effects.bytes ≡ []
-  told x a e f = ap (λ z. z.effects.bytes) (sym f) ∙ e
+  -- what has the same effects puts the same
+  silent_as : (x a : Acted S) → x.effects.bytes ≡ [] → x ≡ a → a.effects.bytes ≡ []
+  silent_as x a e f = ap (λ z. z.effects.bytes) (sym f) ∙ e
 
   puts_live : LocalLaws o → (l : S) (v : StopView) (a : Acted S) → o.sound l → o.stop l ≡ v → act_live o l v ≡ Some a → (a.effects.bytes ≡ []) ⊎ (o.holds_output l ≡ true)
-  puts_live law l AtQuiet a s at e = inl (told _ a refl (some_same _ a e))
+  puts_live law l AtQuiet a s at e = inl (silent_as _ a refl (some_same _ a e))
   puts_live law l AtPut a s at e = inr (law.put_holds l s at)
-  puts_live law l AtFork a s at e = inl (told _ a refl (some_same _ a e))
-  puts_live law l AtFinish a s at e = inl (told _ a refl (some_same _ a e))
+  puts_live law l AtFork a s at e = inl (silent_as _ a refl (some_same _ a e))
+  puts_live law l AtFinish a s at e = inl (silent_as _ a refl (some_same _ a e))
   puts_live law l (AtNext c) a s at e = none_some a e
-  puts_live law l (AtThrow x) a s at e = inl (told (throwing o l x (o.number l)) a (throwing_silent l x (o.number l)) (some_same (throwing o l x (o.number l)) a e))
-  puts_live law l (AtTrap kind line) a s at e = inl (told _ a refl (some_same _ a e))
+  puts_live law l (AtThrow x) a s at e = inl (silent_as (throwing o l x (o.number l)) a (throwing_silent l x (o.number l)) (some_same (throwing o l x (o.number l)) a e))
+  puts_live law l (AtTrap kind line) a s at e = inl (silent_as _ a refl (some_same _ a e))
 
   pub puts : LocalLaws o → (m : Node S) (a : Acted S) → SoundBelow o m → act_here o m ≡ Some a → (a.effects.bytes ≡ []) ⊎ (o.holds_output (state m) ≡ true)
   puts law (Live l) a s e = puts_live law l (o.stop l) a s refl e
   puts law (Forked l ks) a s e =
-      inl (told (closed o l (states ks) (prevailing_death ks)) a (closed_silent l (states ks) (prevailing_death ks)) (closing o l ks a e).1)
+      inl (silent_as (closed o l (states ks) (prevailing_death ks)) a (closed_silent l (states ks) (prevailing_death ks)) (closing o l ks a e).1)
   puts law (Ended l) a s e = none_some a e
   puts law (Dead l x) a s e = none_some a e
 
@@ -65,6 +65,6 @@ module _ {S : Type 0} (o : Ops S) where
     | inl x ↦ none_first out a.effects.bytes b.effects.bytes x
     | inr x ↦ elim (puts o law k b (sound_at o q n k s.below f) h) [
       | inl y ↦ sym (none_first out b.effects.bytes a.effects.bytes y)
-      | inr y ↦ no_two (holders o n) s.holding (two_count o.holds_output p q n m k d e f x y)
+      | inr y ↦ no_two (holders o n) s.one_holder (two_count o.holds_output p q n m k d e f x y)
     ]
   ]

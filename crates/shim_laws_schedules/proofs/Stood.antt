@@ -10,7 +10,7 @@ use Rattle.shim_semantics.proofs.ReplacedNodes.{put, put_child}
 use Rattle.shim_semantics.proofs.Replaced.{sound_at}
 use Rattle.shim_laws_schedules.proofs.DeadBelow.{dead_below, any_dead_below, IsLeast, there_dead_in, put_dead_in, dead_put_in, at_put_in}
 use Rattle.shim_laws_schedules.proofs.Forks.{same, above, within, whence}
-use Rattle.shim_laws_schedules.proofs.Leaves.{Leaves, no_other, by_throw, by_trap, leaves, new_none}
+use Rattle.shim_laws_schedules.proofs.NewDeaths.{NewDeath, no_other, by_throw, by_trap, new_death, new_none}
 use Rattle.shim_laws_schedules.proofs.Numbers.{DiedWith, AnyNumbered, there_died_in}
 use Rattle.shim_laws_schedules.proofs.DiedThrown.{died_thrown}
 use Rattle.shim_base.proofs.Facts.{some_same, none_some, false_unless}
@@ -70,7 +70,7 @@ module _ {S : Type 0} (o : Ops S) where
 
   -- a fork above what was replaced
   stood_above : LocalLaws o → (n m a : Node S) (q : List ℕ) (l : S) (js : Nodes S) (i : ℕ) (r : List ℕ) (x : ℕ) → SoundBelow o n → at q n ≡ Some (Forked l js) → child_at i r js ≡ Some m
-      → o.base l ≤ x → x < o.handlers l → IsLeast x (put_child i r a js) → Leaves o m a → Stood n q l x ⊎ AnyNumbered x (put_child i r a js)
+      → o.base l ≤ x → x < o.handlers l → IsLeast x (put_child i r a js) → NewDeath o m a → Stood n q l x ⊎ AnyNumbered x (put_child i r a js)
   stood_above law n m a q l js i r x s e f low high least (no_other alike) =
       let sound = sound_at o q n (Forked l js) s e in
       let reach = base_below law l sound.number 0 js i r m sound.children f in
@@ -81,7 +81,7 @@ module _ {S : Type 0} (o : Ops S) where
       let not_less : any_dead_below x js ≡ false = false_unless (any_dead_below x js) (λ y. clash (any_dead_below x (put_child i r a js))
       (dead_put_in x i r js m a f (λ d. alike x (itself_within x (o.handlers l) (o.base (state m)) high reach) ∙ d) y) least.none) in
       inl (record { children = js; there = e; least = record { some = was; none = not_less } })
-  stood_above law n m a q l js i r x s e f low high least (by_throw k y v live throws gives dies tells) =
+  stood_above law n m a q l js i r x s e f low high least (by_throw k y v live throws gives dies deaths) =
       let sound = sound_at o q n (Forked l js) s e in
       let reach : o.handlers l ≤ o.base k = no_less_than (o.base k) (o.base (state m)) (o.handlers l) (base_below law l sound.number 0 js i r m sound.children f)
       (no_higher (o.base (state m)) (o.base k) (ap (λ z. o.base (state z)) live)) in
@@ -89,23 +89,23 @@ module _ {S : Type 0} (o : Ops S) where
       let not_less : any_dead_below x js ≡ false = false_unless (any_dead_below x js) (λ z. clash (any_dead_below x (put_child i r a js))
       (dead_put_in x i r js m a f (λ d. clash (dead_below x m) d (nobody x)) z) least.none) in
       let no_lower : ltb y x ≡ false = false_unless (ltb y x) (λ z. clash (any_dead_below x (put_child i r a js))
-      (there_dead_in x i r (put_child i r a js) a (at_put_in i r js m a f) (tells x (itself_within x (o.handlers l) (o.base k) high reach) ∙ z)) least.none) in
+      (there_dead_in x i r (put_child i r a js) a (at_put_in i r js m a f) (deaths x (itself_within x (o.handlers l) (o.base k) high reach) ∙ z)) least.none) in
       elim (put_dead_in (suc x) i r js a least.some) [
         | inl z ↦ inl (record { children = js; there = e; least = record { some = z; none = not_less } })
         | inr z ↦
-            let below : y < suc x = ltb-true y (suc x) (sym (tells (suc x) (next_within x (o.handlers l) (o.base k) high reach)) ∙ z) in
+            let below : y < suc x = ltb-true y (suc x) (sym (deaths (suc x) (next_within x (o.handlers l) (o.base k) high reach)) ∙ z) in
             let is : y ≡ x = between x y below (ltb-false y x no_lower) in
             inr (v, there_died_in x v i r (put_child i r a js) a (at_put_in i r js m a f) (subst (DiedWith x v) (sym dies) (died_thrown o k (death_with y v) x v (under_base y x (o.handlers l) (o.base k) is high reach) is refl)))
       ]
-  stood_above law n m a q l js i r x s e f low high least (by_trap tells) =
+  stood_above law n m a q l js i r x s e f low high least (by_trap deaths) =
       let sound = sound_at o q n (Forked l js) s e in
       clash (any_dead_below x (put_child i r a js))
-      (there_dead_in x i r (put_child i r a js) a (at_put_in i r js m a f) (tells x ∙ lt-ltb 0 x (from_one x (o.base l) (law.base_least l sound.sound) low))) least.none
+      (there_dead_in x i r (put_child i r a js) a (at_put_in i r js m a f) (deaths x ∙ lt-ltb 0 x (from_one x (o.base l) (law.base_least l sound.sound) low))) least.none
 
   pub stood_alone : LocalLaws o → (p q : List ℕ) (n m : Node S) (a : Acted S) (l : S) (ks : Nodes S) (x : ℕ) → SoundBelow o n → at p n ≡ Some m → act_here o m ≡ Some a → at q (put p a.node n) ≡ Some (Forked l ks)
       → o.base l ≤ x → x < o.handlers l → IsLeast x ks → Stood n q l x ⊎ AnyNumbered x ks
   stood_alone law p q n m a l ks x s e h g low high least = elim (whence p q n m a.node l ks e g) [
     | same f ↦ inl (record { children = ks; there = f; least = least })
-    | above js i r f w is ↦ subst (λ z. Stood n q l x ⊎ AnyNumbered x z) (sym is) (stood_above law n m a.node q l js i r x s f w low high (subst (IsLeast x) is least) (leaves o law m a (sound_at o p n m s e) h))
+    | above js i r f w is ↦ subst (λ z. Stood n q l x ⊎ AnyNumbered x z) (sym is) (stood_above law n m a.node q l js i r x s f w low high (subst (IsLeast x) is least) (new_death o law m a (sound_at o p n m s e) h))
     | within r f ↦ clash (any_dead_below (suc x) ks) least.some (new_none o m a h r l ks f (suc x))
   ]

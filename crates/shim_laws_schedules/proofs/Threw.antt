@@ -12,7 +12,7 @@ use Rattle.shim_semantics.proofs.Alone.{does, doer}
 use Rattle.shim_semantics.proofs.Replaced.{sound_at}
 use Rattle.shim_semantics.proofs.Routes.{at_path, route_of}
 use Rattle.shim_laws_schedules.specs.Throws.{ThrewBelow}
-use Rattle.shim_laws_schedules.proofs.Opened.{Opened, its_path, its_kind}
+use Rattle.shim_laws_schedules.proofs.EventParts.{EventParts, its_path, its_kind}
 use Rattle.shim_laws_schedules.proofs.Stood.{ThrowsBelow}
 
 pub does_steps : (e : Event) → same_own_action (does e) Steps ≡ true → e ≡ Own (doer e)
@@ -45,18 +45,18 @@ module _ {S : Type 0} (o : Ops S) where
   }
 
   -- the process of a fork is where its path leads
-  stands : (t : Tree S) (q : List ℕ) (n : Node S) → SoundBelow o t.root → at q t.root ≡ Some n → StandsAt o t.root (o.path (state n)) n
-  stands t q n s e = record { there = ap (at_route t.root) (route_of o t.root n q (o.path (state n)) s e refl) ∙ e; is_its = refl }
+  in_tree : (t : Tree S) (q : List ℕ) (n : Node S) → SoundBelow o t.root → at q t.root ≡ Some n → StandsAt o t.root (o.path (state n)) n
+  in_tree t q n s e = record { there = ap (at_route t.root) (route_of o t.root n q (o.path (state n)) s e refl) ∙ e; is_its = refl }
 
   -- and that of an event where its path leads
-  pub opened_stands : (e : Event) (t u : Tree S) → (w : Opened o e t u) → (p : Path) (n : Node S) → p ≡ doer e → w.old ≡ n → StandsAt o t.root p n
-  opened_stands e t u w p n at is = record {
+  pub split_in_tree : (e : Event) (t u : Tree S) → (w : EventParts o e t u) → (p : Path) (n : Node S) → p ≡ doer e → w.old ≡ n → StandsAt o t.root p n
+  split_in_tree e t u w p n at is = record {
     there = ap (λ z. at_route t.root (route (o.path (state t.root)) z)) at ∙ (ap (at_route t.root) w.route_is ∙ (w.there ∙ ap Some is));
     is_its = ap (λ z. o.path (state z)) (sym is) ∙ (its_path o e t u w ∙ sym at);
   }
 
   -- the last event is the throw
-  pub threw_now : (from t u : Tree S) (es : List Event) (e : Event) (q : List ℕ) (l : S) (x : ℕ) (v : ℤ) → SoundBelow o t.root → run (after o) es from ≡ Some t → (w : Opened o e t u) → ThrowsBelow o t.root w.old q l x v
+  pub threw_now : (from t u : Tree S) (es : List Event) (e : Event) (q : List ℕ) (l : S) (x : ℕ) (v : ℤ) → SoundBelow o t.root → run (after o) es from ≡ Some t → (w : EventParts o e t u) → ThrowsBelow o t.root w.old q l x v
       → ThrewBelow o from (es ++ e ∷ []) (o.path l) l x v
   threw_now from t u es e q l x v s r w h =
       let fork = Forked l h.children in
@@ -76,11 +76,11 @@ module _ {S : Type 0} (o : Ops S) where
         throws = record {
           is = is ∙ ap Own to;
           thrower = h.thrower;
-          stands = opened_stands e t u w (o.path l ++ path.0) (Live h.thrower) (sym to) h.live;
+          in_tree = split_in_tree e t u w (o.path l ++ path.0) (Live h.thrower) (sym to) h.live;
           throws = h.throws;
           gives = h.gives;
         };
         children = h.children;
-        forked = stands t q fork s h.there;
+        forked = in_tree t q fork s h.there;
         unclosed = λ a. a;
       }

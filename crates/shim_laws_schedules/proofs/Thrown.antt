@@ -18,13 +18,13 @@ use Rattle.shim_semantics.proofs.Replaced.{sound_at}
 use Rattle.shim_semantics.proofs.Routes.{route_of}
 use Rattle.shim_semantics.proofs.SoundEvents.{events_keep_sound, runs_stay_sound}
 use Rattle.shim_laws_schedules.proofs.Elsewhere.{closing}
-use Rattle.shim_laws_schedules.proofs.Opened.{Opened, opened}
+use Rattle.shim_laws_schedules.proofs.EventParts.{EventParts, split_event}
 use Rattle.shim_laws_schedules.proofs.PoisonDiamond.{nodes_changed_some}
 use Rattle.shim_laws_schedules.specs.Throws.{Throws, ClosesWith, Catches, by_throw, by_close, CatchesHaveNumbers, ThrewBelow, ThrownWhereCaught}
 use Rattle.shim_laws_schedules.proofs.Lengths.{went_on}
 use Rattle.shim_laws_schedules.proofs.Rounds.{run_on, run_one}
 use Rattle.shim_laws_schedules.proofs.DeadBelow.{dead_below, any_dead_below, IsLeast, at_put, there_dead_in, done_some, done_least}
-use Rattle.shim_laws_schedules.proofs.Leaves.{joined_base, live_no_fork, closed_no_fork, new_none}
+use Rattle.shim_laws_schedules.proofs.NewDeaths.{joined_base, live_no_fork, closed_no_fork, new_none}
 use Rattle.shim_laws_schedules.proofs.Stood.{Stood, ThrowsBelow, base_below, stood_alone}
 use Rattle.shim_laws_schedules.proofs.Numbers.{DiedWith, AnyDiedWith, AnyNumbered, any_died_dead, there_died_in, put_died_in, died_put_in, prevailing_gives, prevailing_numbered}
 use Rattle.shim_laws_schedules.proofs.NumbersKept.{Alike, act_died, act_numbered, route_alike, meeting_alike}
@@ -53,7 +53,7 @@ led_at n m (Some q) e = (q, e)
 
 module _ {S : Type 0} (o : Ops S) where
   -- a fork at which an event leaves a fork doesn't close with it
-  not_closed : (t u : Tree S) (e : Event) (q : List ℕ) (l : S) (js ks : Nodes S) → SoundBelow o t.root → (w : Opened o e t u) → at q t.root ≡ Some (Forked l js) → at q u.root ≡ Some (Forked l ks) → e ≡ Close (o.path l) → ⊥
+  not_closed : (t u : Tree S) (e : Event) (q : List ℕ) (l : S) (js ks : Nodes S) → SoundBelow o t.root → (w : EventParts o e t u) → at q t.root ≡ Some (Forked l js) → at q u.root ≡ Some (Forked l ks) → e ≡ Close (o.path l) → ⊥
   not_closed t u e q l js ks s w f g is =
       let to : w.place ≡ q = some_same w.place q (sym w.route_is ∙ (ap (λ z. route (o.path (state t.root)) (doer z)) is ∙ route_of o t.root (Forked l js) q (o.path l) s f refl)) in
       let old : w.old ≡ Forked l js = some_same w.old (Forked l js) (sym w.there ∙ (ap (λ z. at z t.root) to ∙ f)) in
@@ -75,7 +75,7 @@ module _ {S : Type 0} (o : Ops S) where
   -- ---- an event of one process by itself
 
   -- where a process below the fork did something, and one is dead with a number then
-  above_threw : (from t u : Tree S) (es : List Event) (e : Event) → IsSoundTree o t → run (after o) es from ≡ Some t → Known from es t → (w : Opened o e t u) → (q : List ℕ) (l : S) (js ks : Nodes S) (i : ℕ) (r : List ℕ) (x : ℕ) (v : ℤ)
+  above_threw : (from t u : Tree S) (es : List Event) (e : Event) → IsSoundTree o t → run (after o) es from ≡ Some t → Known from es t → (w : EventParts o e t u) → (q : List ℕ) (l : S) (js ks : Nodes S) (i : ℕ) (r : List ℕ) (x : ℕ) (v : ℤ)
       → at q t.root ≡ Some (Forked l js) → at q u.root ≡ Some (Forked l ks) → child_at i r js ≡ Some w.old → 1 ≤ x → AnyDiedWith x v js ⊎ DiedWith x v w.new.node → ThrewBelow o from (es ++ e ∷ []) (o.path l) l x v
   above_threw from t u es e s r known w q l js ks i p x v f g h one (inl d) = threw_before o from es e (o.path l) l x v (known.threw q l js x v f one d) (not_closed t u e q l js ks s.below w f g)
   above_threw from t u es e s r known w q l js ks i p x v f g h one (inr d) = elim (act_died o w.old w.new x v w.here one d) [
@@ -85,7 +85,7 @@ module _ {S : Type 0} (o : Ops S) where
         threw_now o from t u es e q l x v s.below r w below
   ]
 
-  alone_threw : (from t u : Tree S) (es : List Event) (e : Event) → IsSoundTree o t → run (after o) es from ≡ Some t → Known from es t → (w : Opened o e t u) → (q : List ℕ) (l : S) (ks : Nodes S) (x : ℕ) (v : ℤ) → at q u.root ≡ Some (Forked l ks) → 1 ≤ x → AnyDiedWith x v ks
+  alone_threw : (from t u : Tree S) (es : List Event) (e : Event) → IsSoundTree o t → run (after o) es from ≡ Some t → Known from es t → (w : EventParts o e t u) → (q : List ℕ) (l : S) (ks : Nodes S) (x : ℕ) (v : ℤ) → at q u.root ≡ Some (Forked l ks) → 1 ≤ x → AnyDiedWith x v ks
       → ThrewBelow o from (es ++ e ∷ []) (o.path l) l x v
   alone_threw from t u es e s r known w q l ks x v g one d = elim (whence w.place q t.root w.old w.new.node l ks w.there (ap (λ z. at q z.root) w.is ∙ g)) [
     | same f ↦ threw_before o from es e (o.path l) l x v (known.threw q l ks x v f one d) (not_closed t u e q l ks ks s.below w f g)
@@ -94,7 +94,7 @@ module _ {S : Type 0} (o : Ops S) where
   ]
 
   -- where the least label was that before, one with a number is there still
-  stood_numbered : LocalLaws o → (from t u : Tree S) (es : List Event) (e : Event) → IsSoundTree o t → Known from es t → (w : Opened o e t u) → (q : List ℕ) (l : S) (ks : Nodes S) (x : ℕ) → at q u.root ≡ Some (Forked l ks) → o.base l ≤ x → x < o.handlers l → IsLeast x ks → Stood t.root q l x → AnyNumbered x ks
+  stood_numbered : LocalLaws o → (from t u : Tree S) (es : List Event) (e : Event) → IsSoundTree o t → Known from es t → (w : EventParts o e t u) → (q : List ℕ) (l : S) (ks : Nodes S) (x : ℕ) → at q u.root ≡ Some (Forked l ks) → o.base l ≤ x → x < o.handlers l → IsLeast x ks → Stood t.root q l x → AnyNumbered x ks
   stood_numbered law from t u es e s known w q l ks x g low high least y =
       let had = known.numbered q l y.children x y.there low high y.least in
       elim (whence w.place q t.root w.old w.new.node l ks w.there (ap (λ z. at q z.root) w.is ∙ g)) [
@@ -110,7 +110,7 @@ module _ {S : Type 0} (o : Ops S) where
         | within p f ↦ clash (any_dead_below (suc x) ks) least.some (new_none o w.old w.new w.here p l ks f (suc x))
       ]
 
-  alone_numbered : LocalLaws o → (from t u : Tree S) (es : List Event) (e : Event) → IsSoundTree o t → Known from es t → (w : Opened o e t u) → (q : List ℕ) (l : S) (ks : Nodes S) (x : ℕ) → at q u.root ≡ Some (Forked l ks) → o.base l ≤ x → x < o.handlers l → IsLeast x ks → AnyNumbered x ks
+  alone_numbered : LocalLaws o → (from t u : Tree S) (es : List Event) (e : Event) → IsSoundTree o t → Known from es t → (w : EventParts o e t u) → (q : List ℕ) (l : S) (ks : Nodes S) (x : ℕ) → at q u.root ≡ Some (Forked l ks) → o.base l ≤ x → x < o.handlers l → IsLeast x ks → AnyNumbered x ks
   alone_numbered law from t u es e s known w q l ks x g low high least =
       elim (stood_alone o law w.place q t.root w.old w.new l ks x s.below w.there w.here (ap (λ z. at q z.root) w.is ∙ g) low high least) [
         | inl y ↦ stood_numbered law from t u es e s known w q l ks x g low high least y
@@ -119,7 +119,7 @@ module _ {S : Type 0} (o : Ops S) where
 
   alone_known : LocalLaws o → (from t u : Tree S) (es : List Event) (e : Event) → IsAlone e → IsSoundTree o t → run (after o) es from ≡ Some t → Known from es t → after o e t ≡ Some u → Known from (es ++ e ∷ []) u
   alone_known law from t u es e d s r known h =
-      let w = opened o e t u d h in
+      let w = split_event o e t u d h in
       record { threw = λ q l ks x v. alone_threw from t u es e s r known w q l ks x v; numbered = λ q l ks x. alone_numbered law from t u es e s known w q l ks x }
 
   -- ---- a poison and a meeting: the same are dead with a number
@@ -175,7 +175,7 @@ module _ {S : Type 0} (o : Ops S) where
   module _ (law : LocalLaws o) (from t : Tree S) (es : List Event) (e : Event) (p : Path) (x : ℕ) (v : ℤ) (s : IsSoundTree o t) (known : Known from es t) (w : ClosesWith o t e p x v)
       (low : o.base (o.join w.parent (states w.children) false) ≤ x) where
     there : (q : List ℕ) × (at q t.root ≡ Some (Forked w.parent w.children))
-    there = led_at t.root (Forked w.parent w.children) (route (o.path (state t.root)) p) w.stands.there
+    there = led_at t.root (Forked w.parent w.children) (route (o.path (state t.root)) p) w.in_tree.there
 
     sound : SoundBelow o (Forked w.parent w.children)
     sound = sound_at o there.0 t.root (Forked w.parent w.children) s.below there.1
@@ -203,11 +203,11 @@ module _ {S : Type 0} (o : Ops S) where
     close_threw : ThrewBelow o from es p w.parent x v
     close_threw =
         let dead : AnyDiedWith x v w.children = subst (λ z. AnyDiedWith z v w.children) w.labelled (prevailing_gives w.children w.death v w.prevails close_given) in
-        subst (λ z. ThrewBelow o from es z w.parent x v) w.stands.is_its (known.threw there.0 w.parent w.children x v there.1 close_one dead)
+        subst (λ z. ThrewBelow o from es z w.parent x v) w.in_tree.is_its (known.threw there.0 w.parent w.children x v there.1 close_one dead)
 
   throw_caught : LocalLaws o → (t : Tree S) (e : Event) (p : Path) (x : ℕ) (v : ℤ) → IsSoundTree o t → (w : Throws o t e p x v) → o.base w.thrower ≤ x → 1 ≤ x
   throw_caught law t e p x v s w low =
-      let place = led_at t.root (Live w.thrower) (route (o.path (state t.root)) p) w.stands.there in
+      let place = led_at t.root (Live w.thrower) (route (o.path (state t.root)) p) w.in_tree.there in
       no_less_than x (o.base w.thrower) 1 (law.base_least w.thrower (sound_at o place.0 t.root (Live w.thrower) s.below place.1)) low
 
   caught : LocalLaws o → (from t : Tree S) (es : List Event) (e : Event) (p : Path) (x : ℕ) (v : ℤ) → IsSoundTree o t → Known from es t → Catches o t e p x v → (1 ≤ x) × (Throws o t e p x v ⊎ ((w : ClosesWith o t e p x v) × ThrewBelow o from es p w.parent x v))

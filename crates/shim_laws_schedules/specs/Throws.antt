@@ -15,7 +15,7 @@ use Rattle.shim_semantics.specs.Systems.{run}
 pub record Throws {S : Type 0} (o : Ops S) (t : Tree S) (e : Event) (p : Path) (x : ℕ) (v : ℤ) : Type 0 where
   pub is : e ≡ Own p
   pub thrower : S
-  pub stands : StandsAt o t.root p (Live thrower)
+  pub in_tree : StandsAt o t.root p (Live thrower)
   pub throws : o.stop thrower ≡ AtThrow x
   pub gives : o.number thrower ≡ Some v
 
@@ -24,7 +24,7 @@ pub record ClosesWith {S : Type 0} (o : Ops S) (t : Tree S) (e : Event) (p : Pat
   pub is : e ≡ Close p
   pub parent : S
   pub children : Nodes S
-  pub stands : StandsAt o t.root p (Forked parent children)
+  pub in_tree : StandsAt o t.root p (Forked parent children)
   pub done : all_done children ≡ true
   pub death : Death
   pub prevails : prevailing_death children ≡ Some death
@@ -41,13 +41,13 @@ abbrev pub catcher : {S : Type 0} {o : Ops S} {t : Tree S} {e : Event} {p : Path
 catcher (by_throw w h) = w.thrower
 catcher {o = o} (by_close w h) = o.join w.parent (states w.children) false
 
--- what is logged tells each catch
+-- each catch is logged, and what is logged is a catch
 pub record CatchesAreLogged {S : Type 0} (o : Ops S) : Type 0 where
   -- a catch is logged of its process, with the name and the line of the handler, and nothing else of it is
   pub logged : (t u : Tree S) (e : Event) (p : Path) (x : ℕ) (v : ℤ) → after o e t ≡ Some u → (c : Catches o t e p x v) →
       logs_at u.logs p ≡ logs_at t.logs p ++ Caught (o.handler (catcher c) x).0 (o.handler (catcher c) x).1 ∷ []
   -- and an event that logs a catch of a process has that catch a label, with this handler
-  pub told : (t u : Tree S) (e : Event) (p : Path) (name line : ℕ) (more : List LogWhat) → after o e t ≡ Some u → logs_at u.logs p ≡ logs_at t.logs p ++ Caught name line ∷ more →
+  pub caught : (t u : Tree S) (e : Event) (p : Path) (name line : ℕ) (more : List LogWhat) → after o e t ≡ Some u → logs_at u.logs p ≡ logs_at t.logs p ++ Caught name line ∷ more →
       (x : ℕ) × (v : ℤ) × (c : Catches o t e p x v) × (o.handler (catcher c) x ≡ (name, line))
 
 -- In the run of these events a process below that of this path threw the label with this number, while that one stood in this state at a fork that hasn't closed since.

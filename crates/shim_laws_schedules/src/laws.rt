@@ -6,10 +6,10 @@ ghost use Rattle.shim_laws_schedules.specs.Throws.{CatchesAreLogged, CatchesHave
 
 use shim_local::Local;
 
-/// In a sound tree a channel's meeting is enabled exactly where each live process that shares the
-/// channel stands at it, each forked one that shares it has a live or forked child that shares it, no
+/// In a sound tree a channel's rendezvous is enabled exactly where each live process that shares the
+/// channel waits at it, each forked one that shares it has a live or forked child that shares it, no
 /// dead one shares it, and some live or forked one does. It may change places with each own step, end or
-/// close and with each other meeting that is enabled beside it, as in `diamond`.
+/// close and with each other rendezvous that is enabled beside it, as in `diamond`.
 pub fn meetings<L: Local>()
     ensures exactly { MeetsWhereAllWait L.ops }
     ensures change_places { MeetingsChangePlaces L.ops }
@@ -41,9 +41,9 @@ pub fn rounds<L: Local>()
 {}
 
 /// What is caught in a run from a sound tree of one live process was thrown, with the same number: by the
-/// process that catches it, as its step, or by a process below its fork while that was open, and it is
-/// caught as the fork closes. A trap isn't caught by anyone. The log tells just the catches, each by its
-/// process, with the name and the line of the handler.
+/// process that catches it, as its step, or by a process below its fork while that was open, and it is caught
+/// as the fork closes. A trap isn't caught by anyone. The log has just the catches, each by its process, with
+/// the name and the line of the handler.
 pub fn thrown<L: Local>()
     ensures caught { ThrownWhereCaught L.ops }
     ensures logged { CatchesAreLogged L.ops }

@@ -5,7 +5,7 @@ use Rattle.shim_local.specs.Process.{Ops, StopView, ForkedView, Parted, Trapped,
 use Rattle.shim_local.specs.Laws.{LocalLaws, AllOf, by_join}
 use Rattle.shim_semantics.specs.Nodes.{Node, Nodes, Live, Forked, Ended, Dead, death, death_with, Death, no_node, node_and, state, states, all_done, prevailing_death, source, value_of, is_next, received, all_received}
 use Rattle.shim_semantics.specs.Acts.{Acted, act, act_here, act_live, closed, parted}
-use Rattle.shim_semantics.specs.Poison.{poisoned, all_poisoned, one_poisoned, can_poison, poison_here, poison, poison_child, poison_route, to_fork, last_branch}
+use Rattle.shim_semantics.specs.Poison.{poisoned, all_poisoned, one_poisoned, can_poison, poison_node, poison, poison_child, poison_route, to_fork, last_branch}
 use Rattle.shim_semantics.specs.Places.{led_to, route, has_path, meets, SoundBelow, SoundChildren}
 use Rattle.shim_semantics.specs.Sound.{IsSound}
 use Rattle.shim_semantics.specs.Systems.{run}
@@ -84,7 +84,7 @@ module _ {S : Type 0} (o : Ops S) (R : Node S → Node S → Type 0) where
   one_poisoned_related g c x zero l ns (node_and k ks) = g.within l ns k (poisoned o c x k) ks (poisoned_related g c x k)
   one_poisoned_related g c x (suc i) l ns (node_and k ks) = one_further o R l ns k ks (one_poisoned o c x i ks) (one_poisoned_related g c x i l (ns ++ k ∷ []) ks)
 
-  poison_here_related : Relates o R → (c : Channel) (i : ℕ) (n m : Node S) → poison_here o c i n ≡ Some m → R n m
+  poison_here_related : Relates o R → (c : Channel) (i : ℕ) (n m : Node S) → poison_node o c i n ≡ Some m → R n m
   poison_here_related g c i (Live l) m e = none_some m e
   poison_here_related g c i (Ended l) m e = none_some m e
   poison_here_related g c i (Dead l x) m e = none_some m e

@@ -58,8 +58,8 @@ unfolding root
 root_given program input = refl
 
 pub sources : (program : Form) (input : List ℕ) (t : Tree LocalState) → IsAcceptedForm program → IsReachable program input t → HasSources t
-sources program input t kept h q l c there stands =
+sources program input t kept h q l c there stop_is =
     let uses : UsesOwnSlots program = units_use_slots_of_their_own program kept in
     let w = reached_related StaysHome home_relates program input t uses h (root_whole program input uses) in
     let s : Stays (root program input) (state t.root) = w.1 in
-    all_carried q t.root l c.channel w.0 (reached_sound program input t uses h).below (s.given ∙ root_given program input) there (stands_on l c stands)
+    all_carried q t.root l c.channel w.0 (reached_sound program input t uses h).below (s.given ∙ root_given program input) there (stands_on l c stop_is)

@@ -20,8 +20,8 @@ pub fn declared_slots_have_their_sorts()
     ensures { (form : Form) → IsAcceptedForm form → HasDeclaredSorts form }
 {}
 
-/// In each tree that a run of an accepted program reaches at most one process has the input, and where a
-/// live process stands at a `next`, some process of the tree has the own variable of that channel.
+/// In each tree that a run of an accepted program reaches at most one process has the input, and where a live
+/// process is at a `next`, some process of the tree has the own variable of that channel.
 pub fn sources()
     ensures input { (program : Form) (input : List ℕ) (t : Tree LocalState) → IsAcceptedForm program → IsReachable program input t → HasOneInput t }
     ensures carried { (program : Form) (input : List ℕ) (t : Tree LocalState) → IsAcceptedForm program → IsReachable program input t → HasSources t }

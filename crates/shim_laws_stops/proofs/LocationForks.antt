@@ -248,7 +248,7 @@ locations_relate = record {
   traps = λ l m s at e h. fork_trapped_has l m e h;
   ends = λ l h. h;
   dies = λ l x h. h;
-  joins = λ l ks goes_on s all born done h. join_has l (states ks) goes_on born.stands h.0;
+  joins = λ l ks goes_on s all born done h. join_has l (states ks) goes_on born.stops_at_fork h.0;
 }
 
 -- the process to which branches lead, among those of the tree

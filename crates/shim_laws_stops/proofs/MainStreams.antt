@@ -25,7 +25,7 @@ use Rattle.shim_laws_binding.proofs.ScopeFunctions.{names_mean_the_innermost}
 use Rattle.shim_laws_binding.proofs.TextOrderLemmas.{whole_of, is_form, slots_are_in_text_order}
 use Rattle.shim_laws_sources.proofs.Lists.{at_first}
 use Rattle.shim_scopes.proofs.Refusals.{passed, first_ok}
-use Rattle.shim_laws_stops.proofs.ScopeBinding.{told_true}
+use Rattle.shim_laws_stops.proofs.ScopeBinding.{condition_holds}
 use Rattle.shim_base.proofs.Facts.{some_same, second_holds}
 use Rattle.shim_laws_stops.specs.InScope.{is_number}
 use Rattle.shim_laws_stops.proofs.ScopeUnits.{each_at}
@@ -83,7 +83,7 @@ unless_main false b h k = absurd (cc k)
 
 main_suits : (f : Function) → wrong_main f ≡ None → f.name ≡ codes "main" → suits_main false false f.params ≡ true
 main_suits f none named =
-    unless_main (bytes_eq f.name (codes "main")) (suits_main false false f.params) (told_true f.name (not (bytes_eq f.name (codes "main")) || suits_main false false f.params) none) ((bytes_eq-Decides f.name (codes "main")).1 named)
+    unless_main (bytes_eq f.name (codes "main")) (suits_main false false f.params) (condition_holds f.name (not (bytes_eq f.name (codes "main")) || suits_main false false f.params) none) ((bytes_eq-Decides f.name (codes "main")).1 named)
 
 lifted_streams : (p : Resolved) → IsFormOfText p → streams_once false false (unit_at (lifted p) (lifted p).main).params ≡ true
 unfolding unit_at

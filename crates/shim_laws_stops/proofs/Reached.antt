@@ -87,13 +87,13 @@ unfolding root
 root_base program input = refl
 
 pub thrown_have_places : (program : Form) (input : List ℕ) (t : Tree LocalState) → IsAcceptedForm program → IsReachable program input t → ThrownHavePlaces program t
-thrown_have_places program input t kept h q l label there stands =
+thrown_have_places program input t kept h q l label there stop_is =
     let w = reached_related KeepsLabels labels_relate program input t kept h (root_labels program input kept) in
     let below : SoundBelow process_ops t.root = (reached_sound program input t kept h).below in
     let sound = sound_at process_ops q t.root (Live l) below there in
-    let least : 1 ≤ label = thrown_least l label sound (live_has_labels q t.root l w.0 there) stands in
-    elim (on_way q t.root l label w.0 below there (throw_below l label sound stands)) [
-      | inl p ↦ inl (record { front = p.front; rest = p.rest; whole = p.whole; process = p.process; stands = p.stands; place = p.place })
+    let least : 1 ≤ label = thrown_least l label sound (live_has_labels q t.root l w.0 there) stop_is in
+    elim (on_way q t.root l label w.0 below there (throw_below l label sound stop_is)) [
+      | inl p ↦ inl (record { front = p.front; rest = p.rest; whole = p.whole; process = p.process; at_front = p.at_front; place = p.place })
       | inr low ↦
           let base : (state t.root).base ≡ 1 + length program.main_throws = w.1.0 ∙ root_base program input in
           inr (least, omega (arith, low, base))
@@ -165,5 +165,5 @@ unfolding root
 root_settled program input = begins_settled (root program input) (unit_at program program.main).body refl refl
 
 pub ends_have_nothing_left : (program : Form) (input : List ℕ) (t : Tree LocalState) → IsAcceptedForm program → IsReachable program input t → EndsHaveNothingLeft t
-ends_have_nothing_left program input t kept h l live stands =
-    end_has_nothing_left l (live_stream TheOutput program input t kept h l live) (live_settled live.0 t.root l (reached_related KeepsSettled settled_relates program input t kept h (root_settled program input)) live.1) stands
+ends_have_nothing_left program input t kept h l live stop_is =
+    end_has_nothing_left l (live_stream TheOutput program input t kept h l live) (live_settled live.0 t.root l (reached_related KeepsSettled settled_relates program input t kept h (root_settled program input)) live.1) stop_is

@@ -52,7 +52,7 @@ longer xs ys g = let e : length ys ≡ length (xs ++ g.more) = ap length g.whole
 pub placed_later : (m n : ℕ) (all : List Sort) (ls : List LocalDeclaration) → m ≤ n → ArePlaced m all ls → ArePlaced n all ls
 placed_later m n all ls less h = each_weaker (IsPlaced m all) (IsPlaced n all) (λ l p. let below = p.below in record { sort = p.sort; below = omega (arith, below, less) }) ls h
 
--- What is right is told by the slots in scope, how many slots stand before and behind, all slots of the function, and those that come into scope.
+-- What is right is decided by the slots in scope, how many slots stand before and behind, all slots of the function, and those that come into scope.
 abbrev pub Right : Type 0 → Type 1
 Right T = List ℕ → ℕ → ℕ → List Sort → List ℕ → T → Type 0
 
@@ -118,9 +118,9 @@ pub record HeaderSuits (form : Form) (fs : List RFunction) (n : ℕ) (f : Functi
 abbrev pub HeadersSuit : Form → List RFunction → List Function → Type 0
 HeadersSuit form fs functions = (n : ℕ) (f : Function) → slice_get functions n ≡ Some f → HeaderSuits form fs n f
 
-pub told_true : (x : List ℕ) (b : Bool) → if_false x b ≡ None → b ≡ true
-told_true x true h = refl
-told_true x false h = absurd (cc h)
+pub condition_holds : (x : List ℕ) (b : Bool) → if_false x b ≡ None → b ≡ true
+condition_holds x true h = refl
+condition_holds x false h = absurd (cc h)
 
 module _ (ls : List LocalDeclaration) (lo : ℕ) (all : List Sort) (are : ArePlaced lo all ls) where
   args_suit : (ps : List Param) (qs : List UParam) (es : List Expr) (rs : List UExpr) → ParamsSuit ps qs → Pairwise (BindsExpr ls) es rs → length es ≡ length ps → wrong_in_all ls ps es ≡ None → ArgsSuit all qs rs × OnlyNames (slots ls) (args_uses qs rs)
@@ -149,7 +149,7 @@ module _ (w : Whole) (form : Form) (fs : List RFunction) (headers : HeadersSuit 
   known_comes (Some f) c line a b r is h known =
       let v : List LocalDeclaration = visible a b in
       let p = passed line UnknownException (unhandled_of_all a.handled f.throws) _ r h in
-      let many : length c.args ≡ length f.params = eqb-true (length c.args) (length f.params) (told_true c.function (nat_eq (length c.args) (length f.params)) (asked line Arity (if_false c.function (nat_eq (length c.args) (length f.params))) _ r p)) in
+      let many : length c.args ≡ length f.params = eqb-true (length c.args) (length f.params) (condition_holds c.function (nat_eq (length c.args) (length f.params)) (asked line Arity (if_false c.function (nat_eq (length c.args) (length f.params))) _ r p)) in
       let q = passed line Arity (if_false c.function (nat_eq (length c.args) (length f.params))) _ r p in
       let none = asked line WrongKind (wrong_in_all v f.params c.args) _ r q in
       let s = passed line WrongKind (wrong_in_all v f.params c.args) _ r q in

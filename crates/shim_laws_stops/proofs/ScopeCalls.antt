@@ -134,7 +134,7 @@ module _ (slots : List ℕ) where
   record IsGivenAt (gs : List Given) (j : ℕ) : Type 0 where
     variable : ℕ
     place : slot_index_of slots variable ≡ j
-    stands : stands_in variable gs ≡ true
+    in_arguments : stands_in variable gs ≡ true
 
   bare_there : (x : ℕ) (gs : List Given) (g : Given) → g.bare ≡ Some x → stands_in x (g ∷ gs) ≡ true
   bare_there x gs g e = by_bare g.bare e
@@ -159,10 +159,10 @@ module _ (slots : List ℕ) where
   refs_given : (ps : List UParam) (es : List UExpr) (j : ℕ) → Among (references (args_of slots ps es)) j → IsGivenAt (paired_arguments ps es) j
   refs_given ps [] j h = none_among j h
   refs_given ps (a ∷ es) j h = elim (ref_bare (lends_first ps) a (bare a) (args_of slots (behind_first ps) es) j refl h) [
-    | inl k ↦ record { variable = k.0; place = k.2; stands = bare_there k.0 (paired_arguments (behind_first ps) es) (record { lent = lends_first ps; bare = bare a }) k.1 }
+    | inl k ↦ record { variable = k.0; place = k.2; in_arguments = bare_there k.0 (paired_arguments (behind_first ps) es) (record { lent = lends_first ps; bare = bare a }) k.1 }
     | inr k ↦
         let r = refs_given (behind_first ps) es j k in
-        record { variable = r.variable; place = r.place; stands = stands_behind r.variable (paired_arguments (behind_first ps) es) (record { lent = lends_first ps; bare = bare a }) r.stands }
+        record { variable = r.variable; place = r.place; in_arguments = stands_behind r.variable (paired_arguments (behind_first ps) es) (record { lent = lends_first ps; bare = bare a }) r.in_arguments }
   ]
 
   either_more : (x : ℕ) (g : Given) (before after : List Given) → (stands_in x before || stands_in x after) ≡ true → (stands_in x (g ∷ before) || stands_in x after) ≡ true
@@ -192,8 +192,8 @@ module _ (slots : List ℕ) where
       (refs_once (behind_first ps) es (λ y k. there y (stands_behind y gs g k)) (once_behind g gs h))
       (λ x lent is k.
       let r = refs_given (behind_first ps) es (slot_index_of slots x) k in
-      let one : r.variable ≡ x = same_place slots r.variable x (there r.variable (stands_behind r.variable gs g r.stands)) (there x (bare_there x gs g is)) r.place in
-      h [] g gs x refl lent is (subst (λ z. stands_in z gs ≡ true) one r.stands))
+      let one : r.variable ≡ x = same_place slots r.variable x (there r.variable (stands_behind r.variable gs g r.in_arguments)) (there x (bare_there x gs g is)) r.place in
+      h [] g gs x refl lent is (subst (λ z. stands_in z gs ≡ true) one r.in_arguments))
 
 -- what stands among the arguments as a variable alone is named by them
 

@@ -300,9 +300,9 @@ same_sorts Output (Value b) h = absurd (cc h)
 same_sorts Output Input h = absurd (cc h)
 same_sorts Output Output h = refl
 
-is_told : (x : List ℕ) (b : Bool) → if_false x b ≡ None → b ≡ true
-is_told x true h = refl
-is_told x false h = absurd (cc h)
+condition_is_true : (x : List ℕ) (b : Bool) → if_false x b ≡ None → b ≡ true
+condition_is_true x true h = refl
+condition_is_true x false h = absurd (cc h)
 
 fits_bound : (s : Sort) (o : Option Bound) (b : Bound) → o ≡ Some b → sc.sort_fits s o ≡ true → same_sort s b.sort ≡ true
 fits_bound s None b e h = absurd (cc e)
@@ -314,7 +314,7 @@ no_name ls p (Some x) e h = absurd (cc e)
 
 one_name : (ls : List LocalDeclaration) (p : Param) (o : Option (List ℕ)) (x : List ℕ) → o ≡ Some x → wrong_ref ls p o ≡ None → sc.sort_fits p.sort (binding_of x ls) ≡ true
 one_name ls p None x e h = absurd (cc e)
-one_name ls p (Some y) x e h = let same : y ≡ x = cc e in subst (λ z. sc.sort_fits p.sort (binding_of z ls) ≡ true) same (is_told y (sc.sort_fits p.sort (binding_of y ls)) h)
+one_name ls p (Some y) x e h = let same : y ≡ x = cc e in subst (λ z. sc.sort_fits p.sort (binding_of z ls) ≡ true) same (condition_is_true y (sc.sort_fits p.sort (binding_of y ls)) h)
 
 module _ (ls : List LocalDeclaration) (lo : ℕ) (all : List Sort) (placed : ArePlaced lo all ls) where
   lent_suits : {a : Expr} {r : UExpr} → BindsExpr ls a r → (p : Param) (q : UParam) → q.sort ≡ p.sort → wrong_ref ls p (scopes.bare a) ≡ None → ArgSuits true all q r

@@ -181,8 +181,8 @@ module _ (w : Whole) (form : Form) (fs : List RFunction) (headers : HeadersSuit 
       })
 
   -- its parameters are in scope where it begins
-  stands : (f : Function) (r : RFunction) (h : FunctionIn f r) → length r.params ≡ length f.params → Stands h.around (uses_in fs r.body) (declares_in r.body) (function_slot_map r) (upto (length r.params))
-  stands f r h same =
+  function_stands : (f : Function) (r : RFunction) (h : FunctionIn f r) → length r.params ≡ length f.params → Stands h.around (uses_in fs r.body) (declares_in r.body) (function_slot_map r) (upto (length r.params))
+  function_stands f r h same =
       let n : ℕ = length r.params in
       let ds : List ℕ = declares_in r.body in
       let lo = h.many in
@@ -236,7 +236,7 @@ module _ (w : Whole) (form : Form) (fs : List RFunction) (headers : HeadersSuit 
       let rest = lift_functions names fs (number + 1) m rs in
       let h : FunctionIn g r = function_in g r texts.0 made.0 in
       let same : length r.params ≡ length g.params = ap length order.0.params ∙ length-map g.params _ in
-      let s = stands g r h same in
+      let s = function_stands g r h same in
       let w2 : SlotMap = function_slot_map r in
       let xs : List ℕ = upto (length r.params) in
       let lies : Lies form fs r.slots context (function_slot_map r) l.own = record { slots = refl; functions = refl; unit = refl } in

@@ -24,7 +24,7 @@ use Rattle.shim_laws_sources.proofs.Along.{behind, Relates}
 use Rattle.shim_base.proofs.Facts.{choose, some_same, none_some, both_hold, true_or_false, or_left, or_right}
 use Rattle.shim_laws_stops.specs.InScope.{call_right, all_calls_right, are_some, branches_apart, AllInScope}
 use Rattle.shim_laws_stops.specs.FrameLocations.{item_right, ItemsScoped, FrameScoped, HasLocations}
-use Rattle.shim_laws_stops.specs.StreamHolders.{Stream, TheInput, TheOutput, takes_stream, held, has_stream, takes, HasOneSlot, waiting_units, first_unit, IsTaking, HoldsStream, OneTakes, LendsStream, HasStream, EachHasStream}
+use Rattle.shim_laws_stops.specs.StreamHolders.{Stream, TheInput, TheOutput, takes_stream, holds_stream, has_stream, takes, HasOneSlot, waiting_units, first_unit, IsTaking, HoldsStream, OneTakes, LendsStream, HasStream, EachHasStream}
 use Rattle.shim_laws_stops.proofs.LocationForks.{EachHas, put_none, forks_have, join_has}
 use Rattle.shim_laws_stops.proofs.LocationSteps.{Has, quiet_has, put_has, thrown_has, receive_has, fork_trapped_has}
 use Rattle.shim_laws_stops.proofs.StreamSteps.{head_one, takes_first, Moves, gone_moves, unwind_moves, quiet_moves, put_moves, thrown_moves, receive_moves, fork_trapped_moves, holds_later}
@@ -45,30 +45,30 @@ kept_by : {A : Type 0} (b : Bool) (x y : A) → b ≡ false → cond b x y ≡ y
 kept_by true x y e = absurd (cc e)
 kept_by false x y e = refl
 
-left_held : (stream : Stream) (ps : List UParam) (at : Option ℕ) (holds : Bool) → takes_stream stream ps ≡ false → held stream (cond (takes_input ps) None at) (cond (takes_output ps) false holds) ≡ held stream at holds
-left_held TheInput ps at holds e = ap (λ (o : Option ℕ). held TheInput o holds) (kept_by (takes_input ps) None at e)
+left_held : (stream : Stream) (ps : List UParam) (at : Option ℕ) (holds : Bool) → takes_stream stream ps ≡ false → holds_stream stream (cond (takes_input ps) None at) (cond (takes_output ps) false holds) ≡ holds_stream stream at holds
+left_held TheInput ps at holds e = ap (λ (o : Option ℕ). holds_stream TheInput o holds) (kept_by (takes_input ps) None at e)
 left_held TheOutput ps at holds e = kept_by (takes_output ps) false holds e
 
 there_by : {A : Type 0} (b : Bool) (x y : A) → b ≡ true → cond b x y ≡ x
 there_by true x y e = refl
 there_by false x y e = absurd (cc e)
 
-got_held : (stream : Stream) (ps : List UParam) (at : Option ℕ) (holds : Bool) → takes_stream stream ps ≡ true → held stream at holds ≡ true → held stream (cond (takes_input ps) at None) (takes_output ps && holds) ≡ true
-got_held TheInput ps at holds t h = ap (λ (o : Option ℕ). held TheInput o holds) (there_by (takes_input ps) at None t) ∙ h
+got_held : (stream : Stream) (ps : List UParam) (at : Option ℕ) (holds : Bool) → takes_stream stream ps ≡ true → holds_stream stream at holds ≡ true → holds_stream stream (cond (takes_input ps) at None) (takes_output ps && holds) ≡ true
+got_held TheInput ps at holds t h = ap (λ (o : Option ℕ). holds_stream TheInput o holds) (there_by (takes_input ps) at None t) ∙ h
 got_held TheOutput ps at holds t h = both_hold (takes_output ps) holds t h
 
-more_held : (stream : Stream) (own at : Option ℕ) (has holds : Bool) → held stream at holds ≡ true → held stream (some_or own at) (has || holds) ≡ true
+more_held : (stream : Stream) (own at : Option ℕ) (has holds : Bool) → holds_stream stream at holds ≡ true → holds_stream stream (some_or own at) (has || holds) ≡ true
 more_held TheInput None at has holds h = h
 more_held TheInput (Some n) at has holds h = refl
 more_held TheOutput own at has holds h = or_right has holds h
 
-own_held : (stream : Stream) (own at : Option ℕ) (has holds : Bool) → held stream own has ≡ true → held stream (some_or own at) (has || holds) ≡ true
+own_held : (stream : Stream) (own at : Option ℕ) (has holds : Bool) → holds_stream stream own has ≡ true → holds_stream stream (some_or own at) (has || holds) ≡ true
 own_held TheInput None at has holds h = absurd (cc h)
 own_held TheInput (Some n) at has holds h = refl
 own_held TheOutput own at has holds h = or_left has holds h
 
-pub begun_held : (stream : Stream) (ps : List UParam) → takes_stream stream ps ≡ true → held stream (cond (takes_input ps) (Some 0) None) (takes_output ps) ≡ true
-begun_held TheInput ps t = ap (λ (o : Option ℕ). held TheInput o true) (there_by (takes_input ps) (Some 0) None t)
+pub begun_held : (stream : Stream) (ps : List UParam) → takes_stream stream ps ≡ true → holds_stream stream (cond (takes_input ps) (Some 0) None) (takes_output ps) ≡ true
+begun_held TheInput ps t = ap (λ (o : Option ℕ). holds_stream TheInput o true) (there_by (takes_input ps) (Some 0) None t)
 begun_held TheOutput ps t = t
 
 module _ (stream : Stream) where
@@ -192,9 +192,9 @@ module _ (stream : Stream) where
 
   -- the stream is back with these children, by what the process itself has
   abbrev comes_back : List LocalState → Option ℕ → Bool → Bool
-  comes_back ks at holds = held stream (input_back ks at) (output_back ks holds)
+  comes_back ks at holds = holds_stream stream (input_back ks at) (output_back ks holds)
 
-  back_more : (ks : List LocalState) (at : Option ℕ) (holds : Bool) → held stream at holds ≡ true → comes_back ks at holds ≡ true
+  back_more : (ks : List LocalState) (at : Option ℕ) (holds : Bool) → holds_stream stream at holds ≡ true → comes_back ks at holds ≡ true
   back_more [] at holds e = e
   back_more (k ∷ ks) at holds e = back_more ks (some_or k.input_at at) (k.holds_output || holds) (more_held stream k.input_at at k.holds_output holds e)
 
@@ -274,7 +274,7 @@ module _ (stream : Stream) where
     traps = λ l m s at e h. moved l m h (fork_trapped_has l m e h.named) (fork_trapped_moves stream l m e h.taking);
     ends = λ l h. (h, (refl, refl));
     dies = λ l x h. (h, (refl, refl));
-    joins = λ l ks goes_on s all born done h. join_holds l (states ks) goes_on born.stands h.0 (done_hold ks done h.1);
+    joins = λ l ks goes_on s all born done h. join_holds l (states ks) goes_on born.stops_at_fork h.0 (done_hold ks done h.1);
   }
 
   -- the process to which branches lead, among those of the tree

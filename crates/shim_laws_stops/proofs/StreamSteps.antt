@@ -23,7 +23,7 @@ use Rattle.shim_process.proofs.CallKeeps.{fork_trapped}
 use Rattle.shim_base.proofs.Facts.{choose}
 use Rattle.shim_laws_stops.specs.InScope.{AllInScope}
 use Rattle.shim_laws_stops.specs.FrameLocations.{item_right, ItemsScoped, FrameScoped, HasLocations}
-use Rattle.shim_laws_stops.specs.StreamHolders.{Stream, TheInput, TheOutput, held, has_stream, takes, HasOneSlot, UnitsTake, waiting_units, last_unit, first_unit, IsTaking, HoldsStream}
+use Rattle.shim_laws_stops.specs.StreamHolders.{Stream, TheInput, TheOutput, holds_stream, has_stream, takes, HasOneSlot, UnitsTake, waiting_units, last_unit, first_unit, IsTaking, HoldsStream}
 use Rattle.shim_laws_stops.proofs.LocationSteps.{Has}
 use Rattle.shim_laws_stops.proofs.StreamUnits.{Hands, call_hands}
 use Rattle.shim_laws_stops.proofs.ScopeFrames.{inner_scoped}
@@ -45,7 +45,7 @@ handling_unit None i f = refl
 handling_unit (Some e) i f = went_unit Second (record f { todo = e.todo; places = take i f.places })
 
 -- who reads on has the stream as before
-read_keeps : (stream : Stream) (at : Option ℕ) (input : List ℕ) (holds : Bool) → held stream (read_on at input) holds ≡ held stream at holds
+read_keeps : (stream : Stream) (at : Option ℕ) (input : List ℕ) (holds : Bool) → holds_stream stream (read_on at input) holds ≡ holds_stream stream at holds
 read_keeps TheInput None input holds = refl
 read_keeps TheInput (Some n) input holds = refl
 read_keeps TheOutput at input holds = refl

@@ -132,11 +132,11 @@ module _ (form : Form) (names : List (List ℕ)) (all : List RFunction) where
       let w : SlotMap = function_slot_map f in
       let xs : List ℕ = upto (length f.throws) in
       let here = begins (length f.throws) g.throws bound.0.end.exceptions (raises_in f.body) (tries_in f.body) w.slots many in
-      let stands = stand_first form next r.lifted rest.lifted stand in
+      let in_force = stand_first form next r.lifted rest.lifted stand in
       let more = functions_right functions units (number + 1) m gs fs bound.1 order.1 (stand_from form next m r.lifted rest.lifted refl stand) in
       record {
-        own = (body.lifts.tree context w next xs here stands, more.own);
-        lifted = each_of_both (ThrowsInForce form) r.lifted rest.lifted (body.lifts.units context w next xs here stands) more.lifted;
+        own = (body.lifts.tree context w next xs here in_force, more.own);
+        lifted = each_of_both (ThrowsInForce form) r.lifted rest.lifted (body.lifts.units context w next xs here in_force) more.lifted;
       }
 
 right_at : (form : Form) (us : List UnitOf) (n : ℕ) → Each (ThrowsInForce form) us → ThrowsInForce form (unit_or (slice_get us n))

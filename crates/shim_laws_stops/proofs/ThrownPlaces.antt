@@ -113,7 +113,7 @@ pub record OnWay (n : Node LocalState) (q : List ℕ) (label : ℕ) : Type 0 whe
   pub rest : List ℕ
   pub whole : front ++ rest ≡ q
   pub process : Node LocalState
-  pub stands : at front n ≡ Some process
+  pub at_front : at front n ≡ Some process
   pub place : HasPlace (state process) label
 
 -- the same among some children
@@ -122,13 +122,13 @@ record AmongChildren (ks : Nodes LocalState) (i : ℕ) (q : List ℕ) (label : �
   rest : List ℕ
   whole : front ++ rest ≡ q
   process : Node LocalState
-  stands : child_at i front ks ≡ Some process
+  at_front : child_at i front ks ≡ Some process
   place : HasPlace (state process) label
 
 here : (n : Node LocalState) (q : List ℕ) (label : ℕ) → HasLabels (state n) → label < handlers (state n) → OnWay n q label ⊎ (label < (state n).base)
 here n q label h below = elim (cases_Bool (nat_lt label (state n).base)) [
   | inl low ↦ inr (ltb-true label (state n).base low)
-  | inr high ↦ inl (record { front = []; rest = q; whole = refl; process = n; stands = refl; place = own_place (state n) label h (not_less label (state n).base high) below })
+  | inr high ↦ inl (record { front = []; rest = q; whole = refl; process = n; at_front = refl; place = own_place (state n) label h (not_less label (state n).base high) below })
 ]
   where
     not_less : (n outer : ℕ) → nat_lt n outer ≡ false → outer ≤ n
@@ -144,7 +144,7 @@ mutual
   on_way (i ∷ q) (Ended m) l label h s e below = none_some (Live l) e
   on_way (i ∷ q) (Dead m x) l label h s e below = none_some (Live l) e
   on_way (i ∷ q) (Forked m ks) l label h s e below = elim (among_children m s.number 0 ks i q l label h.1 s.children e below) [
-    | inl w ↦ inl (record { front = i ∷ w.front; rest = w.rest; whole = ap (λ r. i ∷ r) w.whole; process = w.process; stands = w.stands; place = w.place })
+    | inl w ↦ inl (record { front = i ∷ w.front; rest = w.rest; whole = ap (λ r. i ∷ r) w.whole; process = w.process; at_front = w.at_front; place = w.place })
     | inr up ↦ here (Forked m ks) (i ∷ q) label h.0 up
   ]
 
@@ -152,10 +152,10 @@ mutual
       → AmongChildren ks i q label ⊎ (label < handlers m)
   among_children m f j no_node i q l label h s e below = none_some (Live l) e
   among_children m f j (node_and k ks) zero q l label h s e below = elim (on_way q k l label h.0 s.1 e below) [
-    | inl w ↦ inl (record { front = w.front; rest = w.rest; whole = w.whole; process = w.process; stands = w.stands; place = w.place })
+    | inl w ↦ inl (record { front = w.front; rest = w.rest; whole = w.whole; process = w.process; at_front = w.at_front; place = w.place })
     | inr up ↦ inr (subst (λ b. label < b) s.0.base up)
   ]
   among_children m f j (node_and k ks) (suc i) q l label h s e below = elim (among_children m f (j + 1) ks i q l label h.1 s.2 e below) [
-    | inl w ↦ inl (record { front = w.front; rest = w.rest; whole = w.whole; process = w.process; stands = w.stands; place = w.place })
+    | inl w ↦ inl (record { front = w.front; rest = w.rest; whole = w.whole; process = w.process; at_front = w.at_front; place = w.place })
     | inr up ↦ inr up
   ]

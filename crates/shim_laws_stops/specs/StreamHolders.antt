@@ -35,12 +35,12 @@ is_there None = false
 is_there (Some n) = true
 
 -- by its place in the input, where it has the input, and by whether it has the output, a process has the stream
-abbrev pub held : Stream → Option ℕ → Bool → Bool
-held TheInput at holds = is_there at
-held TheOutput at holds = holds
+abbrev pub holds_stream : Stream → Option ℕ → Bool → Bool
+holds_stream TheInput at holds = is_there at
+holds_stream TheOutput at holds = holds
 
 abbrev pub has_stream : Stream → LocalState → Bool
-has_stream s l = held s l.input_at l.holds_output
+has_stream s l = holds_stream s l.input_at l.holds_output
 
 -- the unit of this number takes the stream
 abbrev pub takes : Stream → Form → ℕ → Bool

@@ -21,10 +21,10 @@ pub record HasPlaceOnWay (t : Tree LocalState) (q : List ℕ) (label : ℕ) : Ty
   pub rest : List ℕ
   pub whole : front ++ rest ≡ q
   pub process : Node LocalState
-  pub stands : at front t.root ≡ Some process
+  pub at_front : at front t.root ≡ Some process
   pub place : HasPlace (state process) label
 
--- it stands for a name that `main` throws, for which nobody has a handler
+-- it is the label of a name that `main` throws, for which nobody has a handler
 abbrev pub IsThrownByMain : Form → ℕ → Type 0
 IsThrownByMain program label = (1 ≤ label) × (label ≤ length program.main_throws)
 

@@ -62,17 +62,17 @@ pub fn arguments_have_locations()
     ensures { (program : Form) (input : List ℕ) (t : Tree LocalState) → IsAcceptedForm program → IsReachable program input t → ArgumentsHaveLocations t }
 {}
 
-/// In each such tree each live process that stands at a `put` has the output.
+/// In each such tree each live process that is at a `put` has the output.
 pub fn puts_have_output()
     ensures { (program : Form) (input : List ℕ) (t : Tree LocalState) → IsAcceptedForm program → IsReachable program input t → PutsHaveOutput t }
 {}
 
-/// In each such tree each live process that stands at a `get` has the input.
+/// In each such tree each live process that is at a `get` has the input.
 pub fn gets_have_input()
     ensures { (program : Form) (input : List ℕ) (t : Tree LocalState) → IsAcceptedForm program → IsReachable program input t → GetsHaveInput t }
 {}
 
-/// In each such tree a live process stands at its end only where nothing is left to do, in any unit that
+/// In each such tree a live process is at its end only where nothing is left to do, in any unit that
 /// it is in. So no `next`, no `put` and no fork comes to the stop of an end.
 pub fn ends_have_nothing_left()
     ensures { (program : Form) (input : List ℕ) (t : Tree LocalState) → IsAcceptedForm program → IsReachable program input t → EndsHaveNothingLeft t }

@@ -1,4 +1,4 @@
--- What tied processes do by themselves leaves tied nodes, and tells the same.
+-- What tied processes do by themselves leaves tied nodes, with the same effects.
 use Rattle.std.proofs.Common.{◌≡◌, ◌<◌, ℕ, ℤ, true, false, List, [], ◌∷◌, Option, Some, None, ltb, ltb-false, Bool, arith, refl, ap, subst}
 use Rattle.shim_local.specs.Process.{Ops, StopView, ForkedView, AtQuiet, AtNext, AtPut, AtFork, AtFinish, AtThrow, AtTrap, Parted, Trapped}
 use Rattle.shim_local.specs.Laws.{LocalLaws, by_join}
@@ -10,7 +10,7 @@ use Rattle.shim_laws_tied.proofs.Both.{BothOrNone, both_chosen}
 use Rattle.shim_laws_tied.proofs.SoundTies.{ForkTied, Tied, EachTied}
 use Rattle.shim_laws_tied.proofs.NodesAlike.{states_tied, ones_sound, others_sound, done_alike, prevailing_alike}
 
--- tied nodes are left, and the same is told
+-- tied nodes are left, with the same effects
 pub record ActedTied {A B : Type 0} (R : A → B → Type 0) (a : Acted A) (b : Acted B) : Type 0 where
   pub node : NodesTied R a.node b.node
   pub effects : a.effects ≡ b.effects

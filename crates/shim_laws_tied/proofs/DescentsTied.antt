@@ -6,7 +6,7 @@ use Rattle.shim_local.specs.Laws.{LocalLaws}
 use Rattle.shim_semantics.specs.Nodes.{Node, Nodes, Live, Forked, Ended, Dead, no_node, node_and, state}
 use Rattle.shim_semantics.specs.Descents.{Ascent, apply_at, apply_among}
 use Rattle.shim_semantics.specs.Acts.{Effects, Acted, within, in_front, in_later, done_above, act_here}
-use Rattle.shim_semantics.specs.Poison.{above, before_rest, after_one, changed_above, poison_here, poison_route, last_branch, to_fork}
+use Rattle.shim_semantics.specs.Poison.{above, before_rest, after_one, changed_above, poison_node, poison_route, last_branch, to_fork}
 use Rattle.shim_semantics.specs.Places.{found_above, at, at_route, route, led_to}
 use Rattle.shim_semantics.specs.Trees.{act_route}
 use Rattle.shim_laws_tied.specs.Ties.{KeepsTied}
@@ -25,7 +25,7 @@ record AscentsTied {A B X Y Z W : Type 0} (R : A → B → Type 0) (w : Ascent A
   nowhere : (n : Node A) (m : Node B) → P (w.nowhere n) (v.nowhere m)
   no_child : Q w.no_child v.no_child
 
--- the children that an event leaves are tied, and the same is told
+-- the children that an event leaves are tied, with the same effects
 abbrev RestTied : {A B : Type 0} → (A → B → Type 0) → Nodes A × Effects → Nodes B × Effects → Type 0
 RestTied R a b = ChildrenTied R a.0 b.0 × (a.1 ≡ b.1)
 
@@ -108,7 +108,7 @@ module _ {A B : Type 0} (o : Ops A) (p : Ops B) (R : A → B → Type 0) where
     route_poison_tied c None n m h = tt
     route_poison_tied c (Some []) n m h = tt
     route_poison_tied c (Some (i ∷ q)) n m h =
-        applied_tied changed_above changed_above (BothOrNone (NodesTied R)) (BothOrNone (ChildrenTied R)) changed_tied (poison_here o c (last_branch i q)) (poison_here p c (last_branch i q))
+        applied_tied changed_above changed_above (BothOrNone (NodesTied R)) (BothOrNone (ChildrenTied R)) changed_tied (poison_node o c (last_branch i q)) (poison_node p c (last_branch i q))
         (poison_here_tied o p R keeps c (last_branch i q)) (to_fork i q) n m h
 
     pub path_poison_tied : (c : Channel) (x : Path) (n : Node A) (m : Node B) → Tied o p R n m

@@ -3,7 +3,7 @@ use Rattle.std.proofs.Common.{◌≡◌, ℕ, ℤ, zero, suc, ◌-◌, Some, Non
 use Rattle.shim_base.specs.Paths.{Channel}
 use Rattle.shim_local.specs.Process.{Ops}
 use Rattle.shim_semantics.specs.Nodes.{Node, Nodes, Live, Forked, Ended, Dead, Death, death, no_node, node_and, is_next, received, all_received}
-use Rattle.shim_semantics.specs.Poison.{is_doomed, poisoned, all_poisoned, one_poisoned, can_poison, poison_here}
+use Rattle.shim_semantics.specs.Poison.{is_doomed, poisoned, all_poisoned, one_poisoned, can_poison, poison_node}
 use Rattle.shim_semantics.proofs.MeetStays.{next_is}
 use Rattle.shim_laws_tied.specs.Ties.{KeepsTied, AreTied}
 use Rattle.shim_laws_tied.specs.TiedTrees.{NodesTied, ChildrenTied}
@@ -51,7 +51,7 @@ module _ {A B : Type 0} (o : Ops A) (p : Ops B) (R : A → B → Type 0) (keeps 
   can_poison_alike c at l m ks js h each =
       λ i. ready_child_alike o p R keeps c at ks js each i && (doomed_alike o p R keeps (o.handlers l) c at ks js each ∙ ap (λ x. is_doomed p x c at js) (keeps.handlers l m h)) i
 
-  pub poison_here_tied : (c : Channel) (at : ℕ) (n : Node A) (m : Node B) → Tied o p R n m → BothOrNone (NodesTied R) (poison_here o c at n) (poison_here p c at m)
+  pub poison_here_tied : (c : Channel) (at : ℕ) (n : Node A) (m : Node B) → Tied o p R n m → BothOrNone (NodesTied R) (poison_node o c at n) (poison_node p c at m)
   poison_here_tied c at (Live l) (Live m) h = tt
   poison_here_tied c at (Ended l) (Ended m) h = tt
   poison_here_tied c at (Dead l d) (Dead m e) h = tt

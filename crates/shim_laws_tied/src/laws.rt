@@ -9,8 +9,8 @@ use shim_local::Local;
 /// The trait has no call and one meaning, the relation. An implementation proves that every method of
 /// `Local` keeps it: wherever a method may be called of two tied processes, it answers the same of both and
 /// leaves them tied, as it does the children of a fork, one by one. Nothing is asked of `same`, which
-/// compares processes of one kind: tied ones may differ in what no method tells. Want of memory may come to
-/// one of the two alone.
+/// compares processes of one kind: tied ones may differ in what no method shows. One of the two alone may run out
+/// of memory.
 pub trait Tie {
     type One: Local;
 

@@ -35,7 +35,7 @@ pub record Ops (S : Type 0) : Type 1 where
   pub fork : S → ForkedView S
   -- after the children's values came back: behind the fork, or still at it
   pub join : S → List S → Bool → S
-  -- these stand for the children of the last fork, one for each and in their order, whatever calls they have had since
+  -- these represent the children of the last fork, one for each and in their order, whatever calls they have had since
   pub born : S → List S → Type 0
   -- the number that the throw at which it stands gives, or none where its expression traps; and the state after that was computed
   pub number : S → Option ℤ

@@ -1,4 +1,4 @@
--- The tests of paths and channels tell whether they are the same.
+-- The tests of paths and channels decide whether they are the same.
 use Rattle.std.specs.Prelude.{◌≡◌, ℕ}
 use Rattle.std.specs.Bool.{Decides}
 use Rattle.std.specs.Cmp.Lexicographic.{pointwise_decides}

@@ -6,7 +6,7 @@ use shim_base::{Chan, List, Path, Trap};
 pub struct Ended {
     /// The bytes that were put, in order.
     pub output: List<u8>,
-    /// Each channel that had a meeting, by home and then by serial.
+    /// Each channel that had a rendezvous, by home and then by serial.
     pub histories: List<History>,
     /// What was logged, by path, and of one process in the order in which it happened.
     pub logs: List<Log>,
@@ -14,20 +14,20 @@ pub struct Ended {
     pub waits: List<WaitAt>,
     /// Each process that did a step of its own, by path.
     pub own: List<OwnSteps>,
-    /// How many events were no process's own: meetings, poisons, closes and ends.
+    /// How many events were no process's own: rendezvous, poisons, closes and ends.
     pub events: u64,
     pub steps: u64,
     pub outcome: Outcome,
 }
 
-/// The values that the meetings on a channel gave, in order.
+/// The values that the rendezvous on a channel gave, in order.
 #[derive(Drop)]
 pub struct History {
     pub chan: Chan,
     pub values: List<i64>,
 }
 
-/// Something that is told of a process.
+/// Something that is logged of a process.
 #[derive(Drop)]
 pub struct Log {
     pub path: Path,

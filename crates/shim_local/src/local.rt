@@ -71,13 +71,13 @@ pub trait Local: Send + Sized + Drop {
         ensures byte { result ≡ ops.byte self.old }
         ensures after { self.new ≡ ops.put self.old };
 
-    /// Stores the value of the meeting at which it has to stand, and goes on.
+    /// Stores the value of the rendezvous at which it has to wait, and goes on.
     fn receive(&mut self, v: i64)
         requires { (c : NamedChannel) × (ops.stop self.old ≡ AtNext c) }
         ensures { self.new ≡ ops.receive self.old v };
 
     /// The children of the fork at which it has to stand, in order; it stays there. Or the fork traps,
-    /// and it then stands trapped. Want of memory changes nothing.
+    /// and it then stands trapped. Running out of memory changes nothing.
     fn fork(&mut self) -> Result<Forked<Self>, NoMemory>
         requires { ops.stop self.old ≡ AtFork }
         ensures ok { IfOk result (λ forked. ForkGives ops self.old self.new forked) }

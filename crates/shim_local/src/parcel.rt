@@ -36,7 +36,7 @@ pub struct Finished<L: Local> {
     /// How many steps were taken. Without `short` there are fewer than `grant` only where the process came
     /// to another stop.
     pub used: u64,
-    /// A further step was refused for want of memory.
+    /// Memory was refused for a further step.
     pub short: bool,
     pub last: L,
     ghost steps: { QuietSteps L.ops used start last },

@@ -60,11 +60,11 @@ module _ (u : CodedUnit) where
       (ha.0, both (n + begun i) (pc + 1) a b ha.1 (subst (λ m. AllHigh m (pc + 1 + length a) b) z (subst (λ p. AllHigh (n + statements_in (i ∷ a)) p b) e hb)))
 
   -- these instructions stand at a place, and behind them is this height
-  abbrev Leaves : ℕ → ℕ → List MachineInstr → ℕ → Type 0
-  Leaves n pc is h = (H (pc + length is) ≡ h) × AllHigh n pc is
+  abbrev EndsAtHeight : ℕ → ℕ → List MachineInstr → ℕ → Type 0
+  EndsAtHeight n pc is h = (H (pc + length is) ≡ h) × AllHigh n pc is
 
   -- one instruction behind others
-  then_one : (n pc h after : ℕ) (c : List MachineInstr) (i : MachineInstr) → HasAt u n pc (c ++ i ∷ []) → Leaves n pc c h → ((p m : ℕ) → H p ≡ h → HasHeight u p (with_number m i)) → ((m : ℕ) → height_after h (with_number m i) ≡ after) → Leaves n pc (c ++ i ∷ []) after
+  then_one : (n pc h after : ℕ) (c : List MachineInstr) (i : MachineInstr) → HasAt u n pc (c ++ i ∷ []) → EndsAtHeight n pc c h → ((p m : ℕ) → H p ≡ h → HasHeight u p (with_number m i)) → ((m : ℕ) → height_after h (with_number m i) ≡ after) → EndsAtHeight n pc (c ++ i ∷ []) after
   then_one n pc h after c i has l fits is =
       let p = pc + length c in
       let m = n + statements_in c in
@@ -73,14 +73,14 @@ module _ (u : CodedUnit) where
       (ap H e ∙ next p (with_number m i) at ∙ ap (λ h. height_after h (with_number m i)) l.0 ∙ is m, both n pc c (i ∷ []) l.1 (fits p m l.0, tt))
 
   -- one piece behind another
-  then_more : (n pc h : ℕ) (a b : List MachineInstr) → AllHigh n pc a → Leaves (n + statements_in a) (pc + length a) b h → Leaves n pc (a ++ b) h
+  then_more : (n pc h : ℕ) (a b : List MachineInstr) → AllHigh n pc a → EndsAtHeight (n + statements_in a) (pc + length a) b h → EndsAtHeight n pc (a ++ b) h
   then_more n pc h a b ha hb =
       let e : pc + length (a ++ b) ≡ pc + length a + length b = omega (arith, length-append a b) in
       (ap H e ∙ hb.0, both n pc a b ha hb.1)
 
   -- a piece that leaves so many more
   abbrev Rises : ℕ → MachineCode → Type 0
-  Rises more c = (n pc h : ℕ) → HasAt u n pc (c pc) → H pc ≡ h → Leaves n pc (c pc) (h + more)
+  Rises more c = (n pc h : ℕ) → HasAt u n pc (c pc) → H pc ≡ h → EndsAtHeight n pc (c pc) (h + more)
 
   abbrev Such : Type 0
   Such = (e : UExpr) × Rises 1 (machine_expr e)
@@ -113,7 +113,7 @@ module _ (u : CodedUnit) where
 
   -- a piece that begins with so many and leaves so many
   abbrev Between : ℕ → ℕ → MachineCode → Type 0
-  Between h after c = (n pc : ℕ) → HasAt u n pc (c pc) → H pc ≡ h → Leaves n pc (c pc) after
+  Between h after c = (n pc : ℕ) → HasAt u n pc (c pc) → H pc ≡ h → EndsAtHeight n pc (c pc) after
 
   -- two pieces of which a number that is taken off decides
   arms_leave : (a b : MachineCode) (h after : ℕ) → Between h after a → Between h after b → after - 1 ≡ h → Between (h + 1) after (arms Jump JumpZ a b)

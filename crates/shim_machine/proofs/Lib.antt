@@ -1,7 +1,7 @@
 pub mod Exprs
-pub mod Told
+pub mod RestOfBody
 pub mod Handlers
-pub mod Lands
+pub mod Resuming
 pub mod Enters
 pub mod UnitStarts
 pub mod Calls

@@ -24,15 +24,15 @@ use Rattle.shim_machine.proofs.Computing.{AllCompute, AllGather, Gathering, args
 use Rattle.shim_machine.proofs.Enters.{code_roll, count_all, count_both, enters_list, point_roll}
 use Rattle.shim_machine.proofs.Exprs.{has_back, has_front}
 use Rattle.shim_machine.proofs.Steps.{no_stmts, no_stmts_or, renumber}
-use Rattle.shim_machine.proofs.Told.{told_followed}
+use Rattle.shim_machine.proofs.RestOfBody.{rest_followed}
 use Rattle.shim_machine.proofs.Tried.{tried_begun}
-use Rattle.shim_machine.proofs.UnitStarts.{told_first, unit_has}
+use Rattle.shim_machine.proofs.UnitStarts.{rest_first, unit_has}
 
 -- what is to be done begins at this place with the statement of the mark's number, and has the property
 record Found (P : List Item → Type 0) (u : CodedUnit) (pc : ℕ) (m : MarkOf) : Type 0 where
   pub stmt : UStmt
   pub rest : List Item
-  pub told : P (Do m.number stmt ∷ rest)
+  pub has_property : P (Do m.number stmt ∷ rest)
   pub here : IsPlaceOf u pc (Do m.number stmt ∷ rest) m.halfway
 
 -- so at a mark; and the end has the number of all statements
@@ -137,7 +137,7 @@ module _ (P : List Item → Type 0) (stays : (c : Successor) (k : List Item) →
         let c = machine_branch u.units b pc in
         found_both u n pc c (machine_branches u.units bs (pc + length c)) (branch_found b n pc) (branches_found bs _ _)
 
-    -- with what follows it, a statement's code has what is left at each of its marks; what follows is told by its number, too
+    -- with what follows it, a statement's code has what is left at each of its marks; what follows is known by its number, too
     abbrev MarksOf : UStmt → Type 0
     MarksOf s = (pc n : ℕ) (k : List Item) → HasAt u n pc (machine_stmt u.units s pc) → IsCodeOf u (pc + length (machine_stmt u.units s pc)) k → P (items s n ++ k) → P k × AllFound u n pc (machine_stmt u.units s pc)
 
@@ -147,30 +147,30 @@ module _ (P : List Item → Type 0) (stays : (c : Successor) (k : List Item) →
 
     in_list : (ss : List UStmt) → AllMarks ss → (pc n : ℕ) (k : List Item) → HasAt u n pc (machine_stmts u.units ss pc) → IsCodeOf u (pc + length (machine_stmts u.units ss pc)) k → P (items_all ss n ++ k)
         → P k × AllFound u n pc (machine_stmts u.units ss pc)
-    in_list [] h pc n k has st told = (told, tt)
-    in_list (s ∷ ss) h pc n k has st told =
+    in_list [] h pc n k has st has_property = (has_property, tt)
+    in_list (s ∷ ss) h pc n k has st has_property =
         let cs = machine_stmt u.units s pc in
         let cr = machine_stmts u.units ss (pc + length cs) in
         let e : pc + length (cs ++ cr) ≡ pc + length cs + length cr = omega (arith, length-append cs cr) in
         let has_rest = subst (λ m. HasAt u (n + m) (pc + length cs) cr) (stmt_counts u.units s pc) (has_back u n pc cs cr has) in
         let behind_rest = subst (λ p. IsCodeOf u p k) e st in
         let rest_stands = enters_list u ss (pc + length cs) (n + size_of s) k has_rest behind_rest in
-        let one = h.0 pc n (items_all ss (n + size_of s) ++ k) (has_front u n pc cs cr has) rest_stands (subst (P) (append_assoc (items s n) (items_all ss (n + size_of s)) k) told) in
+        let one = h.0 pc n (items_all ss (n + size_of s) ++ k) (has_front u n pc cs cr has) rest_stands (subst (P) (append_assoc (items s n) (items_all ss (n + size_of s)) k) has_property) in
         let others = in_list ss h.1 (pc + length cs) (n + size_of s) k has_rest behind_rest one.0 in
         (others.0, found_both u n pc cs cr one.1 (found_as u (n + size_of s) (n + statements_in cs) (pc + length cs) cr (ap (λ m. n + m) (stmt_counts u.units s pc)) others.1))
 
     at_items : (l : ℕ) (x : UWhat-F UWhat UStmt) (n : ℕ) → items (line_of l (roll-UWhat x)) n ≡ what_items (map-UWhat UWhat UStmt _ _ (λ y. (y, para-UWhat (UStmt → ItemsFrom) ItemsFrom what_items (λ s. s.what.1 (record { line = s.line; what = s.what.0 })) y)) (λ y. (y, items y)) x) (line_of l (roll-UWhat x)) n
     at_items l x n = ap (λ f. f n) (items_roll l x)
 
-    told_after : (l n : ℕ) (x : UWhat-F UWhat UStmt) (k : List Item) (c : Successor) → P (Do n (line_of l (roll-UWhat x)) ∷ k) → P (follow_what x c n (line_of l (roll-UWhat x)) k)
-    told_after l n x k c told = let s = line_of l (roll-UWhat x) in subst (λ z. P (follow_what z c n s k)) (out-roll-UWhat x) (stays c (Do n s ∷ k) told)
+    rest_after : (l n : ℕ) (x : UWhat-F UWhat UStmt) (k : List Item) (c : Successor) → P (Do n (line_of l (roll-UWhat x)) ∷ k) → P (follow_what x c n (line_of l (roll-UWhat x)) k)
+    rest_after l n x k c has_property = let s = line_of l (roll-UWhat x) in subst (λ z. P (follow_what z c n s k)) (out-roll-UWhat x) (stays c (Do n s ∷ k) has_property)
 
     -- a statement that begins with its mark
     marked : (l : ℕ) (x : UWhat-F UWhat UStmt) (kd : MarkKind) → kd ≡ first_kind x → (rest : ℕ → List MachineInstr) → ((pc : ℕ) → kind_code u.units x l pc ≡ point_what u.units x l pc) → ((pc : ℕ) → point_what u.units x l pc ≡ begin_mark kd l false ∷ rest pc)
         → ((n : ℕ) → items (line_of l (roll-UWhat x)) n ≡ Do n (line_of l (roll-UWhat x)) ∷ []) → ((n : ℕ) (k : List Item) → follow_what x On n (line_of l (roll-UWhat x)) k ≡ k)
         → ((pc n stop : ℕ) (k : List Item) → (let s = line_of l (roll-UWhat x) in HasStatement u pc n s stop → HasAt u (n + 1) (pc + 1) (rest pc) → stop ≡ pc + 1 + length (rest pc) → IsCodeOf u stop k → P (Do n s ∷ k) → AllFound u (n + 1) (pc + 1) (rest pc)))
         → MarksOf (line_of l (roll-UWhat x))
-    marked l x kd kd_is rest same begun_by is on inner pc n k has st told =
+    marked l x kd kd_is rest same begun_by is on inner pc n k has st has_property =
         let s = line_of l (roll-UWhat x) in
         let c : machine_stmt u.units s pc ≡ point_what u.units x l pc = ap (λ f. f pc) (code_roll u.units l x) ∙ same pc in
         let p : machine_stmt u.units s pc ≡ point_code u.units s pc = c ∙ sym (ap (λ f. f pc) (point_roll u.units l x)) in
@@ -178,15 +178,15 @@ module _ (P : List Item → Type 0) (stays : (c : Successor) (k : List Item) →
         let h = subst (HasAt u n pc) whole has in
         let stop = pc + length (machine_stmt u.units s pc) in
         let has_s : HasStatement u pc n s stop = record { kind = kd; is_kind = kd_is ∙ ap first_kind (sym (out-roll-UWhat x)); all = subst (HasAt u n pc) p has; ends = ap (λ c. pc + length c) p; marked = h.0 } in
-        let t : P (Do n s ∷ k) = subst (λ i. P (i ++ k)) (is n) told in
+        let t : P (Do n s ∷ k) = subst (λ i. P (i ++ k)) (is n) has_property in
         let ends : stop ≡ pc + 1 + length (rest pc) = ap (λ c. pc + length c) whole ∙ (let z : pc + length (begin_mark kd l false ∷ rest pc) ≡ pc + 1 + length (rest pc) = omega arith in z) in
-        let found : Found P u pc (record { kind = kd; line = l; number = n; halfway = false }) = record { stmt = s; rest = k; told = t; here = at_do pc n stop s k has_s st } in
-        (subst (P) (on n k) (told_after l n x k On t), subst (AllFound u n pc) (sym whole) (found, inner pc n stop k has_s h.1 ends st t))
+        let found : Found P u pc (record { kind = kd; line = l; number = n; halfway = false }) = record { stmt = s; rest = k; has_property = t; here = at_do pc n stop s k has_s st } in
+        (subst (P) (on n k) (rest_after l n x k On t), subst (AllFound u n pc) (sym whole) (found, inner pc n stop k has_s h.1 ends st t))
 
     -- one that has no other mark
     plain : (l : ℕ) (x : UWhat-F UWhat UStmt) (kd : MarkKind) → kd ≡ first_kind x → (rest : ℕ → List MachineInstr) → ((pc : ℕ) → kind_code u.units x l pc ≡ point_what u.units x l pc) → ((pc : ℕ) → point_what u.units x l pc ≡ begin_mark kd l false ∷ rest pc)
         → ((n : ℕ) → items (line_of l (roll-UWhat x)) n ≡ Do n (line_of l (roll-UWhat x)) ∷ []) → ((n : ℕ) (k : List Item) → follow_what x On n (line_of l (roll-UWhat x)) k ≡ k) → ((n pc : ℕ) → AllFound u n (pc + 1) (rest pc)) → MarksOf (line_of l (roll-UWhat x))
-    plain l x kd kd_is rest same begun_by is on none = marked l x kd kd_is rest same begun_by is on (λ pc n stop k whole has ends st told. none (n + 1) pc)
+    plain l x kd kd_is rest same begun_by is on none = marked l x kd kd_is rest same begun_by is on (λ pc n stop k whole has ends st has_property. none (n + 1) pc)
 
     -- an expression and an instruction behind it
     then_one : (n pc : ℕ) (c : List MachineInstr) (i : MachineInstr) → AllCompute c → ((n pc : ℕ) → IsFound u pc (with_number n i)) → AllFound u n pc (c ++ i ∷ [])
@@ -223,7 +223,7 @@ module _ (P : List Item → Type 0) (stays : (c : Successor) (k : List Item) →
             let cb = machine_stmts u.units b second in
             let rest = t ++ JumpZ second ∷ (ca ++ Jump (second + length cb) ∷ cb) in
             HasStatement u pc n s stop → HasAt u (n + 1) (pc + 1) rest → stop ≡ pc + 1 + length rest → IsCodeOf u stop k → P (Do n s ∷ k) → AllFound u (n + 1) (pc + 1) rest)
-        inner pc n stop k whole h ends rest told =
+        inner pc n stop k whole h ends rest has_property =
             let t = machine_expr e (pc + 1) in
             let pc1 = pc + 1 + length t in
             let first = pc1 + 1 in
@@ -241,8 +241,8 @@ module _ (P : List Item → Type 0) (stays : (c : Successor) (k : List Item) →
             let e1 : stop ≡ end = omega (arith, ends, length-append t more, length-append ca (Jump end ∷ cb)) in
             let there = subst (λ p. IsCodeOf u p k) e1 rest in
             let lt : first + length ca < end = omega arith in
-            let fa = (in_list a ma first (n + 1) k (has_front u (n + 1) first ca (Jump end ∷ cb) ha) (code_jump (first + length ca) end k h2.0 lt there) (told_after l n x k First told)).1 in
-            let fb = (in_list b mb second (n + 1 + size_all a) k hb there (told_after l n x k Second told)).1 in
+            let fa = (in_list a ma first (n + 1) k (has_front u (n + 1) first ca (Jump end ∷ cb) ha) (code_jump (first + length ca) end k h2.0 lt there) (rest_after l n x k First has_property)).1 in
+            let fb = (in_list b mb second (n + 1 + size_all a) k hb there (rest_after l n x k Second has_property)).1 in
             let f2 = found_both u (n + 1) first ca (Jump end ∷ cb) fa (tt, found_as u (n + 1 + size_all a) _ second cb nb fb) in
             found_both u (n + 1) (pc + 1) t more (found_computing u (n + 1) (pc + 1) t (expr_computes e (pc + 1))) (tt, found_as u (n + 1) _ first (ca ++ Jump end ∷ cb) na f2)
 
@@ -251,7 +251,7 @@ module _ (P : List Item → Type 0) (stays : (c : Successor) (k : List Item) →
         AllCompute (test (pc + 1)) → statements_in (test (pc + 1)) ≡ 0 → follow_what x First n s k ≡ inner (Do n s ∷ k)
         → ((at : ℕ) (k : List Item) → HasAt u (n + 1) at (body at) → IsCodeOf u (at + length (body at)) k → P (inner k) → AllFound u (n + 1) at (body at))
         → HasStatement u pc n s stop → HasAt u n pc (machine_looped l test body pc) → IsCodeOf u stop k → P (Do n s ∷ k) → AllFound u n pc (machine_looped l test body pc))
-    loop_marks l x test body inner pc n stop k computes none first found_in whole has rest told =
+    loop_marks l x test body inner pc n stop k computes none first found_in whole has rest has_property =
         let s = line_of l (roll-UWhat x) in
         let t = test (pc + 1) in
         let pc1 = pc + 1 + length t in
@@ -263,13 +263,13 @@ module _ (P : List Item → Type 0) (stays : (c : Successor) (k : List Item) →
         let na : n + 1 + statements_in t + 0 ≡ n + 1 = omega (arith, none) in
         let ha = renumber u _ (n + 1) first_at (ca ++ Jump pc ∷ []) na h1.1 in
         let h2 = has_back u (n + 1) first_at ca (Jump pc ∷ []) ha in
-        let fa = found_in first_at (Do n s ∷ k) (has_front u (n + 1) first_at ca (Jump pc ∷ []) ha) (code_back (first_at + length ca) pc n stop s k h2.0 whole rest) (subst (P) first (told_after l n x k First told)) in
+        let fa = found_in first_at (Do n s ∷ k) (has_front u (n + 1) first_at ca (Jump pc ∷ []) ha) (code_back (first_at + length ca) pc n stop s k h2.0 whole rest) (subst (P) first (rest_after l n x k First has_property)) in
         let f2 = found_both u (n + 1) first_at ca (Jump pc ∷ []) fa (tt, tt) in
-        let found : Found P u pc (record { kind = kind.Quiet; line = l; number = n; halfway = false }) = record { stmt = s; rest = k; told = told; here = at_do pc n stop s k whole rest } in
+        let found : Found P u pc (record { kind = kind.Quiet; line = l; number = n; halfway = false }) = record { stmt = s; rest = k; has_property = has_property; here = at_do pc n stop s k whole rest } in
         (found, found_both u (n + 1) (pc + 1) t more (found_computing u (n + 1) (pc + 1) t computes) (tt, found_as u (n + 1) _ first_at (ca ++ Jump pc ∷ []) na f2))
 
     while_marks : (l : ℕ) (e : UExpr) (a : List UStmt) → AllMarks a → MarksOf (line_of l (roll-UWhat (UWhat-F.While e a)))
-    while_marks l e a ma pc n k has st told =
+    while_marks l e a ma pc n k has st has_property =
         let x : UWhat-F UWhat UStmt = UWhat-F.While e a in
         let s = line_of l (roll-UWhat x) in
         let c : machine_stmt u.units s pc ≡ point_what u.units x l pc = ap (λ f. f pc) (code_roll u.units l x) in
@@ -277,11 +277,11 @@ module _ (P : List Item → Type 0) (stays : (c : Successor) (k : List Item) →
         let h = subst (HasAt u n pc) c has in
         let stop = pc + length (machine_stmt u.units s pc) in
         let whole : HasStatement u pc n s stop = record { kind = kind.Quiet; is_kind = ap first_kind (sym (out-roll-UWhat x)); all = subst (HasAt u n pc) p has; ends = ap (λ c. pc + length c) p; marked = h.0 } in
-        let t : P (Do n s ∷ k) = subst (λ i. P (i ++ k)) (at_items l x n) told in (
-          told_after l n x k On t,
+        let t : P (Do n s ∷ k) = subst (λ i. P (i ++ k)) (at_items l x n) has_property in (
+          rest_after l n x k On t,
           subst (AllFound u n pc) (sym c)
               (loop_marks l x (machine_expr e) (machine_stmts u.units a) (λ k. items_all a (n + 1) ++ k) pc n stop k (expr_computes e (pc + 1)) (no_stmts u.units e pc) refl
-              (λ at k h st told. (in_list a ma at (n + 1) k h st told).1) whole h st t),
+              (λ at k h st has_property. (in_list a ma at (n + 1) k h st has_property).1) whole h st t),
         )
 
     same_items : (ss : List UStmt) → map (λ (y : UStmt × ItemsFrom). y.0) (map (λ y. (y, items y)) ss) ≡ ss
@@ -289,7 +289,7 @@ module _ (P : List Item → Type 0) (stays : (c : Successor) (k : List Item) →
     same_items (s ∷ ss) = ap (λ r. s ∷ r) (same_items ss)
 
     for_marks : (l : ℕ) (first : List UStmt) (e : Option UExpr) (step body : List UStmt) → AllMarks first → AllMarks step → AllMarks body → MarksOf (line_of l (roll-UWhat (UWhat-F.For first e step body)))
-    for_marks l first e step body mf ms mb pc n k has st told =
+    for_marks l first e step body mf ms mb pc n k has st has_property =
         let x : UWhat-F UWhat UStmt = UWhat-F.For first e step body in
         let s = line_of l (roll-UWhat x) in
         let ca = machine_stmts u.units first pc in
@@ -308,22 +308,22 @@ module _ (P : List Item → Type 0) (stays : (c : Successor) (k : List Item) →
         let e1 : pc + length (machine_stmt u.units s pc) ≡ stop = ap (λ c. pc + length c) c ∙ (let z : pc + length (ca ++ cl) ≡ pc + length ca + length cl = omega (arith, length-append ca cl) in z) in
         let behind_it = subst (λ q. IsCodeOf u q k) e1 st in
         let whole : HasStatement u at m s stop = record { kind = kind.Quiet; is_kind = ap first_kind (sym (out-roll-UWhat x)); all = subst (HasAt u m at) (sym p) hl; ends = ap (λ c. at + length c) (sym p); marked = hl.0 } in
-        let t = subst (P) (append_assoc (items_all first n) (Do m s ∷ []) k) (subst (λ j. P (j ++ k)) i told) in
+        let t = subst (P) (append_assoc (items_all first n) (Do m s ∷ []) k) (subst (λ j. P (j ++ k)) i has_property) in
         let of_first = in_list first mf pc n (Do m s ∷ k) (has_front u n pc ca cl h) (code_do at m stop s k whole behind_it) t in
         let of_loop = loop_marks l x test (sequence (machine_stmts u.units body) (machine_stmts u.units step)) (λ k. items_all body (m + 1) ++ (items_all step (m + 1 + size_all body) ++ k)) at m stop k (option_computes (pos 1) e (at + 1)) (no_stmts_or u.units (pos 1) e at) refl
-        (λ place k h stands told.
+        (λ place k h is_code has_property.
         let cb = machine_stmts u.units body place in
         let cs = machine_stmts u.units step (place + length cb) in
         let z : place + length (cb ++ cs) ≡ place + length cb + length cs = omega (arith, length-append cb cs) in
         let counted : m + 1 + statements_in cb ≡ m + 1 + size_all body = ap (λ c. m + 1 + c) (count_all u.units body place) in
         let hs = renumber u _ (m + 1 + size_all body) (place + length cb) cs counted (has_back u (m + 1) place cb cs h) in
-        let behind_step = subst (λ p. IsCodeOf u p k) z stands in
+        let behind_step = subst (λ p. IsCodeOf u p k) z is_code in
         let stands_step = enters_list u step (place + length cb) (m + 1 + size_all body) k hs behind_step in
-        let of_body = in_list body mb place (m + 1) (items_all step (m + 1 + size_all body) ++ k) (has_front u (m + 1) place cb cs h) stands_step told in
+        let of_body = in_list body mb place (m + 1) (items_all step (m + 1 + size_all body) ++ k) (has_front u (m + 1) place cb cs h) stands_step has_property in
         let of_step = in_list step ms (place + length cb) (m + 1 + size_all body) k hs behind_step of_body.0 in
         found_both u (m + 1) place cb cs of_body.1 (found_as u (m + 1 + size_all body) _ (place + length cb) cs counted of_step.1))
         whole hl behind_it of_first.0 in
-        (told_after l m x k On of_first.0, subst (AllFound u n pc) (sym c) (found_both u n pc ca cl of_first.1 (found_as u m _ at cl same_m of_loop)))
+        (rest_after l m x k On of_first.0, subst (AllFound u n pc) (sym c) (found_both u n pc ca cl of_first.1 (found_as u m _ at cl same_m of_loop)))
 
     -- the block of a `try`, and its handler
     try_marks : (l : ℕ) (a : List UStmt) (y : ℕ) (z : Option ℕ) (b : List UStmt) → AllMarks a → AllMarks b → MarksOf (line_of l (roll-UWhat (UWhat-F.Try a y z b)))
@@ -339,7 +339,7 @@ module _ (P : List Item → Type 0) (stays : (c : Successor) (k : List Item) →
             let cb = machine_stmts u.units b handler in
             let rest = try_instr handler y z ∷ (body ++ Jump (handler + length cb) ∷ cb) in
             HasStatement u pc n s stop → HasAt u (n + 1) (pc + 1) rest → stop ≡ pc + 1 + length rest → IsCodeOf u stop k → P (Do n s ∷ k) → AllFound u (n + 1) (pc + 1) rest)
-        inner pc n stop k whole h ends rest told =
+        inner pc n stop k whole h ends rest has_property =
             let first = pc + 1 + 1 in
             let ca = machine_stmts u.units a first in
             let body = sequence (machine_stmts u.units a) (one Untry) first in
@@ -358,9 +358,9 @@ module _ (P : List Item → Type 0) (stays : (c : Successor) (k : List Item) →
             let e2 : first + length ca + 1 ≡ first + length body = omega (arith, lb) in
             let there = subst (λ p. IsCodeOf u p k) e1 rest in
             let lt : first + length body < end = omega arith in
-            let leave = code_leave (first + length ca) k hu.0 (subst (λ p. IsCodeOf u p k) (sym e2) (code_jump (first + length body) end k h2.0 lt there)) in
-            let fa = (in_list a ma first (n + 1) (Leave ∷ k) (has_front u (n + 1) first ca (Untry ∷ []) hb) leave (told_after l n x k First told)).1 in
-            let fb = (in_list b mb handler (n + 1 + size_all a) k hh there (told_after l n x k Second told)).1 in
+            let at_leave = code_leave (first + length ca) k hu.0 (subst (λ p. IsCodeOf u p k) (sym e2) (code_jump (first + length body) end k h2.0 lt there)) in
+            let fa = (in_list a ma first (n + 1) (Leave ∷ k) (has_front u (n + 1) first ca (Untry ∷ []) hb) at_leave (rest_after l n x k First has_property)).1 in
+            let fb = (in_list b mb handler (n + 1 + size_all a) k hh there (rest_after l n x k Second has_property)).1 in
             let f1 = found_both u (n + 1) first ca (Untry ∷ []) fa (tt, tt) in
             let f2 = found_both u (n + 1) first body (Jump end ∷ cb) f1 (tt, found_as u (n + 1 + size_all a) _ handler cb nb fb) in
             (tried_found u (n + 1) (pc + 1) handler y z, found_as u (n + 1) _ first (body ++ Jump end ∷ cb) n1 f2)
@@ -376,13 +376,13 @@ module _ (P : List Item → Type 0) (stays : (c : Successor) (k : List Item) →
         let x : UWhat-F UWhat UStmt = UWhat-F.AssignNext y z in
         let s = line_of l (roll-UWhat x) in
         marked l x kind.Next refl _ (λ pc. refl) (λ pc. refl) (at_items l x) (λ n k. refl)
-        (λ pc n stop k whole h ends rest told.
+        (λ pc n stop k whole h ends rest has_property.
         let at = pc + 1 + 1 in
         let e : n + 1 + 0 - 1 ≡ n = omega arith in
         let z0 : n + 1 + 0 ≡ n + 1 = omega arith in
         let second = renumber u _ (n + 1) at (half_what x l at) z0 h.1 in
         let stops : stop ≡ at + 3 = omega (arith, ends) in
-        let found : Found P u at (record { kind = kind.Quiet; line = l; number = n; halfway = true }) = record { stmt = s; rest = k; told = told; here = half_here x s n stop at k (out-roll-UWhat x) tt second stops rest } in
+        let found : Found P u at (record { kind = kind.Quiet; line = l; number = n; halfway = true }) = record { stmt = s; rest = k; has_property = has_property; here = half_here x s n stop at k (out-roll-UWhat x) tt second stops rest } in
         (tt, (subst (λ i. Found P u at (record { kind = kind.Quiet; line = l; number = i; halfway = true })) (sym e) found, (tt, (tt, tt)))))
 
     next_assign_marks : (l y : ℕ) (e : UExpr) → MarksOf (line_of l (roll-UWhat (UWhat-F.NextAssign y e)))
@@ -390,7 +390,7 @@ module _ (P : List Item → Type 0) (stays : (c : Successor) (k : List Item) →
         let x : UWhat-F UWhat UStmt = UWhat-F.NextAssign y e in
         let s = line_of l (roll-UWhat x) in
         marked l x kind.Quiet refl _ (λ pc. refl) (λ pc. refl) (at_items l x) (λ n k. refl)
-        (λ pc n stop k whole h ends rest told.
+        (λ pc n stop k whole h ends rest has_property.
         let c = machine_expr e (pc + 1) in
         let cs = c ++ Set y ∷ [] in
         let at = pc + 1 + length cs in
@@ -400,7 +400,7 @@ module _ (P : List Item → Type 0) (stays : (c : Successor) (k : List Item) →
         let e : m - 1 ≡ n = omega (arith, same_m) in
         let there = renumber u _ (n + 1) at second same_m (has_back u (n + 1) (pc + 1) cs second h) in
         let stops : stop ≡ at + 2 = omega (arith, ends, length-append cs second) in
-        let found : Found P u at (record { kind = kind.Next; line = l; number = n; halfway = true }) = record { stmt = s; rest = k; told = told; here = half_here x s n stop at k (out-roll-UWhat x) tt there stops rest } in
+        let found : Found P u at (record { kind = kind.Next; line = l; number = n; halfway = true }) = record { stmt = s; rest = k; has_property = has_property; here = half_here x s n stop at k (out-roll-UWhat x) tt there stops rest } in
         found_both u (n + 1) (pc + 1) cs second (then_one (n + 1) (pc + 1) c (Set y) (expr_computes e_of (pc + 1)) (λ n pc. tt))
         (subst (λ i. Found P u at (record { kind = kind.Next; line = l; number = i; halfway = true })) (sym e) found, (tt, tt)))
       where
@@ -426,12 +426,12 @@ module _ (P : List Item → Type 0) (stays : (c : Successor) (k : List Item) →
     by_kind (UWhat-F.If e a b) l = if_marks l e (map (λ e. e.0) a) (map (λ e. e.0) b) (all_marks a) (all_marks b)
     by_kind (UWhat-F.While e a) l = while_marks l e (map (λ e. e.0) a) (all_marks a)
     by_kind (UWhat-F.For first e step body) l = for_marks l (map (λ e. e.0) first) e (map (λ e. e.0) step) (map (λ e. e.0) body) (all_marks first) (all_marks step) (all_marks body)
-    by_kind (UWhat-F.Block a) l = λ pc n k has st told.
+    by_kind (UWhat-F.Block a) l = λ pc n k has st has_property.
         let w = bare (UWhat-F.Block a) in
         let ss = map (λ e. e.0) a in
         let c : machine_stmt u.units (line_of l (roll-UWhat w)) pc ≡ machine_stmts u.units ss pc = ap (λ f. f pc) (code_roll u.units l w) in
         let i : items (line_of l (roll-UWhat w)) n ≡ items_all ss n = at_items l w n in
-        let inner = in_list ss (all_marks a) pc n k (subst (HasAt u n pc) c has) (subst (λ c. IsCodeOf u (pc + length c) k) c st) (subst (λ j. P (j ++ k)) i told) in
+        let inner = in_list ss (all_marks a) pc n k (subst (HasAt u n pc) c has) (subst (λ c. IsCodeOf u (pc + length c) k) c st) (subst (λ j. P (j ++ k)) i has_property) in
         (inner.0, subst (AllFound u n pc) (sym c) inner.1)
     by_kind (UWhat-F.Call c) l = let w = bare (UWhat-F.Call c) in plain l w kind.Quiet refl _ (λ pc. refl) (λ pc. refl) (at_items l w) (λ n k. refl) (λ n pc. call_found c n (pc + 1))
     by_kind (UWhat-F.Try a x y b) l = try_marks l (map (λ e. e.0) a) x y (map (λ e. e.0) b) (all_marks a) (all_marks b)
@@ -469,9 +469,9 @@ module _ (P : List Item → Type 0) (stays : (c : Successor) (k : List Item) →
         let has = unit_has u e in
         let end = (has_back u 0 0 body (End 0 ∷ []) has).0 in
         let st = code_end (0 + length body) (0 + statements_in body) end in
-        let told = subst P (sym (append-nil (items_all u.body 0))) first in
+        let has_property = subst P (sym (append-nil (items_all u.body 0))) first in
         let counted : 0 + statements_in body ≡ size_all u.body = omega (arith, count_all u.units u.body 0) in
-        found_both u 0 0 body (End 0 ∷ []) (in_list u.body (each_marks u.body) 0 0 [] (has_front u 0 0 body (End 0 ∷ []) has) st told).1 (counted, tt)
+        found_both u 0 0 body (End 0 ∷ []) (in_list u.body (each_marks u.body) 0 0 [] (has_front u 0 0 body (End 0 ∷ []) has) st has_property).1 (counted, tt)
 
     found_at : u.code ≡ machine_unit u.units u.body → P (items_all u.body 0) → (pc : ℕ) (i : MachineInstr) → fetch u pc ≡ Some i → IsFoundAt P u pc i
     found_at e first pc i h =
@@ -479,10 +479,10 @@ module _ (P : List Item → Type 0) (stays : (c : Successor) (k : List Item) →
         let there : slice_get (machine_unit u.units u.body) pc ≡ Some i = ap (λ c. slice_get c pc) (sym e) ∙ h in
         subst (λ p. IsFoundAt P u p i) z (looked_up (machine_stmts u.units u.body 0 ++ End 0 ∷ []) 0 0 pc i (unit_found e first) there)
 
-pub mark_tells : (u : CodedUnit) → u.code ≡ machine_unit u.units u.body → (pc : ℕ) (m : MarkOf) → fetch u pc ≡ Some (Mark m) → IsPlaceOf u pc (left_all u.body m.number) m.halfway
-mark_tells u e pc m h =
-    let found : Found (IsRestOf u.body) u pc m = found_at (IsRestOf u.body) (told_followed u.body) u e (told_first u.body) pc (Mark m) h in
-    subst (λ k. IsPlaceOf u pc k m.halfway) (sym found.told) found.here
+pub mark_place : (u : CodedUnit) → u.code ≡ machine_unit u.units u.body → (pc : ℕ) (m : MarkOf) → fetch u pc ≡ Some (Mark m) → IsPlaceOf u pc (left_all u.body m.number) m.halfway
+mark_place u e pc m h =
+    let found : Found (IsRestOf u.body) u pc m = found_at (IsRestOf u.body) (rest_followed u.body) u e (rest_first u.body) pc (Mark m) h in
+    subst (λ k. IsPlaceOf u pc k m.halfway) (sym found.has_property) found.here
 
-pub end_tells : (u : CodedUnit) → u.code ≡ machine_unit u.units u.body → (pc n : ℕ) → fetch u pc ≡ Some (End n) → n ≡ size_all u.body
-end_tells u e pc n h = found_at (IsRestOf u.body) (told_followed u.body) u e (told_first u.body) pc (End n) h
+pub end_number : (u : CodedUnit) → u.code ≡ machine_unit u.units u.body → (pc n : ℕ) → fetch u pc ≡ Some (End n) → n ≡ size_all u.body
+end_number u e pc n h = found_at (IsRestOf u.body) (rest_followed u.body) u e (rest_first u.body) pc (End n) h

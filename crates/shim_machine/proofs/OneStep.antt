@@ -20,10 +20,10 @@ use Rattle.shim_machine.specs.CodeRuns.{RunsTo, machine_at}
 use Rattle.shim_machine.specs.Simulation.{AreCodesOf, AreBounded, ComesToMark, ComesToTrap, Does, NextSuits, Suits, step_room}
 use Rattle.shim_machine.proofs.Exprs.{has_front, has_back, leads_one, or_runs, runs, step}
 use Rattle.shim_machine.proofs.Enters.{count_all, count_both, enters_list}
-use Rattle.shim_machine.proofs.Steps.{From, call_case, half_case, if_case, lands_at, loop_case, make_case, no_stmts, no_stmts_or, renumber, store_case, told_after, try_case}
+use Rattle.shim_machine.proofs.Steps.{From, call_case, half_case, if_case, resumes_at, loop_case, make_case, no_stmts, no_stmts_or, renumber, store_case, rest_after, try_case}
 
 module _ (codes : Codes) (most : ℕ) (short : AreBounded codes most) (n : ℕ) (s : UStmt) (k : List Item) (l : LocalState) (back : List ReturnPlace) (hs : List ℕ) (r : Returns codes back l.callers) (hd : Handles (codes l.frame.unit) hs l.frame.places) (same : l.frame.todo ≡ Do n s ∷ k)
-    (told : IsRestOf (codes l.frame.unit).body (Do n s ∷ k)) where
+    (is_rest : IsRestOf (codes l.frame.unit).body (Do n s ∷ k)) where
   abbrev u : CodedUnit
   u = codes l.frame.unit
 
@@ -31,7 +31,7 @@ module _ (codes : Codes) (most : ℕ) (short : AreBounded codes most) (n : ℕ) 
   at pc = machine pc hs back s.line l
 
   abbrev Gives : ℕ → UWhat-F UWhat UStmt → Action → Type 0
-  Gives pc x a = From codes most short n s k l back hs r hd same told (at pc) x a
+  Gives pc x a = From codes most short n s k l back hs r hd same is_rest (at pc) x a
 
   -- an assignment, and the first part of one that meets behind it
   assign_first : (y : ℕ) (e : UExpr) (pc stop : ℕ) → (let x : UWhat-F UWhat UStmt = UWhat-F.NextAssign y e in out-UWhat s.what ≡ x → HasAt u n pc (point_what u.units x s.line pc) → stop ≡ pc + length (point_what u.units x s.line pc) → IsCodeOf u stop k → Gives (pc + 1) x (action (StoreFirst y) (value e (env_of l.locations l.frame.slots))))
@@ -52,7 +52,7 @@ module _ (codes : Codes) (most : ℕ) (short : AreBounded codes most) (n : ℕ) 
       let there = subst (λ p. HasAt u (n + 1) p (half_what x s.line p)) z1 back_at in
       let same_number : n + 1 - 1 ≡ n = omega arith in
       let hm = there.0 ∙ ap (λ i. Some (mark kind.Next s.line i true)) same_number in
-      half_case codes most short n s k l back hs r hd same told x (pc + 1) pc1 stop y kind.Next _ ex tt (runs codes e m (n + 1) hc) (has_back u (n + 1) (pc + 1) c (Set y ∷ []) h.1).0 hm there e1 rest
+      half_case codes most short n s k l back hs r hd same is_rest x (pc + 1) pc1 stop y kind.Next _ ex tt (runs codes e m (n + 1) hc) (has_back u (n + 1) (pc + 1) c (Set y ∷ []) h.1).0 hm there e1 rest
 
   read_case : (y i pc stop : ℕ) → (let x : UWhat-F UWhat UStmt = UWhat-F.Get y i in out-UWhat s.what ≡ x → HasAt u n pc (point_what u.units x s.line pc) → stop ≡ pc + length (point_what u.units x s.line pc) → IsCodeOf u stop k → Gives (pc + 1) x (Read y))
   read_case y i pc stop ex has ends rest =
@@ -62,7 +62,7 @@ module _ (codes : Codes) (most : ℕ) (short : AreBounded codes most) (n : ℕ) 
       let m2 = machine (pc + 1 + 1 + 1) hs back s.line l' in
       let e1 : pc + 1 + 1 + 1 ≡ stop = omega (arith, ends) in
       let lead : RunsTo codes m m2 = record { by = λ j. (suc (suc j), omega arith, step codes m (Get i) has.1.0 (suc j) ∙ step codes m1 (Set y) has.1.1.0 j) } in
-      lands_at codes most short n s k l back hs r hd same told (pc + 1) stop k l'.locations l'.made l'.input_at (told_after codes most short n s k l back hs r hd same told (UWhat-F.Get y i) On ex) rest
+      resumes_at codes most short n s k l back hs r hd same is_rest (pc + 1) stop k l'.locations l'.made l'.input_at (rest_after codes most short n s k l back hs r hd same is_rest (UWhat-F.Get y i) On ex) rest
       (subst (λ p. RunsTo codes m (machine p hs back s.line l')) e1 lead)
 
   as_tried : (a : List UStmt) (y : ℕ) (z : Option ℕ) (b : List UStmt) (pc : ℕ) → (let x : UWhat-F UWhat UStmt = UWhat-F.Try a y z b in Gives (pc + 1) x (limited (is_full l) (Install y (try_name (unit_at l.program l.frame.unit) y) z)) → Gives (pc + 1) x (what_action x (statement_view l)))
@@ -76,35 +76,35 @@ module _ (codes : Codes) (most : ℕ) (short : AreBounded codes most) (n : ℕ) 
       let c = machine_expr_or (pos 0) e (pc + 1) in
       let pc1 = pc + 1 + length c in
       let e1 : stop ≡ pc1 + 1 = omega (arith, ends, length-append c (Declares t y ∷ [])) in
-      make_case codes most short n s k l back hs r hd same told (pc + 1) pc1 stop y t (UWhat-F.Declare t y e) _ ex refl (or_runs codes (pos 0) e m (n + 1) (has_front u (n + 1) (pc + 1) c (Declares t y ∷ []) has.1)) (has_back u (n + 1) (pc + 1) c (Declares t y ∷ []) has.1).0 e1 rest
+      make_case codes most short n s k l back hs r hd same is_rest (pc + 1) pc1 stop y t (UWhat-F.Declare t y e) _ ex refl (or_runs codes (pos 0) e m (n + 1) (has_front u (n + 1) (pc + 1) c (Declares t y ∷ []) has.1)) (has_back u (n + 1) (pc + 1) c (Declares t y ∷ []) has.1).0 e1 rest
   from_kind (UWhat-F.Assign y e) pc stop of eh fit ex whole has ends rest =
       let m = at (pc + 1) in
       let c = machine_expr e (pc + 1) in
       let pc1 = pc + 1 + length c in
       let e1 : stop ≡ pc1 + 1 = omega (arith, ends, length-append c (Set y ∷ [])) in
-      store_case codes most short n s k l back hs r hd same told (pc + 1) pc1 stop y (UWhat-F.Assign y e) _ ex refl (runs codes e m (n + 1) (has_front u (n + 1) (pc + 1) c (Set y ∷ []) has.1)) (has_back u (n + 1) (pc + 1) c (Set y ∷ []) has.1).0 e1 rest
+      store_case codes most short n s k l back hs r hd same is_rest (pc + 1) pc1 stop y (UWhat-F.Assign y e) _ ex refl (runs codes e m (n + 1) (has_front u (n + 1) (pc + 1) c (Set y ∷ []) has.1)) (has_back u (n + 1) (pc + 1) c (Set y ∷ []) has.1).0 e1 rest
   from_kind (UWhat-F.NextAssign y e) pc stop of eh fit ex whole has ends rest =
       subst (λ b. Gives (pc + 1) (UWhat-F.NextAssign y e) (if b then Wait else action (StoreFirst y) (value e (env_of l.locations l.frame.slots)))) (sym eh) (assign_first y e pc stop ex has ends rest)
   from_kind (UWhat-F.AssignNext y z) pc stop of eh fit ex whole has ends rest =
       subst (λ b. Gives (pc + 1) (UWhat-F.AssignNext y z) (if b then Store y (env_of l.locations l.frame.slots z) else Wait)) (sym eh) tt
   from_kind (UWhat-F.Get y i) pc stop of eh fit ex whole has ends rest = read_case y i pc stop ex has ends rest
-  from_kind (UWhat-F.If e a b) pc stop of eh fit ex whole has ends rest = if_case codes most short n s k l back hs r hd same told e a b pc stop ex has ends rest
+  from_kind (UWhat-F.If e a b) pc stop of eh fit ex whole has ends rest = if_case codes most short n s k l back hs r hd same is_rest e a b pc stop ex has ends rest
   from_kind (UWhat-F.While e a) pc stop of eh fit ex whole has ends rest =
-      loop_case codes most short n s k l back hs r hd same told (UWhat-F.While e a) (machine_expr e) _ (machine_stmts u.units a) (λ k. items_all a (n + 1) ++ k) pc stop ex (no_stmts u.units e pc) whole has ends rest refl refl
+      loop_case codes most short n s k l back hs r hd same is_rest (UWhat-F.While e a) (machine_expr e) _ (machine_stmts u.units a) (λ k. items_all a (n + 1) ++ k) pc stop ex (no_stmts u.units e pc) whole has ends rest refl refl
       (λ h. runs codes e (at (pc + 1)) (n + 1) h)
       (λ place k h st. enters_list u a place (n + 1) k h st)
   from_kind (UWhat-F.For f e st b) pc stop of eh fit ex whole has ends rest =
-      loop_case codes most short n s k l back hs r hd same told (UWhat-F.For f e st b) (machine_expr_or (pos 1) e) _ (sequence (machine_stmts u.units b) (machine_stmts u.units st)) (λ k. items_all b (n + 1) ++ (items_all st (n + 1 + size_all b) ++ k)) pc stop ex (no_stmts_or u.units (pos 1) e pc) whole has ends rest refl refl
+      loop_case codes most short n s k l back hs r hd same is_rest (UWhat-F.For f e st b) (machine_expr_or (pos 1) e) _ (sequence (machine_stmts u.units b) (machine_stmts u.units st)) (λ k. items_all b (n + 1) ++ (items_all st (n + 1 + size_all b) ++ k)) pc stop ex (no_stmts_or u.units (pos 1) e pc) whole has ends rest refl refl
       (λ h. or_runs codes (pos 1) e (at (pc + 1)) (n + 1) h)
-      (λ place k h stands.
+      (λ place k h is_code.
       let cb = machine_stmts u.units b place in
       let cs = machine_stmts u.units st (place + length cb) in
       let z : place + length (cb ++ cs) ≡ place + length cb + length cs = omega (arith, length-append cb cs) in
       let counted : n + 1 + statements_in cb ≡ n + 1 + size_all b = ap (λ c. n + 1 + c) (count_all u.units b place) in
       let hs = renumber u _ (n + 1 + size_all b) (place + length cb) cs counted (has_back u (n + 1) place cb cs h) in
-      enters_list u b place (n + 1) (items_all st (n + 1 + size_all b) ++ k) (has_front u (n + 1) place cb cs h) (enters_list u st (place + length cb) (n + 1 + size_all b) k hs (subst (λ p. IsCodeOf u p k) z stands)))
-  from_kind (UWhat-F.Call c) pc stop of eh fit ex whole has ends rest = call_case codes most short n s k l back hs r hd same told c pc stop of fit ex has ends rest
-  from_kind (UWhat-F.Try a y z b) pc stop of eh fit ex whole has ends rest = as_tried a y z b pc (try_case codes most short n s k l back hs r hd same told a y z b pc stop ex has ends rest)
+      enters_list u b place (n + 1) (items_all st (n + 1 + size_all b) ++ k) (has_front u (n + 1) place cb cs h) (enters_list u st (place + length cb) (n + 1 + size_all b) k hs (subst (λ p. IsCodeOf u p k) z is_code)))
+  from_kind (UWhat-F.Call c) pc stop of eh fit ex whole has ends rest = call_case codes most short n s k l back hs r hd same is_rest c pc stop of fit ex has ends rest
+  from_kind (UWhat-F.Try a y z b) pc stop of eh fit ex whole has ends rest = as_tried a y z b pc (try_case codes most short n s k l back hs r hd same is_rest a y z b pc stop ex has ends rest)
   from_kind (UWhat-F.Block a) pc stop of eh fit ex whole has ends rest = tt
   from_kind (UWhat-F.Next y) pc stop of eh fit ex whole has ends rest = tt
   from_kind (UWhat-F.Put o e) pc stop of eh fit ex whole has ends rest = tt
@@ -122,7 +122,7 @@ module _ (codes : Codes) (most : ℕ) (short : AreBounded codes most) (n : ℕ) 
       let lead = leads_one codes (at (pc + 1)) (machine_at (at (pc + 1)) (pc + 1 + 1) (v ∷ [])) (Var z) has.1.0 lt (λ go. refl) in
       let e1 : stop ≡ pc + 1 + 1 + 1 = omega (arith, ends) in
       subst (λ b. Gives (pc + 1) (UWhat-F.AssignNext y z) (if b then Store y v else Wait)) (sym eh)
-      (store_case codes most short n s k l back hs r hd same told (pc + 1) (pc + 1 + 1) stop y (UWhat-F.AssignNext y z) (Ok v) ex refl lead has.1.1.0 e1 rest)
+      (store_case codes most short n s k l back hs r hd same is_rest (pc + 1) (pc + 1 + 1) stop y (UWhat-F.AssignNext y z) (Ok v) ex refl lead has.1.1.0 e1 rest)
   from_half (UWhat-F.Declare t y e) pc stop eh is ex has ends rest = absurd is
   from_half (UWhat-F.Assign y e) pc stop eh is ex has ends rest = absurd is
   from_half (UWhat-F.Next y) pc stop eh is ex has ends rest = absurd is
@@ -158,15 +158,15 @@ module _ (codes : Codes) (most : ℕ) (short : AreBounded codes most) (n : ℕ) 
 -- by where it stands
 from_mark : (codes : Codes) (most : ℕ) → AreBounded codes most → (l : LocalState) (pc : ℕ) (back : List ReturnPlace) (hs : List ℕ) (h : Bool) (todo : List Item) → AreCodesOf codes l.program → l.frame.todo ≡ todo → l.frame.halfway ≡ h → NextSuits todo l → IsRestOf (codes l.frame.unit).body todo
     → IsPlaceOf (codes l.frame.unit) pc todo h → Handles (codes l.frame.unit) hs l.frame.places → Returns codes back l.callers → Does codes (step_room most (length l.callers)) (machine (pc + 1) hs back (line_of todo) l) (stmt_action (next_stmt todo) (statement_view l)) l
-from_mark codes most short l _ back hs false _ of e eh fit told (at_end pc n h) hd r = tt
-from_mark codes most short l _ back hs false _ of e eh fit told (at_do pc n stop s k has rest) hd r =
-    does codes most short n s k l back hs r hd e told (pc + 1) (what_action (out-UWhat s.what) (statement_view l))
-    (from_kind codes most short n s k l back hs r hd e told (out-UWhat s.what) pc stop of eh fit refl has has.all has.ends rest)
-from_mark codes most short l _ back hs true _ of e eh fit told (at_half pc n stop s k ih has rest) hd r =
-    does codes most short n s k l back hs r hd e told (pc + 1) (what_action (out-UWhat s.what) (statement_view l))
-    (from_half codes most short n s k l back hs r hd e told (out-UWhat s.what) pc stop eh ih refl has.0 has.1 rest)
+from_mark codes most short l _ back hs false _ of e eh fit is_rest (at_end pc n h) hd r = tt
+from_mark codes most short l _ back hs false _ of e eh fit is_rest (at_do pc n stop s k has rest) hd r =
+    does codes most short n s k l back hs r hd e is_rest (pc + 1) (what_action (out-UWhat s.what) (statement_view l))
+    (from_kind codes most short n s k l back hs r hd e is_rest (out-UWhat s.what) pc stop of eh fit refl has has.all has.ends rest)
+from_mark codes most short l _ back hs true _ of e eh fit is_rest (at_half pc n stop s k ih has rest) hd r =
+    does codes most short n s k l back hs r hd e is_rest (pc + 1) (what_action (out-UWhat s.what) (statement_view l))
+    (from_half codes most short n s k l back hs r hd e is_rest (out-UWhat s.what) pc stop eh ih refl has.0 has.1 rest)
 
 pub one_step : (codes : Codes) (most : ℕ) (l : LocalState) (pc : ℕ) (handlers : List ℕ) (back : List ReturnPlace) → AreCodesOf codes l.program → AreBounded codes most → NextSuits l.frame.todo l → Corresponds codes pc handlers back l
     → Does codes (step_room most (length l.callers)) (machine (pc + 1) handlers back (line_of l.frame.todo) l) (next_action l) l
 unfolding next_action
-one_step codes most l pc handlers back of short fit st = from_mark codes most short l pc back handlers l.frame.halfway l.frame.todo of refl refl fit st.told st.here st.handles st.returns
+one_step codes most l pc handlers back of short fit st = from_mark codes most short l pc back handlers l.frame.halfway l.frame.todo of refl refl fit st.is_rest st.here st.handles st.returns

@@ -1,4 +1,4 @@
--- Of two machines that stand for one state, each place leads where the other's does.
+-- Of two machines that correspond to one state, each place leads where the other's does.
 use Rattle.std.proofs.Common.{◌≡◌, ℕ, suc, ◌+◌, ◌-◌, false, true, List, [], ◌∷◌, length, Some, refl, sym, ap, ◌∙◌, subst, arith}
 use Rattle.std.specs.Prelude.{Bool as TruthValue}
 use Rattle.shim_units.specs.declared.form.Form.{Form}
@@ -24,14 +24,14 @@ record MarkAt (u : CodedUnit) (pc n : ℕ) (h : TruthValue) : Type 0 where
   pub line : ℕ
   pub is : fetch u pc ≡ Some (mark kind line n h)
 
-abbrev TellsAt : CodedUnit → ℕ → List Item → TruthValue → Type 0
-TellsAt u pc [] h = (n : ℕ) × (fetch u pc ≡ Some (End n))
-TellsAt u pc (Do n s ∷ k) h = MarkAt u pc n h
-TellsAt u pc (Leave ∷ k) h = ⊥
+abbrev MarkIs : CodedUnit → ℕ → List Item → TruthValue → Type 0
+MarkIs u pc [] h = (n : ℕ) × (fetch u pc ≡ Some (End n))
+MarkIs u pc (Do n s ∷ k) h = MarkAt u pc n h
+MarkIs u pc (Leave ∷ k) h = ⊥
 
-at_mark_tells : (u : CodedUnit) (pc : ℕ) (k : List Item) → AtStatement u pc k → TellsAt u pc k false
-at_mark_tells u _ _ (at_end pc n h) = (n, h)
-at_mark_tells u _ _ (at_do pc n stop s k has rest) = record { kind = has.kind; line = s.line; is = has.marked }
+at_statement_mark : (u : CodedUnit) (pc : ℕ) (k : List Item) → AtStatement u pc k → MarkIs u pc k false
+at_statement_mark u _ _ (at_end pc n h) = (n, h)
+at_statement_mark u _ _ (at_do pc n stop s k has rest) = record { kind = has.kind; line = s.line; is = has.marked }
 
 -- the second mark of a statement has the number of the first
 half_is : (u : CodedUnit) (x : UWhat-F UWhat UStmt) (pc n line : ℕ) → HasHalves x → HasAt u (n + 1) pc (half_what x line pc) → MarkAt u pc n true
@@ -39,12 +39,12 @@ half_is u (UWhat-F.NextAssign x e) pc n line h has = let z : n + 1 - 1 ≡ n = o
 half_is u (UWhat-F.AssignNext x y) pc n line h has = let z : n + 1 - 1 ≡ n = omega arith in record { kind = kind.Quiet; line = line; is = has.0 ∙ ap (λ m. Some (mark kind.Quiet line m true)) z }
 half_is u x pc n line h has = absurd h
 
-at_half_tells : (u : CodedUnit) (pc : ℕ) (k : List Item) → AtHalf u pc k → TellsAt u pc k true
-at_half_tells u _ _ (at_half pc n stop s k ih has rest) = half_is u (out-UWhat s.what) pc n s.line ih has.0
+at_half_mark : (u : CodedUnit) (pc : ℕ) (k : List Item) → AtHalf u pc k → MarkIs u pc k true
+at_half_mark u _ _ (at_half pc n stop s k ih has rest) = half_is u (out-UWhat s.what) pc n s.line ih has.0
 
-here_tells : (u : CodedUnit) (pc : ℕ) (k : List Item) (h : TruthValue) → IsPlaceOf u pc k h → TellsAt u pc k h
-here_tells u pc k false = at_mark_tells u pc k
-here_tells u pc k true = at_half_tells u pc k
+mark_here : (u : CodedUnit) (pc : ℕ) (k : List Item) (h : TruthValue) → IsPlaceOf u pc k h → MarkIs u pc k h
+mark_here u pc k false = at_statement_mark u pc k
+mark_here u pc k true = at_half_mark u pc k
 
 -- what is to be done behind ends of `try` blocks, and how many these are
 abbrev behind_blocks : List Item → List Item
@@ -71,13 +71,13 @@ leading u _ _ (code_jump pc t k h lt rest) = let l = leading u t k rest in recor
 leading u _ _ (code_back pc t n stop s k h has rest) = record { to = t; leads = past_jump pc t 0 t h (is_mark t _ has.marked); at = at_do t n stop s k has rest }
 
 module _ (u : CodedUnit) (e : u.code ≡ machine_unit u.units u.body) where
-  told_once : (a b : ℕ) (k : List Item) (h : TruthValue) → TellsAt u a k h → TellsAt u b k h → a ≡ b
-  told_once a b [] h ha hb = end_once u e a b ha.0 hb.0 ha.1 hb.1
-  told_once a b (Do n s ∷ k) h ha hb = mark_once u e a b _ _ ha.is hb.is refl refl
-  told_once a b (Leave ∷ k) h ha hb = absurd ha
+  rest_once : (a b : ℕ) (k : List Item) (h : TruthValue) → MarkIs u a k h → MarkIs u b k h → a ≡ b
+  rest_once a b [] h ha hb = end_once u e a b ha.0 hb.0 ha.1 hb.1
+  rest_once a b (Do n s ∷ k) h ha hb = mark_once u e a b _ _ ha.is hb.is refl refl
+  rest_once a b (Leave ∷ k) h ha hb = absurd ha
 
   here_once : (a b : ℕ) (k : List Item) (h : TruthValue) → IsPlaceOf u a k h → IsPlaceOf u b k h → a ≡ b
-  here_once a b k h ha hb = told_once a b k h (here_tells u a k h ha) (here_tells u b k h hb)
+  here_once a b k h ha hb = rest_once a b k h (mark_here u a k h ha) (mark_here u b k h hb)
 
   lead_alike : (a b : ℕ) (k : List Item) → IsCodeOf u a k → IsCodeOf u b k → LeadAlike u a b
   lead_alike a b k ha hb =
@@ -121,7 +121,7 @@ go_on_alike codes program l pc pc' handlers handlers' back back' of a b =
 
 pub comes_to : (codes : Codes) (program : Form) (bound : ℕ) (m : Machine) (l : LocalState) (pc : ℕ) (handlers : List ℕ) (back : List ReturnPlace) → AreCodesOf codes program → ComesToMark codes bound m l → Corresponds codes pc handlers back l → ComesToPlace codes bound m pc handlers back l
 comes_to codes program bound m l pc handlers back of c st =
-    let same = go_on_alike codes program l c.pc pc c.handlers handlers c.back back of c.stands st in
+    let same = go_on_alike codes program l c.pc pc c.handlers handlers c.back back of c.corresponds st in
     record { own_handlers = c.handlers; own_back = c.back; count = c.count; within = c.within; comes = c.comes ∙ ap (λ p. At (between_steps p c.handlers c.back l)) same.0; alike = same.1 }
 
 does_to : (codes : Codes) (program : Form) (bound : ℕ) (m : Machine) (a : Action) (l : LocalState) (pc : ℕ) (handlers : List ℕ) (back : List ReturnPlace) → AreCodesOf codes program → Does codes bound m a l → Corresponds codes pc handlers back (done a l) → DoesTo codes bound m a pc handlers back l

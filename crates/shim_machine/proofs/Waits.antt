@@ -23,9 +23,9 @@ use Rattle.shim_machine.specs.Correspondence.{AtHalf, Handles, HasAt, HasHalves,
 use Rattle.shim_machine.specs.CodeRuns.{Evaluates, machine_at}
 use Rattle.shim_machine.specs.Simulation.{AreBounded, ComesToMark, DoesPut, DoesThrow, MeetsAt, room}
 use Rattle.shim_machine.proofs.Exprs.{has_back, has_front, or_runs, runs, step}
-use Rattle.shim_machine.proofs.Lands.{lands, some_room, within_code}
+use Rattle.shim_machine.proofs.Resuming.{resumes, some_room, within_code}
 use Rattle.shim_machine.proofs.Steps.{renumber}
-use Rattle.shim_machine.proofs.Told.{told_followed}
+use Rattle.shim_machine.proofs.RestOfBody.{rest_followed}
 
 -- what a process that isn't trapped stands at
 untrapped_put : (t : Option TrappedAt) (o : StopView) → stop_or t o ≡ AtPut → o ≡ AtPut
@@ -96,7 +96,7 @@ fork_throw [] z e = cc
 fork_throw (b ∷ bs) z e = cc
 
 module _ (codes : Codes) (most : ℕ) (short : AreBounded codes most) (n : ℕ) (s : UStmt) (k : List Item) (l : LocalState) (back : List ReturnPlace) (hs : List ℕ) (r : Returns codes back l.callers) (hd : Handles (codes l.frame.unit) hs l.frame.places) (same : l.frame.todo ≡ Do n s ∷ k)
-    (told : IsRestOf (codes l.frame.unit).body (Do n s ∷ k)) where
+    (is_rest : IsRestOf (codes l.frame.unit).body (Do n s ∷ k)) where
   abbrev u : CodedUnit
   u = codes l.frame.unit
 
@@ -111,15 +111,15 @@ module _ (codes : Codes) (most : ℕ) (short : AreBounded codes most) (n : ℕ) 
   unfolding gone went
   goes_on x line pc y v ex f st =
       let on : k ≡ followed On l.frame.todo = sym (ap (followed On) same ∙ ap (λ z. follow_what z On n s k) ex ∙ f) in
-      let t : IsRestOf u.body (followed On l.frame.todo) = subst (λ z. IsRestOf u.body (followed On z)) (sym same) (told_followed u.body On (Do n s ∷ k) told) in
-      lands codes most short line l.callers back hs l.frame (stored_in y v l) r pc (followed On l.frame.todo) l.frame.places t hd (subst (IsCodeOf u pc) on st)
+      let t : IsRestOf u.body (followed On l.frame.todo) = subst (λ z. IsRestOf u.body (followed On z)) (sym same) (rest_followed u.body On (Do n s ∷ k) is_rest) in
+      resumes codes most short line l.callers back hs l.frame (stored_in y v l) r pc (followed On l.frame.todo) l.frame.places t hd (subst (IsCodeOf u pc) on st)
 
   goes_plain : (x : UWhat-F UWhat UStmt) (line pc : ℕ) → out-UWhat s.what ≡ x → follow_what x On n s k ≡ k → IsCodeOf u pc k → ComesToMark codes bound (machine pc hs back line l) (gone On l)
   unfolding gone went
   goes_plain x line pc ex f st =
       let on : k ≡ followed On l.frame.todo = sym (ap (followed On) same ∙ ap (λ z. follow_what z On n s k) ex ∙ f) in
-      let t : IsRestOf u.body (followed On l.frame.todo) = subst (λ z. IsRestOf u.body (followed On z)) (sym same) (told_followed u.body On (Do n s ∷ k) told) in
-      lands codes most short line l.callers back hs l.frame l r pc (followed On l.frame.todo) l.frame.places t hd (subst (IsCodeOf u pc) on st)
+      let t : IsRestOf u.body (followed On l.frame.todo) = subst (λ z. IsRestOf u.body (followed On z)) (sym same) (rest_followed u.body On (Do n s ∷ k) is_rest) in
+      resumes codes most short line l.callers back hs l.frame l r pc (followed On l.frame.todo) l.frame.places t hd (subst (IsCodeOf u pc) on st)
 
   put_case : (o : ℕ) (e : UExpr) (pc stop : ℕ) → (let x : UWhat-F UWhat UStmt = UWhat-F.Put o e in out-UWhat s.what ≡ x → HasAt u n pc (point_what u.units x s.line pc) → stop ≡ pc + length (point_what u.units x s.line pc) → IsCodeOf u stop k
       → DoesPut codes bound (machine (pc + 1) hs back s.line l) (value e (env_of l.locations l.frame.slots)) l)
@@ -263,9 +263,9 @@ module _ (codes : Codes) (most : ℕ) (short : AreBounded codes most) (n : ℕ) 
       let lt = near at (mark kind.Quiet s.line n true) hm in
       let some = some_room codes most short line l.callers in
       let stops : stop ≡ at + 3 = omega (arith, ends) in
-      let stands : AtHalf u at (Do n s ∷ k) =
+      let second_half : AtHalf u at (Do n s ∷ k) =
       subst (λ z. HasHalves z → (let c = half_what z s.line at in HasAt u (n + 1) at c × (stop ≡ at + length c)) → AtHalf u at (Do n s ∷ k)) ex (λ i h. at_half at n stop s k i h rest) tt (there, stops) in
-      let tail = told ∙ sym same in
+      let tail = is_rest ∙ sym same in
       record {
         pc = at;
         handlers = hs;
@@ -273,7 +273,7 @@ module _ (codes : Codes) (most : ℕ) (short : AreBounded codes most) (n : ℕ) 
         count = 1;
         within = omega (arith, lt, some);
         comes = step codes m (mark kind.Quiet s.line n true) hm 0 ∙ ap (λ t. At (between_steps at hs back (record l' { frame = record l.frame { todo = t; halfway = true } }))) tail;
-        stands = record { told = subst (IsRestOf u.body) (sym same) told; here = subst (AtHalf u at) (sym same) stands; handles = hd; returns = r };
+        corresponds = record { is_rest = subst (IsRestOf u.body) (sym same) is_rest; here = subst (AtHalf u at) (sym same) second_half; handles = hd; returns = r };
       }
 
   meets_kind : (x : UWhat-F UWhat UStmt) (pc stop : ℕ) (c : NamedChannel) → l.frame.halfway ≡ false → what_stop x (statement_view l) ≡ AtNext c → out-UWhat s.what ≡ x → HasAt u n pc (point_what u.units x s.line pc) → stop ≡ pc + length (point_what u.units x s.line pc) → IsCodeOf u stop k → Meets x pc
@@ -312,34 +312,34 @@ module _ (codes : Codes) (most : ℕ) (short : AreBounded codes most) (n : ℕ) 
 
 puts_at : (codes : Codes) (most : ℕ) → AreBounded codes most → (l : LocalState) (pc : ℕ) (back : List ReturnPlace) (hs : List ℕ) (h : Bool) (todo : List Item) → l.frame.todo ≡ todo → l.frame.halfway ≡ h → IsRestOf (codes l.frame.unit).body todo → IsPlaceOf (codes l.frame.unit) pc todo h
     → Handles (codes l.frame.unit) hs l.frame.places → Returns codes back l.callers → stmt_stop (next_stmt todo) (statement_view l) ≡ AtPut → DoesPut codes (room most (length l.callers)) (machine (pc + 1) hs back (line_of todo) l) (stmt_put (next_stmt todo) (statement_view l)) l
-puts_at codes most short l _ back hs false _ e eh told (at_end pc n h) hd r at = absurd (finish_put at)
-puts_at codes most short l _ back hs false _ e eh told (at_do pc n stop s k has rest) hd r at = puts_kind codes most short n s k l back hs r hd e told (out-UWhat s.what) pc stop eh at refl has.all has.ends rest
-puts_at codes most short l _ back hs true _ e eh told (at_half pc n stop s k ih has rest) hd r at = absurd (no_half_put codes most short n s k l back hs r hd e told (out-UWhat s.what) eh ih at)
+puts_at codes most short l _ back hs false _ e eh is_rest (at_end pc n h) hd r at = absurd (finish_put at)
+puts_at codes most short l _ back hs false _ e eh is_rest (at_do pc n stop s k has rest) hd r at = puts_kind codes most short n s k l back hs r hd e is_rest (out-UWhat s.what) pc stop eh at refl has.all has.ends rest
+puts_at codes most short l _ back hs true _ e eh is_rest (at_half pc n stop s k ih has rest) hd r at = absurd (no_half_put codes most short n s k l back hs r hd e is_rest (out-UWhat s.what) eh ih at)
 
 pub does_put : (codes : Codes) (most : ℕ) (l : LocalState) (pc : ℕ) (handlers : List ℕ) (back : List ReturnPlace) → AreBounded codes most → Corresponds codes pc handlers back l → stop l ≡ AtPut → DoesPut codes (room most (length l.callers)) (machine (pc + 1) handlers back (line_of l.frame.todo) l) (put_value l) l
 unfolding stop
-does_put codes most l pc handlers back short st at = puts_at codes most short l pc back handlers l.frame.halfway l.frame.todo refl refl st.told st.here st.handles st.returns (untrapped_put l.trap _ at)
+does_put codes most l pc handlers back short st at = puts_at codes most short l pc back handlers l.frame.halfway l.frame.todo refl refl st.is_rest st.here st.handles st.returns (untrapped_put l.trap _ at)
 
 throws_at : (codes : Codes) (most : ℕ) → AreBounded codes most → (l : LocalState) (pc : ℕ) (back : List ReturnPlace) (hs : List ℕ) (h : Bool) (todo : List Item) (z : ℕ) → l.frame.todo ≡ todo → l.frame.halfway ≡ h → IsRestOf (codes l.frame.unit).body todo → IsPlaceOf (codes l.frame.unit) pc todo h
     → Handles (codes l.frame.unit) hs l.frame.places → Returns codes back l.callers → stmt_stop (next_stmt todo) (statement_view l) ≡ AtThrow z → DoesThrow codes (room most (length l.callers)) (machine (pc + 1) hs back (line_of todo) l) z (stmt_thrown (next_stmt todo) (statement_view l)) l
-throws_at codes most short l _ back hs false _ z e eh told (at_end pc n h) hd r at = absurd (finish_throw z at)
-throws_at codes most short l _ back hs false _ z e eh told (at_do pc n stop s k has rest) hd r at = throws_kind codes most short n s k l back hs r hd e told (out-UWhat s.what) z pc stop eh at has.all
-throws_at codes most short l _ back hs true _ z e eh told (at_half pc n stop s k ih has rest) hd r at = absurd (no_half_throw codes most short n s k l back hs r hd e told (out-UWhat s.what) z eh ih at)
+throws_at codes most short l _ back hs false _ z e eh is_rest (at_end pc n h) hd r at = absurd (finish_throw z at)
+throws_at codes most short l _ back hs false _ z e eh is_rest (at_do pc n stop s k has rest) hd r at = throws_kind codes most short n s k l back hs r hd e is_rest (out-UWhat s.what) z pc stop eh at has.all
+throws_at codes most short l _ back hs true _ z e eh is_rest (at_half pc n stop s k ih has rest) hd r at = absurd (no_half_throw codes most short n s k l back hs r hd e is_rest (out-UWhat s.what) z eh ih at)
 
 pub does_throw : (codes : Codes) (most : ℕ) (l : LocalState) (pc : ℕ) (handlers : List ℕ) (back : List ReturnPlace) (z : ℕ) → AreBounded codes most → Corresponds codes pc handlers back l → stop l ≡ AtThrow z
     → DoesThrow codes (room most (length l.callers)) (machine (pc + 1) handlers back (line_of l.frame.todo) l) z (thrown_value l) l
 unfolding stop
-does_throw codes most l pc handlers back z short st at = throws_at codes most short l pc back handlers l.frame.halfway l.frame.todo z refl refl st.told st.here st.handles st.returns (untrapped_throw l.trap _ z at)
+does_throw codes most l pc handlers back z short st at = throws_at codes most short l pc back handlers l.frame.halfway l.frame.todo z refl refl st.is_rest st.here st.handles st.returns (untrapped_throw l.trap _ z at)
 
 meets_at : (codes : Codes) (most : ℕ) → AreBounded codes most → (l : LocalState) (pc : ℕ) (back : List ReturnPlace) (hs : List ℕ) (h : Bool) (todo : List Item) (c : NamedChannel) → l.frame.todo ≡ todo → l.frame.halfway ≡ h → IsRestOf (codes l.frame.unit).body todo → IsPlaceOf (codes l.frame.unit) pc todo h
     → Handles (codes l.frame.unit) hs l.frame.places → Returns codes back l.callers → stmt_stop (next_stmt todo) (statement_view l) ≡ AtNext c
     → (slot : ℕ) × (fetch (codes l.frame.unit) (pc + 1) ≡ Some (Next slot)) × ((line : ℕ) (v : ℤ) → ComesToMark codes (room most (length l.callers)) (machine (pc + 1 + 1) hs back line (stored_in slot v l)) (stmt_receive (next_stmt todo) v l))
-meets_at codes most short l _ back hs false _ c e eh told (at_end pc n h) hd r at = absurd (finish_next c at)
-meets_at codes most short l _ back hs false _ c e eh told (at_do pc n stop s k has rest) hd r at = meets_kind codes most short n s k l back hs r hd e told (out-UWhat s.what) pc stop c eh at refl has.all has.ends rest
-meets_at codes most short l _ back hs true _ c e eh told (at_half pc n stop s k ih has rest) hd r at = meets_half codes most short n s k l back hs r hd e told (out-UWhat s.what) pc stop c eh ih at refl has.0 has.1 rest
+meets_at codes most short l _ back hs false _ c e eh is_rest (at_end pc n h) hd r at = absurd (finish_next c at)
+meets_at codes most short l _ back hs false _ c e eh is_rest (at_do pc n stop s k has rest) hd r at = meets_kind codes most short n s k l back hs r hd e is_rest (out-UWhat s.what) pc stop c eh at refl has.all has.ends rest
+meets_at codes most short l _ back hs true _ c e eh is_rest (at_half pc n stop s k ih has rest) hd r at = meets_half codes most short n s k l back hs r hd e is_rest (out-UWhat s.what) pc stop c eh ih at refl has.0 has.1 rest
 
 pub does_meet : (codes : Codes) (most : ℕ) (l : LocalState) (pc : ℕ) (handlers : List ℕ) (back : List ReturnPlace) (c : NamedChannel) → AreBounded codes most → Corresponds codes pc handlers back l → stop l ≡ AtNext c → MeetsAt codes (room most (length l.callers)) pc handlers back l
 unfolding stop receive
 does_meet codes most l pc handlers back c short st at =
-    let m = meets_at codes most short l pc back handlers l.frame.halfway l.frame.todo c refl refl st.told st.here st.handles st.returns (untrapped_next l.trap _ c at) in
+    let m = meets_at codes most short l pc back handlers l.frame.halfway l.frame.todo c refl refl st.is_rest st.here st.handles st.returns (untrapped_next l.trap _ c at) in
     record { slot = m.0; named = m.1; goes_on = m.2 }

@@ -1,4 +1,4 @@
--- What is told of the places of a process in its code by its state alone.
+-- What is known of the places of a process in its code by its state alone.
 use Rattle.std.specs.Prelude.{◌≡◌, ◌≤◌, ℕ, suc, ◌+◌, List, [], ◌∷◌, Some}
 use Rattle.shim_process.specs.LocalState.{Frame, LocalState}
 use Rattle.shim_process.specs.Steps.{Action, Trapped, Wait, done}
@@ -33,7 +33,7 @@ ReturnAlike codes [] [] [] = Unit {0}
 ReturnAlike codes (f ∷ callers) (x ∷ xs) (y ∷ ys) = LeadAlike (codes f.unit) x.place y.place × (AllLeadAlike (codes f.unit) x.handlers y.handlers × ReturnAlike codes callers xs ys)
 ReturnAlike codes _ _ _ = ⊥
 
--- The handlers and the callers of a process lead to the same marks by either places. The places themselves may differ, since a jump to a mark may stand for it.
+-- The handlers and the callers of a process lead to the same marks by either places. The places themselves may differ, since a jump to a mark may be in its place.
 pub record GoOnAlike (codes : Codes) (l : LocalState) (handlers : List ℕ) (back : List ReturnPlace) (handlers' : List ℕ) (back' : List ReturnPlace) : Type 0 where
   pub caught : AllLeadAlike (codes l.frame.unit) handlers handlers'
   pub returned : ReturnAlike codes l.callers back back'

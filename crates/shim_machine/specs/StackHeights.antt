@@ -1,4 +1,4 @@
--- How many numbers are on the stack at each place of a unit's code, told by the code alone.
+-- How many numbers are on the stack at each place of a unit's code, by the code alone.
 use Rattle.std.specs.Prelude.{◌≡◌, ◌≤◌, ℕ, ◌+◌, ◌-◌, List, [], ◌∷◌, take}
 use Rattle.shim_code.specs.declared.machine_instr.MachineInstr.{MachineInstr}
 use Rattle.shim_code.specs.declared.machine_instr.MachineInstr.TheVariants.{Mark, Num, Var, Un, Bin, Bool, Jump, JumpZ, Declare, Set, Get, Put, Fresh, Call, Try, TryInto, Untry, Throw, End}

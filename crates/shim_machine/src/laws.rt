@@ -39,7 +39,7 @@ pub fn expressions()
 /// Where the code of what follows a statement stands, the machine comes to the mark at which the
 /// process stands then, past the ends of `try` blocks and of called units, in so many instructions at
 /// most.
-pub fn landing()
+pub fn resuming()
     ensures { (codes : Codes) (most line pc : ℕ) (handlers : List ℕ) (back : List ReturnPlace) (successor : Successor) (l : LocalState) → AreBounded codes most → IsRestOf (codes l.frame.unit).body l.frame.todo → Handles (codes l.frame.unit) handlers l.frame.places → Returns codes back l.callers → IsCodeOf (codes l.frame.unit) pc (followed successor l.frame.todo) → ComesToMark codes (room most (length l.callers)) (machine pc handlers back line l) (gone successor l) }
 {}
 
@@ -72,7 +72,7 @@ pub fn a_larger_bound()
 
 /// At each mark of a unit's code stands what is left of the unit's text from the mark's number on, with
 /// the first part done where the mark is a second one.
-pub fn a_mark_tells_where_it_stands()
+pub fn a_mark_has_its_place()
     ensures { (u : CodedUnit) → u.code ≡ machine_unit u.units u.body → (pc : ℕ) (m : MarkOf) → fetch u pc ≡ Some (Mark m) → IsPlaceOf u pc (left_all u.body m.number) m.halfway }
 {}
 
@@ -81,8 +81,8 @@ pub fn an_end_has_the_last_number()
     ensures { (u : CodedUnit) → u.code ≡ machine_unit u.units u.body → (pc n : ℕ) → fetch u pc ≡ Some (End n) → n ≡ size_all u.body }
 {}
 
-/// The mark at its place tells at what a process stands.
-pub fn a_mark_tells_the_stop()
+/// The mark at its place says at what a process is.
+pub fn a_mark_decides_the_stop()
     ensures { (u : CodedUnit) (pc : ℕ) (l : LocalState) → IsPlaceOf u pc l.frame.todo l.frame.halfway → stop l ≡ place_stop u pc l }
 {}
 
@@ -98,8 +98,8 @@ pub fn throw()
     ensures { (codes : Codes) (most : ℕ) (l : LocalState) (pc : ℕ) (handlers : List ℕ) (back : List ReturnPlace) (label : ℕ) → AreBounded codes most → Corresponds codes pc handlers back l → stop l ≡ AtThrow label → DoesThrow codes (room most (length l.callers)) (machine (pc + 1) handlers back (line_of l.frame.todo) l) label (thrown_value l) l }
 {}
 
-/// Behind the mark of a meeting stands the slot that it is on, and from behind that the machine comes to
-/// where the process stands after the meeting.
+/// Behind the mark of a rendezvous is the slot that it is on, and from behind that the machine comes to where
+/// the process is after the rendezvous.
 pub fn receive()
     ensures { (codes : Codes) (most : ℕ) (l : LocalState) (pc : ℕ) (handlers : List ℕ) (back : List ReturnPlace) (c : NamedChannel) → AreBounded codes most → Corresponds codes pc handlers back l → stop l ≡ AtNext c → MeetsAt codes (room most (length l.callers)) pc handlers back l }
 {}
@@ -116,14 +116,14 @@ pub fn fork()
     ensures { (codes : Codes) (most : ℕ) (l : LocalState) (pc : ℕ) (handlers : List ℕ) (back : List ReturnPlace) → AreCodesOf codes l.program → AreBounded codes most → NextSuits l.frame.todo l → Corresponds codes pc handlers back l → stop l ≡ AtFork → DoesFork codes (room most (length l.callers)) (machine (pc + 1) handlers back (line_of l.frame.todo) l) (all_arguments l (item_branches l.frame.todo)) l }
 {}
 
-/// What comes back of what the branches of a fork took is told by the code behind the fork's mark, and so
-/// is where the process goes on behind the fork.
+/// The code behind the fork's mark says what comes back of what the branches of a fork took, and where the
+/// process goes on behind the fork.
 pub fn join()
     ensures { (u : CodedUnit) (l : LocalState) (pc : ℕ) → IsPlaceOf u pc l.frame.todo l.frame.halfway → stop l ≡ AtFork → JoinsAt u pc l }
 {}
 
-/// Each place of a unit's code has its height of the stack, by whatever way it is come to: one pass over
-/// the code tells it, an instruction finds as many numbers as it works on, and where it leads to there are
+/// Each place of a unit's code has its height of the stack, by whatever way it is come to: one pass over the
+/// code finds it, an instruction finds as many numbers as it works on, and where it leads to there are
 /// as many as it leaves.
 pub fn each_place_has_its_height()
     ensures { (u : CodedUnit) → u.code ≡ machine_unit u.units u.body → (pc : ℕ) (i : MachineInstr) → fetch u pc ≡ Some i → HasHeight u pc i × (height_at u (pc + 1) ≡ height_after (height_at u pc) i) }
@@ -135,11 +135,11 @@ pub fn room_is_a_product()
     ensures { (most callers : ℕ) → room most callers ≡ (callers + 1) * (most + 1) }
 {}
 
-/// In the code of a program a state tells the place of its process: all that stand for one state stand at
+/// In the code of a program a state determines the place of its process: all that correspond to one state are at
 /// one mark, or at the end of the unit. The places of their handlers and callers lead to the same marks;
-/// the places themselves may differ, since a jump to a mark stands for the mark. A process that runs meets
+/// the places themselves may differ, since a jump to a mark may be in place of the mark. A process that runs meets
 /// the premises where it keeps `Corresponds` of its own places over `codes_of` its program.
-pub fn a_state_tells_its_place()
+pub fn a_state_has_one_place()
     ensures { (codes : Codes) (program : Form) (l : LocalState) (pc pc' : ℕ) (handlers handlers' : List ℕ) (back back' : List ReturnPlace) → AreCodesOf codes program → Corresponds codes pc handlers back l → Corresponds codes pc' handlers' back' l → (pc ≡ pc') × GoOnAlike codes l handlers back handlers' back' }
 {}
 

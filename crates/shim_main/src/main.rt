@@ -18,7 +18,7 @@ use std::thread::Threads;
 #[cfg(test)]
 mod tests;
 
-// Ends where the system handed over no words, and told this kind of error. Words that are no text ask for
+// Ends where the system handed over no words, and gave this kind of error. Words that are no text ask for
 // nothing.
 fn status_without_words<F: Files, K: Sink, G: Gate, R: Threads + Wait + Sync>(
     rt: &R,

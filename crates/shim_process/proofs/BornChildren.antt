@@ -46,6 +46,6 @@ pub born_moved : ((l m : LocalState) → Sound l → Moved process_ops l m → m
 born_moved paths bases parameters l k m before after s born moved = record {
   fork = born.fork;
   last = born.last;
-  stands = born.stands;
+  stops_at_fork = born.stops_at_fork;
   places = still_in l born.fork 0 (item_branches l.frame.todo) k m before after (paths k m s moved) (bases k m s moved) (parameters k m s moved) born.places;
 }

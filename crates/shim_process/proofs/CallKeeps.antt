@@ -17,7 +17,7 @@ use Rattle.shim_process.specs.Steps.{line_of, stored_in, half}
 use Rattle.shim_process.specs.Stops.{put_value, after_put, put, thrown_value, after_throw, throw_evaluated, what_receive, stmt_receive, receive}
 use Rattle.shim_process.specs.Sound.{Sound}
 use Rattle.shim_process.specs.Ops.{process_ops}
-use Rattle.shim_process.proofs.LabelFrames.{HasLeft, sound_frames, gone_left, half_left, trapped_left, none_left}
+use Rattle.shim_process.proofs.LabelFrames.{HasExited, sound_frames, gone_left, half_left, trapped_left, none_left}
 use Rattle.shim_process.proofs.FittingEnds.{GoesFitting, same_fitting, gone_fitting}
 use Rattle.shim_process.proofs.FittingSteps.{trapped_fitting, stmt_fitting}
 use Rattle.shim_process.proofs.QuietKeeps.{Keeps, keeps}
@@ -31,10 +31,10 @@ pub record MakesNone (l m : LocalState) : Type 0 where
   pub made : m.made ≡ l.made
   pub untaken : m.untaken ≡ l.untaken
 
-left_makes_none : (l m : LocalState) → HasLeft l.base l m → GoesFitting l m → MakesNone l m
+left_makes_none : (l m : LocalState) → HasExited l.base l m → GoesFitting l m → MakesNone l m
 left_makes_none l m h w = record { keeps = keeps l l m (unchanged l) h w; made = h.made; untaken = h.untaken }
 
-stored_makes_none : (l m : LocalState) (x : ℕ) (v : ℤ) → HasLeft l.base (stored_in x v l) m → GoesFitting l m → MakesNone l m
+stored_makes_none : (l m : LocalState) (x : ℕ) (v : ℤ) → HasExited l.base (stored_in x v l) m → GoesFitting l m → MakesNone l m
 stored_makes_none l m x v h w = record { keeps = keeps l (stored_in x v l) m (store_changed l x v) h w; made = h.made; untaken = h.untaken }
 
 trapped_makes_none : (kind : Trap) (line : ℕ) (l : LocalState) → Sound l → MakesNone l (trapped kind line l)

@@ -59,22 +59,22 @@ given_where (Some x ∷ xs) (suc at) c e = given_behind (Some x) xs c (given_whe
 
 -- a location on each new channel
 
-record Made (child : Path) (serial : ℕ) (xs : Locations) : Type 0 where
+record HasNewChannel (child : Path) (serial : ℕ) (xs : Locations) : Type 0 where
   number : ℕ
   place : Location
   at : at_number xs number ≡ Some place
   home : place.channel.channel.home ≡ child
   its : place.channel.channel.serial ≡ serial
 
-made_behind : (child : Path) (serial : ℕ) (o : Option Location) (xs : Locations) → Made child serial xs → Made child serial (o ∷ xs)
+made_behind : (child : Path) (serial : ℕ) (o : Option Location) (xs : Locations) → HasNewChannel child serial xs → HasNewChannel child serial (o ∷ xs)
 unfolding at_number
 made_behind child serial o xs w = record { number = suc w.number; place = w.place; at = w.at; home = w.home; its = w.its }
 
-made_first : (child : Path) (s serial name : ℕ) (t : Ty) (v : ℤ) (xs : Locations) → s ≡ serial → Made child serial (Some (new_location child s name t v) ∷ xs)
+made_first : (child : Path) (s serial name : ℕ) (t : Ty) (v : ℤ) (xs : Locations) → s ≡ serial → HasNewChannel child serial (Some (new_location child s name t v) ∷ xs)
 unfolding at_number
 made_first child s serial name t v xs e = record { number = zero; place = new_location child s name t v; at = refl; home = refl; its = e }
 
-made_there : (child : Path) (xs : Locations) (s : ℕ) (given : List Argument) (serial : ℕ) → s ≤ serial → serial < s + new_channels given → Made child serial (branch_locations child xs s given)
+made_there : (child : Path) (xs : Locations) (s : ℕ) (given : List Argument) (serial : ℕ) → s ≤ serial → serial < s + new_channels given → HasNewChannel child serial (branch_locations child xs s given)
 made_there child xs s [] serial le lt = absurd (omega (arith, le, lt))
 made_there child xs s (ByReference k ∷ rest) serial le lt = made_behind child serial (with_moved (at_number xs k)) _ (made_there child (lend_at xs k) s rest serial le lt)
 made_there child xs s (ByCopy t k ∷ rest) serial le lt = made_behind child serial (copied_location t (at_number xs k)) _ (made_there child xs s rest serial le lt)
@@ -86,7 +86,7 @@ made_there child xs s (ByValue t name v ∷ rest) serial le lt =
 
 pub among_made : (child : Path) (xs : Locations) (given : List Argument) (c : Channel) → c.home ≡ child → c.serial < new_channels given → is_among c (channels_of (branch_locations child xs 0 given)) ≡ true
 among_made child xs given c home lt =
-    let w : Made child c.serial (branch_locations child xs 0 given) = made_there child xs 0 given c.serial (omega arith) (omega (arith, lt)) in
+    let w : HasNewChannel child c.serial (branch_locations child xs 0 given) = made_there child xs 0 given c.serial (omega arith) (omega (arith, lt)) in
     let homes : w.place.channel.channel.home ≡ c.home = w.home ∙ sym home in
     let serials : w.place.channel.channel.serial ≡ c.serial = w.its in
     let same : w.place.channel.channel ≡ c = λ i. record { home = homes i; serial = serials i } in

@@ -133,7 +133,7 @@ fork_born l p ks s h =
     subst (λ (n : LocalState). Born n ks) (sym w.parent_is) (record {
       fork = l.forks;
       last = refl;
-      stands = parent_stands l m k.trap k.frame w.at;
+      stops_at_fork = parent_stands l m k.trap k.frame w.at;
       places = subst (λ (f : Frame). InBranches m l.forks 0 (item_branches f.todo) ks) (sym k.frame) places;
     })
 

@@ -26,13 +26,13 @@ pub record Place (P : Ownership → Type 0) (xs : Locations) (n : ℕ) (y : Loca
   pub marked : P y.ownership → P was.ownership
 
 -- each location of the first list comes from that of the second one at its number
-abbrev pub Within : (Ownership → Type 0) → Locations → Locations → Type 0
-Within P ys xs = (n : ℕ) (y : Location) → at_number ys n ≡ Some y → Place P xs n y
+abbrev pub ComesFrom : (Ownership → Type 0) → Locations → Locations → Type 0
+ComesFrom P ys xs = (n : ℕ) (y : Location) → at_number ys n ≡ Some y → Place P xs n y
 
 pub same_place : (P : Ownership → Type 0) (xs : Locations) (n : ℕ) (y : Location) → at_number xs n ≡ Some y → Place P xs n y
 same_place P xs n y e = record { was = y; at = e; channel = refl; marked = λ h. h }
 
-pub within_both : (P : Ownership → Type 0) (zs ys xs : Locations) → Within P zs ys → Within P ys xs → (n : ℕ) (z : Location) → at_number zs n ≡ Some z → Place P xs n z
+pub within_both : (P : Ownership → Type 0) (zs ys xs : Locations) → ComesFrom P zs ys → ComesFrom P ys xs → (n : ℕ) (z : Location) → at_number zs n ≡ Some z → Place P xs n z
 within_both P zs ys xs f g n z e =
     let a = f n z e in
     let b = g n a.was a.at in
@@ -121,7 +121,7 @@ within_lent P keep slots (p ∷ ps) (Fresh v ∷ rest) xs n y e = within_lent P 
 
 -- the own variable of a channel
 
-pub carried_within : (c : Channel) (ys xs : Locations) → Within IsOwn ys xs → Carried ys c → Carried xs c
+pub carried_within : (c : Channel) (ys xs : Locations) → ComesFrom IsOwn ys xs → Carried ys c → Carried xs c
 carried_within c ys xs f w =
     let p = f w.number w.location w.there in
     record { number = w.number; location = p.was; there = p.at; ownership = p.marked w.ownership; channel = ap (λ (d : NamedChannel). d.channel) p.channel ∙ w.channel }

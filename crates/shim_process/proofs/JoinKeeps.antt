@@ -16,7 +16,7 @@ use Rattle.shim_process.specs.SerialRuns.{is_in_runs}
 use Rattle.shim_process.specs.Sound.{IsPathPrefix, IsOwned, FramesBelow, PlacesGrow, Sound}
 use Rattle.shim_process.specs.Born.{Born}
 use Rattle.shim_process.proofs.CarryChannels.{shares_same, Carried, carried_at, carries_at}
-use Rattle.shim_process.proofs.LabelFrames.{HasLeft, gone_left, none_left}
+use Rattle.shim_process.proofs.LabelFrames.{HasExited, gone_left, none_left}
 use Rattle.shim_process.proofs.FittingEnds.{HasParameters, GoesFitting, then_fitting, fitting_over, gone_fitting}
 use Rattle.shim_process.proofs.JoinLocations.{Kept, same_ownership, came_back, OneCarries, all_channel, all_length, all_kept, kept_owned, kept_channel}
 use Rattle.shim_base.proofs.Facts.{choose}
@@ -46,7 +46,7 @@ output_kept (k ∷ ks) holds e = elim (output_kept ks (k.holds_output || holds) 
 ]
 
 -- and units may be left then
-left_joined : (l : LocalState) (ks : List LocalState) (m : LocalState) → Born l ks → HasLeft l.base (joined l ks) m → GoesFitting l m → Joined l ks m
+left_joined : (l : LocalState) (ks : List LocalState) (m : LocalState) → Born l ks → HasExited l.base (joined l ks) m → GoesFitting l m → Joined l ks m
 left_joined l ks m born h fitting = record {
   path = h.path;
   base = h.base;
@@ -77,7 +77,7 @@ pub join_joined : (l : LocalState) (ks : List LocalState) (goes_on : Bool) → S
 unfolding join
 join_joined l ks goes_on s born =
     left_joined l ks (join l ks goes_on) born
-    (choose (HasLeft l.base (joined l ks)) goes_on (gone On (joined l ks)) (joined l ks) (gone_left l.base On (joined l ks) (record { below = s.labels; grow = s.places }))
+    (choose (HasExited l.base (joined l ks)) goes_on (gone On (joined l ks)) (joined l ks) (gone_left l.base On (joined l ks) (record { below = s.labels; grow = s.places }))
     (none_left l.base (joined l ks) (record { below = s.labels; grow = s.places })))
     (join_fitting l ks goes_on s.fitting)
 

@@ -42,7 +42,7 @@ pub record FramesHold (b : ℕ) (l : LocalState) (fs : List Frame) : Type 0 wher
   pub grow : PlacesGrow l.path l.untaken l.made fs
 
 -- The second state is the first one with units left, or on in one of its units.
-pub record HasLeft (b : ℕ) (l m : LocalState) : Type 0 where
+pub record HasExited (b : ℕ) (l m : LocalState) : Type 0 where
   pub path : m.path ≡ l.path
   pub base : m.base ≡ l.base
   pub made : m.made ≡ l.made
@@ -53,7 +53,7 @@ pub record HasLeft (b : ℕ) (l m : LocalState) : Type 0 where
   pub labels : FramesBelow b (m.frame ∷ m.callers)
   pub places : PlacesGrow l.path l.untaken l.made (m.frame ∷ m.callers)
 
-after_take : (b k : ℕ) (l m : LocalState) → HasLeft b (record l { locations = take k l.locations }) m → HasLeft b l m
+after_take : (b k : ℕ) (l m : LocalState) → HasExited b (record l { locations = take k l.locations }) m → HasExited b l m
 after_take b k l m h = record {
   path = h.path;
   base = h.base;
@@ -78,30 +78,30 @@ pub holds_left : (b : ℕ) (l : LocalState) (f : Frame) (fs : List Frame) → Fr
 holds_left b l f fs h = record { below = h.below.1; grow = without_these l.path l.untaken l.made f.places (places_inward fs) h.grow }
 
 -- with another unit and other callers
-pub placed_left : (b : ℕ) (l : LocalState) (f : Frame) (fs : List Frame) → FramesHold b l (f ∷ fs) → HasLeft b l (record l { frame = f; callers = fs })
+pub placed_left : (b : ℕ) (l : LocalState) (f : Frame) (fs : List Frame) → FramesHold b l (f ∷ fs) → HasExited b l (record l { frame = f; callers = fs })
 placed_left b l f fs h = record { path = refl; base = refl; made = refl; untaken = refl; given = refl; output = refl; at = λ n x e. e; labels = h.below; places = h.grow }
 
-pub settled_left : (b : ℕ) (fs : List Frame) (f : Frame) (l : LocalState) → FramesHold b l (f ∷ fs) → HasLeft b l (settled fs f l)
+pub settled_left : (b : ℕ) (fs : List Frame) (f : Frame) (l : LocalState) → FramesHold b l (f ∷ fs) → HasExited b l (settled fs f l)
 settled_left b [] f l h = placed_left b l f [] h
 settled_left b (c ∷ cs) f l h =
     let out : LocalState = record l { locations = take f.floor l.locations } in
     let k = holds_went b l On c cs (holds_left b l f (c ∷ cs) h) in
-    choose (HasLeft b l) (is_over f.todo) (settled cs (went On c) out) (record l { frame = f; callers = c ∷ cs })
+    choose (HasExited b l) (is_over f.todo) (settled cs (went On c) out) (record l { frame = f; callers = c ∷ cs })
     (after_take b f.floor l (settled cs (went On c) out) (settled_left b cs (went On c) out (record { below = k.below; grow = k.grow })))
     (placed_left b l f (c ∷ cs) h)
 
-pub gone_left : (b : ℕ) (successor : Successor) (l : LocalState) → FramesHold b l (l.frame ∷ l.callers) → HasLeft b l (gone successor l)
+pub gone_left : (b : ℕ) (successor : Successor) (l : LocalState) → FramesHold b l (l.frame ∷ l.callers) → HasExited b l (gone successor l)
 unfolding gone
 gone_left b successor l h = settled_left b l.callers (went successor l.frame) l (holds_went b l successor l.frame l.callers h)
 
 -- halfway through a statement
-pub half_left : (b : ℕ) (l : LocalState) → FramesHold b l (l.frame ∷ l.callers) → HasLeft b l (record l { frame = half l.frame })
+pub half_left : (b : ℕ) (l : LocalState) → FramesHold b l (l.frame ∷ l.callers) → HasExited b l (record l { frame = half l.frame })
 half_left b l h = record { path = refl; base = refl; made = refl; untaken = refl; given = refl; output = refl; at = λ n x e. e; labels = h.below; places = h.grow }
 
-pub trapped_left : (b : ℕ) (kind : Trap) (line : ℕ) (l : LocalState) → FramesHold b l (l.frame ∷ l.callers) → HasLeft b l (trapped kind line l)
+pub trapped_left : (b : ℕ) (kind : Trap) (line : ℕ) (l : LocalState) → FramesHold b l (l.frame ∷ l.callers) → HasExited b l (trapped kind line l)
 trapped_left b kind line l h = record { path = refl; base = refl; made = refl; untaken = refl; given = refl; output = refl; at = λ n x e. e; labels = h.below; places = h.grow }
 
-pub none_left : (b : ℕ) (l : LocalState) → FramesHold b l (l.frame ∷ l.callers) → HasLeft b l l
+pub none_left : (b : ℕ) (l : LocalState) → FramesHold b l (l.frame ∷ l.callers) → HasExited b l l
 none_left b l h = record { path = refl; base = refl; made = refl; untaken = refl; given = refl; output = refl; at = λ n x e. e; labels = h.below; places = h.grow }
 
 -- what holds of the frames of a sound process

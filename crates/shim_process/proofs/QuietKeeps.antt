@@ -10,7 +10,7 @@ use Rattle.shim_process.specs.SerialRuns.{is_in_runs}
 use Rattle.shim_process.specs.Sound.{IsPathPrefix, IsOwned, FramesBelow, PlacesGrow, Sound}
 use Rattle.shim_process.proofs.PlaceLocations.{Was}
 use Rattle.shim_process.proofs.CarryChannels.{shares_more, shares_new, shares_made, shares_how, Carried, carried_at, carries_at}
-use Rattle.shim_process.proofs.LabelFrames.{HasLeft}
+use Rattle.shim_process.proofs.LabelFrames.{HasExited}
 use Rattle.shim_process.proofs.FittingEnds.{GoesFitting}
 use Rattle.shim_base.proofs.Facts.{false_unless}
 
@@ -41,7 +41,7 @@ pub record Keeps (l m : LocalState) : Type 0 where
   pub fitting : GoesFitting l m
 
 -- a change, and then units left
-pub keeps : (l k m : LocalState) → Changed l k → HasLeft l.base k m → GoesFitting l m → Keeps l m
+pub keeps : (l k m : LocalState) → Changed l k → HasExited l.base k m → GoesFitting l m → Keeps l m
 keeps l k m c e fitting = record {
   changed = record {
     path = e.path ∙ c.path;

@@ -13,7 +13,7 @@ use Rattle.shim_process.specs.Sound.{FramesBelow, VariableIsBelow, bound_by, Var
 use Rattle.shim_process.proofs.PlaceLocations.{was_there, at_set, at_take}
 use Rattle.shim_process.proofs.SerialRuns.{without_in, without_keeps}
 use Rattle.shim_process.proofs.GrowingPlaces.{wider, other_runs, at_place, went_grow}
-use Rattle.shim_process.proofs.LabelFrames.{FramesHold, HasLeft, below_alike, handling_alike, holds_left, settled_left, sound_frames}
+use Rattle.shim_process.proofs.LabelFrames.{FramesHold, HasExited, below_alike, handling_alike, holds_left, settled_left, sound_frames}
 use Rattle.shim_process.proofs.FittingEnds.{unwind_fitting}
 use Rattle.shim_process.proofs.QuietKeeps.{From, as_was, as_taken, Changed, Keeps, keeps}
 use Rattle.shim_base.proofs.Facts.{some_same, choose, false_unless}
@@ -70,7 +70,7 @@ taking_changed (Some y) v f l xs few h =
 record Unwinds (b : ℕ) (l m : LocalState) : Type 0 where
   between : LocalState
   changed : Changed l between
-  left : HasLeft b between m
+  left : HasExited b between m
 
 -- on with the handler of a place
 on_handler : (b : ℕ) (o : Option HandlerVariable) (v : ℤ) (l : LocalState) (xs : Locations) (f g : Frame) (fs : List Frame) (i : ℕ) (h : Frame) → Fewer l xs → FramesBelow b (g ∷ fs) → g ≡ went Second h → h.places ≡ take i f.places

@@ -34,5 +34,5 @@ InBranches _ _ _ _ _ = ⊥
 pub record Born (l : LocalState) (ks : List LocalState) : Type 0 where
   pub fork : ℕ
   pub last : l.forks ≡ fork + 1
-  pub stands : stop l ≡ AtFork
+  pub stops_at_fork : stop l ≡ AtFork
   pub places : InBranches l fork 0 (item_branches l.frame.todo) ks

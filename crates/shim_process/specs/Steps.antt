@@ -30,7 +30,7 @@ pub data Action : Type 0 where
   Make : Ty → ℕ → ℤ → Action
   -- the next byte of the input is stored in the slot's location
   Read : ℕ → Action
-  -- the unit is called with these arguments, and its exceptions stand for these labels
+  -- the unit is called with these arguments, and its exceptions have these labels
   Enter : ℕ → List Argument → List ℕ → Action
   -- the exception of this number comes into force, by this name, with a variable of its handler in this slot, where it has one
   Install : ℕ → ℕ → Option ℕ → Action

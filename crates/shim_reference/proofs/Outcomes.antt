@@ -29,4 +29,4 @@ led_to (Err e) program input b l is leads = tt
 pub end_was : (program : Form) (input : List ℕ) (b : ℕ) (t : Tree LocalState) (read e : Ended) (throws : List ℕ) → t ≡ meaning_of program input b → throws ≡ program.main_throws
     → read ≡ ended process_ops t → e ≡ named throws read → e ≡ reference_of program input b
 unfolding reference_of
-end_was program input b t read e throws leads names is told = told ∙ (λ i. named (names i) (is i)) ∙ ap (λ (u : Tree LocalState). named program.main_throws (ended process_ops u)) leads
+end_was program input b t read e throws leads names is named_is = named_is ∙ (λ i. named (names i) (is i)) ∙ ap (λ (u : Tree LocalState). named program.main_throws (ended process_ops u)) leads

@@ -1,4 +1,4 @@
--- An exception that nobody caught is told by the number of its name; a tree knows its label alone.
+-- An exception that nobody caught has the number of its name; a tree knows its label alone.
 use Rattle.std.specs.Prelude.{ℕ, zero, suc, List, slice_get, unwrap_or}
 use Rattle.shim_local.specs.declared.Ended.{Ended}
 use Rattle.shim_local.specs.declared.Outcome.{Outcome}

@@ -14,7 +14,7 @@ use shim_walk::Walk;
 use std::alloc::Global;
 
 /// The tree to which a program comes on an input after at most `budget` events, each the first that is
-/// enabled. It is told, too, that nothing can happen any more in that tree, or that just so many events
+/// enabled. The answer says, too, that nothing can happen any more in that tree, or that just so many events
 /// led to it and one more can happen.
 pub fn meaning_of(
     alloc: Global,
@@ -31,9 +31,9 @@ pub fn meaning_of(
     run(alloc, main, budget)
 }
 
-/// What a program means on an input: what is read off that tree, with the name of an exception that
-/// nobody caught. By one of the names behind the `throws` of `main` it is told. It is told, too, that
-/// nothing can happen any more in that tree, or that just so many events led to it and one more can
+/// What a program means on an input: what is read off that tree, with the name of an exception that nobody
+/// caught, which is one of those behind the `throws` of `main`. The answer says, too, that nothing can
+/// happen any more in that tree, or that just so many events led to it and one more can
 /// happen.
 pub fn reference(
     alloc: Global,

@@ -9,13 +9,13 @@ use Rattle.shim_replay.specs.Scanning.{FailsTextAs, ok_or_line, scan_entry, scan
 use Rattle.shim_replay.specs.declared.fault.TextFault.{TextFault}
 use Rattle.shim_replay.specs.declared.fault.TextFault.TheVariants as texts
 
-told_ok : {A : Type 0} (line : ℕ) (o : Option A) (x : A) → ok_or_line line o ≡ Ok x → o ≡ Some x
-told_ok line (Some y) x e = cc
-told_ok line None x e = absurd cc
+line_of_ok : {A : Type 0} (line : ℕ) (o : Option A) (x : A) → ok_or_line line o ≡ Ok x → o ≡ Some x
+line_of_ok line (Some y) x e = cc
+line_of_ok line None x e = absurd cc
 
-told_err : {A : Type 0} (line k : ℕ) (o : Option A) → ok_or_line line o ≡ Err k → (o ≡ None) × (line ≡ k)
-told_err line k (Some y) e = absurd cc
-told_err line k None e = (refl, cc)
+line_of_err : {A : Type 0} (line k : ℕ) (o : Option A) → ok_or_line line o ≡ Err k → (o ≡ None) × (line ≡ k)
+line_of_err line k (Some y) e = absurd cc
+line_of_err line k None e = (refl, cc)
 
 regroup : (front : List Entry) (e : Entry) (read : Result (List Entry) ℕ) → with_front front (with_front (e ∷ []) read) ≡ with_front (front ++ e ∷ []) read
 regroup front e (Ok es) = ap (λ (xs : List Entry). Ok xs) (simp append_assoc)
@@ -45,14 +45,14 @@ goes_on front most count sum bytes e after total lt other is so_far =
     let k : most - count ≡ suc (most - (count + 1)) = omega arith in
     let l : count + 1 + 2 ≡ count + 2 + 1 = omega arith in
     let one : with_front front (scan_lines (most - count) (count + 2) sum bytes) ≡ with_front (front ++ e ∷ []) (scan_lines (most - (count + 1)) (count + 1 + 2) (sum + steps_in e) after) =
-    rw (k, l, one_line (most - (count + 1)) (count + 2) sum bytes e after other (told_ok (count + 2) (scan_entry bytes) (e, after) is)) (regroup front e (scan_lines (most - (count + 1)) (count + 2 + 1) (sum + steps_in e) after)) in
+    rw (k, l, one_line (most - (count + 1)) (count + 2) sum bytes e after other (line_of_ok (count + 2) (scan_entry bytes) (e, after) is)) (regroup front e (scan_lines (most - (count + 1)) (count + 2 + 1) (sum + steps_in e) after)) in
     sym one ∙ so_far
 
 pub fails : (e : TextFault) (front : List Entry) (most count sum : ℕ) (bytes : List ℕ) (total : Result (List Entry) ℕ) → count < most → starts_with eqb bytes (codes "stop ") ≡ false
     → FailsTextAs e (ok_or_line (count + 2) (scan_entry bytes)) → with_front front (scan_lines (most - count) (count + 2) sum bytes) ≡ total → FailsTextAs e total
 fails texts.NoMemory front most count sum bytes total lt other is so_far = tt
 fails (texts.Malformed line) front most count sum bytes total lt other is so_far =
-    let t = told_err (count + 2) line (scan_entry bytes) is in
+    let t = line_of_err (count + 2) line (scan_entry bytes) is in
     let k : most - count ≡ suc (most - (count + 1)) = omega arith in
     let one : with_front front (scan_lines (most - count) (count + 2) sum bytes) ≡ Err (count + 2) = rw (k, no_line (most - (count + 1)) (count + 2) sum bytes other t.0) refl in
     sym so_far ∙ one ∙ ap (λ (n : ℕ). Err n) t.1

@@ -53,7 +53,7 @@ FitsEvent (Poison p c) = FitsPath p × FitsChannel c
 FitsEvent (Close p) = FitsPath p
 FitsEvent (End p) = FitsPath p
 
--- what an entry of a text tells of: 1 to 4,000,000 quiet steps, or an event
+-- what an entry of a text has: 1 to 4,000,000 quiet steps, or an event
 abbrev pub FitsEntry : Entry → Type 0
 FitsEntry (Quiet p n) = FitsPath p × (1 ≤ n) × (n ≤ 4000000)
 FitsEntry (Did e) = FitsEvent e

@@ -20,7 +20,7 @@ abbrev pub DoesEntry : {S : Type 0} → Ops S → Entry → Tree S → Tree S �
 DoesEntry o e before after true = entry_after o e before ≡ Some after
 DoesEntry o e before after false = entry_after o e before ≡ None
 
--- the tree comes out where no event is enabled or the budget is spent, and else this line of the end is told
+-- the tree comes out where no event is enabled or the budget is spent, and else the answer is this line of the end
 abbrev pub AnswersEnd : {S : Type 0} → Ops S → Tree S → Bool → ℕ → Result (Tree S) ReplayFault → Type 0
 AnswersEnd o t spent line (Ok u) = (u ≡ t) × (IsQuiescent o t ⊎ ((spent ≡ true) × (IsQuiescent o t → ⊥)))
 AnswersEnd o t spent line (Err (faults.OverBudget l)) = ⊥

@@ -96,7 +96,7 @@ scan_path_line bytes = do
   rest ← scan_word (codes "\n") path.1
   Some (path.0, rest)
 
--- an event that is told by a path alone
+-- an event that a path alone names
 abbrev pub scan_of_path : (Path → Event) → List ℕ → Option (Entry × List ℕ)
 scan_of_path event bytes = do
   path ← scan_path_line bytes
@@ -178,7 +178,7 @@ behind_budget (Some b) = with_budget b.0 (scan_lines 4294967295 2 0 b.1)
 unfoldable pub scan_journal : List ℕ → Result (ℕ × List Entry) ℕ
 scan_journal bytes = behind_budget (scan_budget bytes)
 
--- what the code reads, seen by view, is what stands there, or it tells the line; unless memory is wanted
+-- what the code reads, seen by view, is what stands there, or it gives the line; unless memory is wanted
 abbrev pub FailsTextAs : {Y : Type 0} → TextFault → Result Y ℕ → Type 0
 FailsTextAs texts.NoMemory read = Unit {0}
 FailsTextAs (texts.Malformed line) read = read ≡ Err line

@@ -13,7 +13,7 @@ pub struct Journal {
     pub entries: List<Entry>,
 }
 
-/// How many steps an entry tells of.
+/// How many steps an entry has.
 pub(crate) fn steps_in(entry: &Entry) -> u64
     ensures { result ≡ steps_in (entry_of entry.now) }
 {

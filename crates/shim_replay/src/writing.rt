@@ -108,7 +108,7 @@ fn push_entries(text: &mut List<u8>, entries: &[Entry]) -> Result<(), NoMemory>
     Ok(())
 }
 
-// How many steps the entries tell of.
+// How many steps the entries have.
 fn steps_in_all(entries: &[Entry]) -> u64
     requires steps { All (λ e. HasStepsInRange (entry_of e)) entries.now }
     requires few { length entries.now < 4294967293 }
@@ -137,8 +137,8 @@ fn push_journal(text: &mut List<u8>, budget: u64, entries: &[Entry]) -> Result<(
     text.extend_from_slice(b"\n")
 }
 
-/// The text of a journal: the budget of a run, what was done in it, and how many steps that were, a line each. Want of
-/// memory is the one refusal.
+/// The text of a journal: the budget of a run, what was done in it, and how many steps that were, a line
+/// each. Running out of memory is the one refusal.
 #[tactic(auto, using(crate::proofs::InRange::few_entries))]
 pub fn journal_text(alloc: Global, budget: u64, entries: &[Entry]) -> Result<List<u8>, NoMemory>
     requires range { IsInRange budget (entries_of entries.now) }

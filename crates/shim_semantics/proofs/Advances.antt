@@ -23,14 +23,14 @@ abbrev pub moved_on : {S : Type 0} → Tree S → Node S → FinMap path_order �
 moved_on t n m = record { root = n; output = t.output; histories = t.histories; logs = t.logs; counts = m; events = t.events }
 
 -- where a live process stands, by its route
-pub record Stands {S : Type 0} (root : Node S) (r : Option (List ℕ)) (l : S) : Type 0 where
+pub record ProcessAt {S : Type 0} (root : Node S) (r : Option (List ℕ)) (l : S) : Type 0 where
   pub branches : List ℕ
   pub is : r ≡ Some branches
   pub there : at branches root ≡ Some (Live l)
 
-pub stands_by : {S : Type 0} (root : Node S) (r : Option (List ℕ)) (l : S) → at_route root r ≡ Some (Live l) → Stands root r l
-stands_by root None l e = none_some (Live l) e
-stands_by root (Some q) l e = record { branches = q; is = refl; there = e }
+pub process_at : {S : Type 0} (root : Node S) (r : Option (List ℕ)) (l : S) → at_route root r ≡ Some (Live l) → ProcessAt root r l
+process_at root None l e = none_some (Live l) e
+process_at root (Some q) l e = record { branches = q; is = refl; there = e }
 
 module _ {S : Type 0} (o : Ops S) where
   mutual
@@ -149,6 +149,6 @@ module _ {S : Type 0} (o : Ops S) where
         → ((q : List ℕ) → route (o.path (state t.root)) (o.path last) ≡ Some q → u ≡ moved_on t (with_state_at last q t.root) (steps_taken t.counts (o.path last) n))
         → Advances o (o.path last) n t u
     advanced t u n last sound comes is =
-        let s = stands_by t.root _ comes.start comes.stands.there in
-        steps_run n comes.start last t (o.path last) s.branches comes.steps s.is s.there comes.stands.is_its (sound_there comes.start s.branches t.root sound s.there)
+        let s = process_at t.root _ comes.start comes.in_tree.there in
+        steps_run n comes.start last t (o.path last) s.branches comes.steps s.is s.there comes.in_tree.is_its (sound_there comes.start s.branches t.root sound s.there)
         ∙ ap Some (sym (is s.branches s.is))

@@ -26,7 +26,7 @@ module _ {S : Type 0} (o : Ops S) where
     below = law.moved_sound l m s w.moved;
     follows = follows_moved o law l m s w.moved (λ c y. inl (sym (w.shares c) ∙ y));
     carried = λ c. one_for_one (λ k. o.carries k c) l m (carries_less law l m s w c);
-    held = one_for_one o.holds_output l m w.holds;
+    no_more_holders = one_for_one o.holds_output l m w.holds;
   }
 
   called_alike : LocalLaws o → (l m : S) → o.sound l → Called o l m → SharesAlike l m

@@ -51,7 +51,7 @@ module _ {S : Type 0} (o : Ops S) where
           | inl z ↦ counts (λ k. o.carries k c) l (everyone_of ks) z
           | inr z ↦ some_below (λ k. o.carries k c) l ks z
         ]);
-        held = at_most o.holds_output j (holders o (Forked l ks)) (λ y. elim (law.join_holds l (states ks) goes_on s.sound all s.born y) [
+        no_more_holders = at_most o.holds_output j (holders o (Forked l ks)) (λ y. elim (law.join_holds l (states ks) goes_on s.sound all s.born y) [
           | inl z ↦ counts o.holds_output l (everyone_of ks) z
           | inr z ↦ some_below o.holds_output l ks z
         ]);

@@ -1,4 +1,4 @@
--- How the checker stores a tree: its nodes as a list of marks, from which they can be told again; and maps of channels.
+-- How the checker stores a tree: its nodes as a list of marks, from which they can be restored; and maps of channels.
 use Rattle.std.specs.Prelude.{◌≡◌, ◌⊎◌, ℕ, ℤ, zero, suc, Option, None, List, [], ◌∷◌, refl}
 use Rattle.std.proofs.Common.{sym, ap, ◌∙◌}
 use Rattle.std.specs.Coded.{Coded, coded×, coded_ℕ, coded_ℤ, coded_list, coded_option, coded⊎, code_by}
@@ -38,15 +38,15 @@ rest zero ns = ns
 rest (suc i) [] = []
 rest (suc i) (n ∷ ns) = rest i ns
 
-abbrev pub told_one : {S : Type 0} → ℕ → ℕ → Option ℤ → S → List (Node S) → List (Node S)
-told_one zero x v l ns = Live l ∷ ns
-told_one (suc zero) x v l ns = Ended l ∷ ns
-told_one (suc (suc zero)) x v l ns = Dead l (record { label = x; given = v }) ∷ ns
-told_one (suc (suc (suc k))) x v l ns = Forked l (taken x ns) ∷ rest x ns
+abbrev pub decode_one : {S : Type 0} → ℕ → ℕ → Option ℤ → S → List (Node S) → List (Node S)
+decode_one zero x v l ns = Live l ∷ ns
+decode_one (suc zero) x v l ns = Ended l ∷ ns
+decode_one (suc (suc zero)) x v l ns = Dead l (record { label = x; given = v }) ∷ ns
+decode_one (suc (suc (suc k))) x v l ns = Forked l (taken x ns) ∷ rest x ns
 
-abbrev pub told : {S : Type 0} → List (ℕ × (ℕ × (Option ℤ × S))) → List (Node S)
-told [] = []
-told (m ∷ ms) = told_one m.0 m.1.0 m.1.1.0 m.1.1.1 (told ms)
+abbrev pub decode : {S : Type 0} → List (ℕ × (ℕ × (Option ℤ × S))) → List (Node S)
+decode [] = []
+decode (m ∷ ms) = decode_one m.0 m.1.0 m.1.1.0 m.1.1.1 (decode ms)
 
 abbrev pub list_of : {S : Type 0} → Nodes S → List (Node S) → List (Node S)
 list_of no_node r = r
@@ -61,23 +61,23 @@ rest_all no_node r = refl
 rest_all (node_and k ks) r = rest_all ks r
 
 mutual
-  pub told_marks : {S : Type 0} (n : Node S) (r : List (ℕ × (ℕ × (Option ℤ × S)))) → told (marks n r) ≡ n ∷ told r
-  told_marks (Live l) r = refl
-  told_marks (Ended l) r = refl
-  told_marks (Dead l d) r = refl
-  told_marks (Forked l ks) r =
-      ap (λ z. Forked l (taken (count_nodes ks) z) ∷ rest (count_nodes ks) z) (told_all_marks ks r)
-      ∙ (λ i. Forked l (taken_all ks (told r) i) ∷ rest_all ks (told r) i)
+  pub decode_marks : {S : Type 0} (n : Node S) (r : List (ℕ × (ℕ × (Option ℤ × S)))) → decode (marks n r) ≡ n ∷ decode r
+  decode_marks (Live l) r = refl
+  decode_marks (Ended l) r = refl
+  decode_marks (Dead l d) r = refl
+  decode_marks (Forked l ks) r =
+      ap (λ z. Forked l (taken (count_nodes ks) z) ∷ rest (count_nodes ks) z) (decode_all_marks ks r)
+      ∙ (λ i. Forked l (taken_all ks (decode r) i) ∷ rest_all ks (decode r) i)
 
-  pub told_all_marks : {S : Type 0} (ks : Nodes S) (r : List (ℕ × (ℕ × (Option ℤ × S)))) → told (all_marks ks r) ≡ list_of ks (told r)
-  told_all_marks no_node r = refl
-  told_all_marks (node_and k ks) r = told_marks k (all_marks ks r) ∙ ap (λ z. k ∷ z) (told_all_marks ks r)
+  pub decode_all_marks : {S : Type 0} (ks : Nodes S) (r : List (ℕ × (ℕ × (Option ℤ × S)))) → decode (all_marks ks r) ≡ list_of ks (decode r)
+  decode_all_marks no_node r = refl
+  decode_all_marks (node_and k ks) r = decode_marks k (all_marks ks r) ∙ ap (λ z. k ∷ z) (decode_all_marks ks r)
 
 one_of : {A : Type 0} (x y : A) → x ∷ [] ≡ y ∷ [] → x ≡ y
 one_of x y e = cc
 
 pub same_marks : {S : Type 0} (m n : Node S) → marks m [] ≡ marks n [] → m ≡ n
-same_marks m n e = one_of m n (sym (told_marks m []) ∙ (ap told e ∙ told_marks n []))
+same_marks m n e = one_of m n (sym (decode_marks m []) ∙ (ap decode e ∙ decode_marks n []))
 
 abbrev pub node_code : {S : Type 0} → Coded S → Coded (Node S)
 node_code s = coded_via (coded_list (coded× coded_ℕ (coded× coded_ℕ (coded× (coded_option coded_ℤ) s)))) (λ n. marks n []) same_marks

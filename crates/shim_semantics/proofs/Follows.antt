@@ -25,21 +25,21 @@ pub record Keeps {S : Type 0} (o : Ops S) (m n : Node S) : Type 0 where
   pub below : SoundBelow o n
   pub follows : Follows o (state m) (state n)
   pub carried : (c : Channel) → (carriers o c n ≤ carriers o c m) ⊎ ((carriers o c n ≤ 1) × IsNew o c m)
-  pub held : holders o n ≤ holders o m
+  pub no_more_holders : holders o n ≤ holders o m
 
 -- the same where no channel is new
 pub record Stays {S : Type 0} (o : Ops S) (m n : Node S) : Type 0 where
   pub below : SoundBelow o n
   pub follows : Follows o (state m) (state n)
   pub carried : (c : Channel) → carriers o c n ≤ carriers o c m
-  pub held : holders o n ≤ holders o m
+  pub no_more_holders : holders o n ≤ holders o m
 
 -- the same where a channel that is new is one of the process's own
 pub record KeepsOwn {S : Type 0} (o : Ops S) (m n : Node S) : Type 0 where
   pub below : SoundBelow o n
   pub follows : Follows o (state m) (state n)
   pub carried : (c : Channel) → (carriers o c n ≤ carriers o c m) ⊎ ((carriers o c n ≤ 1) × (c.home ≡ o.path (state m)) × (o.shares (state m) c ≡ false))
-  pub held : holders o n ≤ holders o m
+  pub no_more_holders : holders o n ≤ holders o m
 
 module _ {S : Type 0} (o : Ops S) where
   pub follows_same : (l m : S) → m ≡ l → Follows o l m
@@ -67,13 +67,13 @@ module _ {S : Type 0} (o : Ops S) where
   }
 
   pub stays_keeps : (m n : Node S) → Stays o m n → Keeps o m n
-  stays_keeps m n h = record { below = h.below; follows = h.follows; carried = λ c. inl (h.carried c); held = h.held }
+  stays_keeps m n h = record { below = h.below; follows = h.follows; carried = λ c. inl (h.carried c); no_more_holders = h.no_more_holders }
 
   pub own_keeps : (m n : Node S) → KeepsOwn o m n → Keeps o m n
-  own_keeps m n h = record { below = h.below; follows = h.follows; carried = λ c. elim (h.carried c) [ inl y ↦ inl y | inr y ↦ inr (y.0, by_own y.1 y.2) ]; held = h.held }
+  own_keeps m n h = record { below = h.below; follows = h.follows; carried = λ c. elim (h.carried c) [ inl y ↦ inl y | inr y ↦ inr (y.0, by_own y.1 y.2) ]; no_more_holders = h.no_more_holders }
 
   pub stays_keeps_own : (m n : Node S) → Stays o m n → KeepsOwn o m n
-  stays_keeps_own m n h = record { below = h.below; follows = h.follows; carried = λ c. inl (h.carried c); held = h.held }
+  stays_keeps_own m n h = record { below = h.below; follows = h.follows; carried = λ c. inl (h.carried c); no_more_holders = h.no_more_holders }
 
   -- behind a change after which the process shares the same
   pub keeps_own_after : (k m n : Node S) → Stays o k m → ((c : Channel) → o.shares (state m) c ≡ o.shares (state k) c) → KeepsOwn o m n → KeepsOwn o k n
@@ -84,7 +84,7 @@ module _ {S : Type 0} (o : Ops S) where
       | inl y ↦ inl (no_less_than (carriers o c k) (carriers o c m) (carriers o c n) y (f.carried c))
       | inr y ↦ inr (y.0, y.1 ∙ f.follows.path, sym (alike c) ∙ y.2)
     ];
-    held = no_less_than (holders o k) (holders o m) (holders o n) g.held f.held;
+    no_more_holders = no_less_than (holders o k) (holders o m) (holders o n) g.no_more_holders f.no_more_holders;
   }
 
   -- the state is the same, and so are all others
@@ -93,5 +93,5 @@ module _ {S : Type 0} (o : Ops S) where
     below = s;
     follows = follows_same (state m) (state n) e;
     carried = λ c. subst (λ z. how_many (λ s. o.carries s c) z ≤ carriers o c m) (sym h) (no_less (carriers o c m));
-    held = subst (λ z. how_many o.holds_output z ≤ holders o m) (sym h) (no_less (holders o m));
+    no_more_holders = subst (λ z. how_many o.holds_output z ≤ holders o m) (sym h) (no_less (holders o m));
   }

@@ -140,7 +140,7 @@ module _ {S : Type 0} (o : Ops S) where
         };
         follows = follows_moved o law l m s moved (λ c y. inl (sym (shares c) ∙ y));
         carried = λ c. subst (λ z. (how_many (λ k. o.carries k c) (m ∷ z) ≤ carriers o c (Live l)) ⊎ ((how_many (λ k. o.carries k c) (m ∷ z) ≤ 1) × IsNew o c (Live l))) (sym (everyone_live ks)) (forked_carriers law l m ks s at e c);
-        held = subst (λ z. how_many o.holds_output (m ∷ z) ≤ holders o (Live l)) (sym (everyone_live ks)) (forked_holders law l m ks s at e);
+        no_more_holders = subst (λ z. how_many o.holds_output (m ∷ z) ≤ holders o (Live l)) (sym (everyone_live ks)) (forked_holders law l m ks s at e);
       }
 
   trapped_stays : LocalLaws o → (l m : S) → o.sound l → (at : o.stop l ≡ AtFork) (e : o.fork l ≡ Trapped m) → Stays o (Live l) (Live m)
@@ -149,7 +149,7 @@ module _ {S : Type 0} (o : Ops S) where
         below = law.moved_sound l m s moved;
         follows = follows_moved o law l m s moved (λ c y. inl (sym (law.fork_trap_shares l m c s at e) ∙ y));
         carried = λ c. one_for_one (λ k. o.carries k c) l m (law.fork_trap_carries l m c s at e);
-        held = one_for_one o.holds_output l m (law.fork_trap_holds l m s at e);
+        no_more_holders = one_for_one o.holds_output l m (law.fork_trap_holds l m s at e);
       }
 
   pub fork_keeps : LocalLaws o → (l : S) → o.sound l → o.stop l ≡ AtFork → (r : ForkedView S) → o.fork l ≡ r → Keeps o (Live l) (parted r)

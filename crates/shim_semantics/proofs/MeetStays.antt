@@ -86,5 +86,5 @@ module _ {S : Type 0} (o : Ops S) where
         below = w.0;
         follows = w.1;
         carried = λ d. received_count c v (λ k. o.carries k d) (λ l h y. call_carries_less o law l (o.receive l v) h (hears c v l y) d) n s;
-        held = received_count c v o.holds_output (λ l h y. law.call_holds l (o.receive l v) h (hears c v l y)) n s;
+        no_more_holders = received_count c v o.holds_output (λ l h y. law.call_holds l (o.receive l v) h (hears c v l y)) n s;
       }

@@ -4,7 +4,7 @@ use Rattle.shim_base.specs.Paths.{Channel}
 use Rattle.shim_local.specs.Process.{Ops}
 use Rattle.shim_local.specs.Laws.{LocalLaws}
 use Rattle.shim_semantics.specs.Nodes.{Node, Nodes, Live, Forked, Ended, Dead, Death, death, no_node, node_and, state, states, everyone, everyone_of}
-use Rattle.shim_semantics.specs.Poison.{poisoned, all_poisoned, one_poisoned, can_poison, poison_here, above, before_rest, after_one, poison, poison_child, poison_route, to_fork, last_branch}
+use Rattle.shim_semantics.specs.Poison.{poisoned, all_poisoned, one_poisoned, can_poison, poison_node, above, before_rest, after_one, poison, poison_child, poison_route, to_fork, last_branch}
 use Rattle.shim_semantics.specs.Places.{IsChild, SoundBelow, SoundChildren}
 use Rattle.shim_semantics.proofs.Follows.{Stays, same_stays}
 use Rattle.shim_base.proofs.Facts.{some_same, none_some, cond_some}
@@ -104,7 +104,7 @@ module _ {S : Type 0} (o : Ops S) where
   one_poisoned_alike law c x (suc i) l f j (node_and k ks) h s =
       first_alike l f j k k ks (one_poisoned o c x i ks) s.0 (node_same k s.1) (one_poisoned_alike law c x i l f (j + 1) ks h s.2)
 
-  here_alike : LocalLaws o → (c : Channel) (i : ℕ) (n m : Node S) → SoundBelow o n → poison_here o c i n ≡ Some m → IsAlike n m
+  here_alike : LocalLaws o → (c : Channel) (i : ℕ) (n m : Node S) → SoundBelow o n → poison_node o c i n ≡ Some m → IsAlike n m
   here_alike law c i (Live l) m s e = none_some m e
   here_alike law c i (Ended l) m s e = none_some m e
   here_alike law c i (Dead l x) m s e = none_some m e

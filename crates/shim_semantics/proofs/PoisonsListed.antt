@@ -4,7 +4,7 @@ use Rattle.shim_base.specs.Paths.{Channel}
 use Rattle.shim_local.specs.Process.{Ops}
 use Rattle.shim_semantics.specs.Nodes.{Node, Nodes, Live, Forked, Ended, Dead, death, no_node, node_and, ready}
 use Rattle.shim_semantics.specs.Places.{at, child_at}
-use Rattle.shim_semantics.specs.Poison.{is_ready_child, one_poisoned, can_poison, poison_here, poison, poison_child, above, before_rest, after_one, to_fork, last_branch, poison_route}
+use Rattle.shim_semantics.specs.Poison.{is_ready_child, one_poisoned, can_poison, poison_node, poison, poison_child, above, before_rest, after_one, to_fork, last_branch, poison_route}
 use Rattle.shim_base.proofs.Facts.{some_same, none_some, chosen}
 
 -- the branches to a child are those to its fork, and its place there
@@ -107,7 +107,7 @@ module _ {S : Type 0} (o : Ops S) (c : Channel) (i : ℕ) where
     pub poison_of : (q : List ℕ) (n : Node S) (l : S) (ks : Nodes S) → at q n ≡ Some (Forked l ks) → can_poison o l c i ks ≡ true → (m : Node S) × (poison o c i q n ≡ Some m)
     poison_of [] n l ks e h = (
       _,
-      ap (poison_here o c i) (some_same n (Forked l ks) e) ∙ ap (λ b. cond b (Some (Forked l (one_poisoned o c (death (o.handlers l - 1)) i ks))) None) h,
+      ap (poison_node o c i) (some_same n (Forked l ks) e) ∙ ap (λ b. cond b (Some (Forked l (one_poisoned o c (death (o.handlers l - 1)) i ks))) None) h,
     )
     poison_of (b ∷ q) (Live l) m ks e h = none_some (Forked m ks) e
     poison_of (b ∷ q) (Ended l) m ks e h = none_some (Forked m ks) e

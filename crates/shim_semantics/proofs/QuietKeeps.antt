@@ -27,7 +27,7 @@ module _ {S : Type 0} (o : Ops S) where
       ]
       | inr n ↦ inl (one_for_one (λ k. o.carries k c) l m (λ w. clash (o.carries m c) w n))
     ];
-    held = one_for_one o.holds_output l m w.holds;
+    no_more_holders = one_for_one o.holds_output l m w.holds;
   }
 
   pub quiet_keeps : LocalLaws o → (l : S) → o.sound l → o.stop l ≡ AtQuiet → KeepsOwn o (Live l) (Live (o.quiet l))

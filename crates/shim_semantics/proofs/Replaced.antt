@@ -129,7 +129,7 @@ module _ {S : Type 0} (o : Ops S) where
     below = h.below;
     own = own_follows (state root) (state n) s.own h.follows;
     carrying = λ c. at_most_one (carriers o c n) (carriers o c root) (h.carried c) (s.carrying c);
-    holding = at_most_one (holders o n) (holders o root) h.held s.holding;
+    one_holder = at_most_one (holders o n) (holders o root) h.no_more_holders s.one_holder;
   }
 
   -- and so does a node in it
@@ -142,5 +142,5 @@ module _ {S : Type 0} (o : Ops S) where
           | inl less ↦ still_one (carriers o c (put q n root)) (carriers o c root) (carriers o c n) (carriers o c m) (put_count (λ z. o.carries z c) q root m n e) less (s.carrying c)
           | inr new ↦ now_one (carriers o c (put q n root)) (carriers o c root) (carriers o c n) (carriers o c m) (put_count (λ z. o.carries z c) q root m n e) new.0 (nobody_carries o law root m q s.below s.own e c new.1)
         ];
-        holding = still_one (holders o (put q n root)) (holders o root) (holders o n) (holders o m) (put_count o.holds_output q root m n e) h.held s.holding;
+        one_holder = still_one (holders o (put q n root)) (holders o root) (holders o n) (holders o m) (put_count o.holds_output q root m n e) h.no_more_holders s.one_holder;
       }

@@ -1,4 +1,4 @@
--- The tests of paths and channels tell whether they are the same.
+-- The tests of paths and channels decide whether they are the same.
 use Rattle.std.proofs.Common.{◌≡◌, ℕ, Some, None, [], ◌∷◌, ◌++◌, cond, refl, ap, ◌∙◌}
 use Rattle.std.proofs.lemmas.List.{append_assoc}
 use Rattle.shim_base.specs.Paths.{Path}

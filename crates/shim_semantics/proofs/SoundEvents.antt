@@ -94,7 +94,7 @@ module _ {S : Type 0} (o : Ops S) where
 
   pub events_keep_sound : LocalLaws o → KeepsSound o
   events_keep_sound law = record {
-    starts = λ l s own. record { below = s; own = own; carrying = λ c. one_at_most (λ k. o.carries k c) l; holding = one_at_most o.holds_output l };
+    starts = λ l s own. record { below = s; own = own; carrying = λ c. one_at_most (λ k. o.carries k c) l; one_holder = one_at_most o.holds_output l };
     kept = event_sound law;
   }
 

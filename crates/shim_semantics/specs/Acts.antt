@@ -7,12 +7,12 @@ use Rattle.shim_local.specs.declared.LogWhat.TheVariants.{Caught, Trap as Logged
 use Rattle.shim_semantics.specs.Nodes.{Node, Nodes, Live, Forked, Ended, Dead, Death, death_with, handed, node_and, states, all_live, all_done, prevailing_death}
 use Rattle.shim_semantics.specs.Descents.{Ascent, apply_at, apply_among}
 
--- what an event tells: the bytes that it puts, and what it logs of its process
+-- the effects of an event: the bytes that it puts, and what it logs of its process
 pub record Effects : Type 0 where
   pub bytes : List ℕ
   pub logs : List LogWhat
 
--- what stands in place of a node afterwards, and what was told
+-- what is in place of a node afterwards, and the effects
 pub record Acted (S : Type 0) : Type 0 where
   pub node : Node S
   pub effects : Effects
@@ -80,11 +80,11 @@ abbrev pub in_later : {S : Type 0} → Node S → Option (Nodes S × Effects) �
 in_later k None = None
 in_later k (Some r) = Some (node_and k r.0, r.1)
 
--- what is done at a node shows at the nodes above it in what stands there, and in what was told
+-- what is done at a node shows at the nodes above it in what is there, and in the effects
 abbrev pub done_above : {S : Type 0} → Ascent S (Option (Acted S)) (Option (Nodes S × Effects))
 done_above = record { above = within; first = in_front; later = in_later; nowhere = λ n. None; no_child = None }
 
--- what the process of the node to which these branches lead leaves and tells by the one thing that it can do by itself
+-- what the process of the node to which these branches lead leaves by the one thing that it can do by itself, and the effects of that
 abbrev pub act : {S : Type 0} → Ops S → List ℕ → Node S → Option (Acted S)
 act o = apply_at done_above (act_here o)
 

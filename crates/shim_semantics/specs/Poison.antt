@@ -52,11 +52,11 @@ abbrev pub can_poison : {S : Type 0} → Ops S → S → Channel → ℕ → Nod
 can_poison o l c i ks = is_ready_child o c i ks && is_doomed o (o.handlers l) c i ks
 
 -- the child in this place of the fork is poisoned, where it can be, with the innermost label in force at the fork and no number
-abbrev pub poison_here : {S : Type 0} → Ops S → Channel → ℕ → Node S → Option (Node S)
-poison_here o c i (Forked l ks) = cond (can_poison o l c i ks) (Some (Forked l (one_poisoned o c (death (o.handlers l - 1)) i ks))) None
-poison_here o c i (Live l) = None
-poison_here o c i (Ended l) = None
-poison_here o c i (Dead l x) = None
+abbrev pub poison_node : {S : Type 0} → Ops S → Channel → ℕ → Node S → Option (Node S)
+poison_node o c i (Forked l ks) = cond (can_poison o l c i ks) (Some (Forked l (one_poisoned o c (death (o.handlers l - 1)) i ks))) None
+poison_node o c i (Live l) = None
+poison_node o c i (Ended l) = None
+poison_node o c i (Dead l x) = None
 
 abbrev pub above : {S : Type 0} → S → Option (Nodes S) → Option (Node S)
 above l None = None
@@ -76,11 +76,11 @@ changed_above = record { above = above; first = before_rest; later = after_one; 
 
 -- the child in place i of the fork to which these branches lead is poisoned, where it can be
 abbrev pub poison : {S : Type 0} → Ops S → Channel → ℕ → List ℕ → Node S → Option (Node S)
-poison o c i = apply_at changed_above (poison_here o c i)
+poison o c i = apply_at changed_above (poison_node o c i)
 
 -- the same from some children, by the branch to one of them and those behind it
 abbrev pub poison_child : {S : Type 0} → Ops S → Channel → ℕ → ℕ → List ℕ → Nodes S → Option (Nodes S)
-poison_child o c i = apply_among changed_above (poison_here o c i)
+poison_child o c i = apply_among changed_above (poison_node o c i)
 
 -- the branches that lead to a child, of which there is a first one, as those that lead to its fork and the child's place there
 abbrev pub to_fork : ℕ → List ℕ → List ℕ

@@ -31,7 +31,7 @@ StandsQuiet {S} o t p = (l : S) × StandsAt o t.root p (Live l) × (o.stop l ≡
 -- so many quiet steps lead to this state from that of a live process with its path
 pub record ComesBy {S : Type 0} (o : Ops S) (t : Tree S) (n : ℕ) (last : S) : Type 0 where
   pub start : S
-  pub stands : StandsAt o t.root (o.path last) (Live start)
+  pub in_tree : StandsAt o t.root (o.path last) (Live start)
   pub steps : quiet_run o n start ≡ Some last
 
 -- so many steps of its own one after another, and nothing else, make the second tree of the first

@@ -23,4 +23,4 @@ pub record IsSound {S : Type 0} (o : Ops S) (root : Node S) : Type 0 where
   pub own : SharesItsOwn o (state root)
   -- a channel's own variable is in one process at most, and so is the output
   pub carrying : (c : Channel) → carriers o c root ≤ 1
-  pub holding : holders o root ≤ 1
+  pub one_holder : holders o root ≤ 1

@@ -106,12 +106,12 @@ abbrev pub with_logs : map.FinMap path_order (List LogWhat) → Path → List Lo
 with_logs m p [] = m
 with_logs m p (w ∷ ws) = map.insert m p (logs_at m p ++ w ∷ ws)
 
--- the process of the path did a step of its own, which left and told this
+-- the process of the path did a step of its own, which left this and had these effects
 abbrev pub count_own : {S : Type 0} → Path → Tree S → Option (Acted S) → Option (Tree S)
 count_own p t None = None
 count_own p t (Some a) = Some (record { root = a.node; output = t.output ++ a.effects.bytes; histories = t.histories; logs = with_logs t.logs p a.effects.logs; counts = with_step_counted t.counts p; events = t.events })
 
--- the process of the path ended, or its fork closed, which left and told this
+-- the process of the path ended, or its fork closed, which left this and had these effects
 abbrev pub count_event : {S : Type 0} → Path → Tree S → Option (Acted S) → Option (Tree S)
 count_event p t None = None
 count_event p t (Some a) = Some (record { root = a.node; output = t.output ++ a.effects.bytes; histories = t.histories; logs = with_logs t.logs p a.effects.logs; counts = t.counts; events = t.events + 1 })

@@ -39,12 +39,12 @@ module _ {T : Type 0} where
       ((λ i. from_home (h i) (k i)) ∙ empty-left (from_home home took) (takes_from home 0 ts) none)
       ((λ i. takes_from (h i) 0 (e i)) ∙ no-more-takes home 0 ts t (empty-right (from_home home took) (takes_from home 0 ts) none) new)
 
-  stands-longer : (ts ts' : List (OtherDeque T)) (t : OtherDeque T) (place : ℕ) (own : OwnDeque T) → ts' ≡ ts ++ t ∷ [] → StandsAt ts place own → StandsAt ts' place own
-  stands-longer ts ts' t place own e s = (s.0, ap (λ l. get_elem? l place) e ∙ at_longer ts (t ∷ []) place s.0 s.1, s.2)
+  place-longer : (ts ts' : List (OtherDeque T)) (t : OtherDeque T) (place : ℕ) (own : OwnDeque T) → ts' ≡ ts ++ t ∷ [] → StandsAt ts place own → StandsAt ts' place own
+  place-longer ts ts' t place own e s = (s.0, ap (λ l. get_elem? l place) e ∙ at_longer ts (t ∷ []) place s.0 s.1, s.2)
 
   -- the deque is the same
-  stands-still : (ts : List (OtherDeque T)) (place : ℕ) (own own' : OwnDeque T) → worker_deque own'.deque ≡ worker_deque own.deque → StandsAt ts place own → StandsAt ts place own'
-  stands-still ts place own own' e s = (s.0, s.1, s.2 ∙ sym e)
+  place-still : (ts : List (OtherDeque T)) (place : ℕ) (own own' : OwnDeque T) → worker_deque own'.deque ≡ worker_deque own.deque → StandsAt ts place own → StandsAt ts place own'
+  place-still ts place own own' e s = (s.0, s.1, s.2 ∙ sym e)
 
   pub none-linked : (n : ℕ) (all : List (Lane T)) (own : OwnDeque T) → length all ≡ n → AreNewLanes n all → IsUnused own → AreLinked n 0 all own []
   none-linked n all own count new unused = record {
@@ -63,7 +63,7 @@ module _ {T : Type 0} where
     -- the lanes may take from each other as before
     still-from-all : (i : ℕ) (ts : List (OtherDeque T)) → TakesFromAll i all ts → TakesFromAll i (set all k l') ts
     still-from-all i ts from j m other e = ⊎_elim
-        (λ (x : (j ≡ k) × (l' ≡ m)). subst (λ u. StandsAt ts (deque_index i j) u.own) x.1 (stands-still ts (deque_index i j) l.own l'.own s.1.0 (from j l other (ap (get_elem? all) x.0 ∙ at))))
+        (λ (x : (j ≡ k) × (l' ≡ m)). subst (λ u. StandsAt ts (deque_index i j) u.own) x.1 (place-still ts (deque_index i j) l.own l'.own s.1.0 (from j l other (ap (get_elem? all) x.0 ∙ at))))
         (λ (x : (j ≢ k) × (get_elem? all j ≡ some m)). from j m other x.1) (at_set all k j l' m e)
 
     was : (home_of l ≡ k) × (pushes_of l ≡ []) × (takes_of l ≡ []) × TakesFromAll k all l.others.items
@@ -85,15 +85,15 @@ module _ {T : Type 0} where
       mine = (length-snoc others mine ∙ ap (λ c. c + 1) a.mine.0, no-more-takes n 0 others mine a.mine.1 s.3.1);
       theirs = λ j m below e. ⊎_elim
           (λ (x : (j ≡ k) × (l' ≡ m)). (mine, at_last others mine j (a.mine.0 ∙ sym x.0), subst (λ u. IsSameAsOwn mine u.own) x.1 s.3.0))
-          (λ (x : (j ≢ k) × (get_elem? all j ≡ some m)). stands-longer others (others ++ mine ∷ []) mine j m.own refl (a.theirs j m (let o = x.0 in omega arith) x.1)) (at_set all k j l' m e);
+          (λ (x : (j ≢ k) × (get_elem? all j ≡ some m)). place-longer others (others ++ mine ∷ []) mine j m.own refl (a.theirs j m (let o = x.0 in omega arith) x.1)) (at_set all k j l' m e);
       each = λ i u e. ⊎_elim
           (λ (x : (i ≡ k) × (l' ≡ u)). subst (λ w. (home_of w ≡ i) × (pushes_of w ≡ []) × (takes_of w ≡ []) × TakesFromAll i (set all k l') w.others.items) x.1
-          (s.0 ∙ was.0 ∙ sym x.0, s.1.1 ∙ was.1, new-takes, λ j m other f. stands-longer l.others.items l'.others.items s.4.0 (deque_index i j) m.own s.4.1 (still-from-all i l.others.items (subst (λ h. TakesFromAll h all l.others.items) (sym x.0) was.3) j m other f)))
+          (s.0 ∙ was.0 ∙ sym x.0, s.1.1 ∙ was.1, new-takes, λ j m other f. place-longer l.others.items l'.others.items s.4.0 (deque_index i j) m.own s.4.1 (still-from-all i l.others.items (subst (λ h. TakesFromAll h all l.others.items) (sym x.0) was.3) j m other f)))
           (λ (x : (i ≢ k) × (get_elem? all i ≡ some u)). let b = a.each i u x.1 in (b.0, b.1, b.2, still-from-all i u.others.items b.3)) (at_set all k i l' u e);
       old = λ i u e above. ⊎_elim (λ (x : (i ≡ k) × (l' ≡ u)). absurd (let o = x.0 in omega arith)) (λ (x : (i ≢ k) × (get_elem? all i ≡ some u)). a.old i u x.1 (omega arith)) (at_set all k i l' u e);
       new = λ i u e below. ⊎_elim
           (λ (x : (i ≡ k) × (l' ≡ u)). subst (λ w. (lanes_of w ≡ n + 1) × StandsAt w.others.items (n - 1) own') x.1 (ap (λ c. c + 1) long, last))
-          (λ (x : (i ≢ k) × (get_elem? all i ≡ some u)). let b = a.new i u x.1 (let o = x.0 in omega arith) in (b.0, stands-still u.others.items (n - 1) own own' s.2.0 b.1)) (at_set all k i l' u e);
+          (λ (x : (i ≢ k) × (get_elem? all i ≡ some u)). let b = a.new i u x.1 (let o = x.0 in omega arith) in (b.0, place-still u.others.items (n - 1) own own' s.2.0 b.1)) (at_set all k i l' u e);
     }
 
   -- a lane with this deque is one of the lanes, when it is linked with all

@@ -46,7 +46,7 @@ module _ {A : Type 0} where
   pub at-place : (l : List A) (i : ℕ) (a : A) → i < length l → a ≡ get_or l i a → get_elem? l i ≡ some a
   at-place l i a inside is = at-or l i a inside ∙ ap some (sym is)
 
-  -- what f tells of each stays as it was
+  -- what f gives of each stays as it was
   pub map-same : {B : Type 0} (f : A → B) (l : List A) (i : ℕ) (a b : A) → get_elem? l i ≡ some a → f b ≡ f a → map f (set l i b) ≡ map f l
   map-same f [] i a b at is = refl
   map-same f (x ∷ xs) zero a b at is = ap (λ y. y ∷ map f xs) (is ∙ ap f (sym (some-injective x a at)))

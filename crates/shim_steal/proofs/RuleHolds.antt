@@ -35,7 +35,7 @@ module _ {T : Type 0} (items : List (ℕ × T)) (views : List (View T)) (k : Kep
   holds = record {
     once = λ n. let l = k.lists n in let o = numbered-once n 0 k.pushed in let a = times-append n k.gone items in let e = ap (times n) k.line in omega arith;
     same = λ p t. in-line p (among-left p k.gone items (is-gone p t));
-    stands = λ p h. in-line p (among-right p k.gone items h);
+    queued = λ p h. in-line p (among-right p k.gone items h);
     lost = λ p w. ⊎_elim (λ a. inl (taken-by p a)) (λ b. inr b) (among-either p k.gone items (subst (IsAmong p) k.line (at-numbered 0 k.pushed p.0 p (omega arith) (ap (λ l. get_elem? l p.0) (sym (k.own w.0 w.1).pushes) ∙ w.2))));
     first = λ p q t h. let s = numbered-split 0 k.pushed k.gone items k.line in let a = s.0 p (is-gone p t) in let b = s.1 q h in omega arith;
     lists = λ j v at a b p q less f g. part-order 0 k.pushed v.taken k.gone items k.line (k.order j v at) a b p q less f g;

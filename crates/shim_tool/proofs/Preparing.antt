@@ -28,7 +28,7 @@ use Rattle.shim_tool.specs.declared.prepared.Prepared.{Prepared as MadePrepared}
 use Rattle.shim_tool.specs.declared.prepared.Prepared.TheVariants.{Answered, ToRecord, ToRun, ToRunEach}
 use Rattle.shim_tool.specs.Moments.{FilesAt}
 use Rattle.shim_tool.specs.Modes.{IsBatch, FileView, beside_in, first_content, input_in, input_readings, inputs_in, reads_of, source_text}
-use Rattle.shim_tool.specs.Reads.{AreContents, HoldsAll, OneReadFailed, FilesResult, all, longer_file, unread_file}
+use Rattle.shim_tool.specs.Reads.{AreContents, HoldsAll, OneReadFailed, FilesResult, all, longer_file, failed_file}
 use Rattle.shim_tool.specs.Answer.{Answers, AnswersRead}
 use Rattle.shim_tool.specs.Rows.{WasRead}
 use Rattle.shim_tool.specs.Prepared.{Completes, EachRow, IsForWorkers, IsPreparedWithin, IsToRecord, LeavesToRecord, LeavesToRunEach, LeavesToWorkers, Prepared, Prepares, PreparesJob, PreparesRead, PreparesProgram, PreparesSource, RecordRow, RunRow, answered, to_record, to_run, to_run_each}
@@ -62,7 +62,7 @@ completed_source job beside bytes p answer (inr (fault, only, is)) done = inr (f
 
 completed_read : (job : Job) (files_read : FilesResult) (p : Prepared) (answer : Answer) → PreparesRead job files_read p → Completes p answer → AnswersRead job files_read answer
 completed_read job (all contents) p answer prepared done = completed_source job (beside_in job contents) (source_text job contents) p answer prepared done
-completed_read job (unread_file r) p answer is done = completed_answer p _ answer is done
+completed_read job (failed_file r) p answer is done = completed_answer p _ answer is done
 completed_read job (longer_file r) p answer is done = completed_answer p _ answer is done
 
 -- what was prepared and then done is answered
@@ -106,7 +106,7 @@ left_source job before now contents p none same are (inr (fault, only, is)) = ab
 
 left_read : (job : Job) (before now : FilesAt) (files_read : FilesResult) (p : Prepared) → IsNoAnswer p → ReadsGave (reads_of job) before now files_read → PreparesRead job files_read p → LeftSo (Some job) before now p
 left_read job before now (all contents) p none (are, same) prepared = left_source job before now contents p none same are prepared
-left_read job before now (unread_file q) p none reads is = absurd (none _ is)
+left_read job before now (failed_file q) p none reads is = absurd (none _ is)
 left_read job before now (longer_file q) p none reads is = absurd (none _ is)
 
 left : (ask : Option Job) (before now : FilesAt) (p : Prepared) → IsNoAnswer p → Prepares ask before now p → LeftSo ask before now p
@@ -128,7 +128,7 @@ module _ (job : Job) (contents : List (List ℕ)) (source : Source) (has : IsSou
   left_of_saw before now p (all read) h (are, same) prepared =
       let P : List (List ℕ) → Type 0 = λ cs. PreparesRead job (all cs) p in
       inl (left_of_source p (subst P (same_contents before.held (reads_of job) read contents are h) prepared))
-  left_of_saw before now p (unread_file r) h (comes, read) is = inr (r, comes, read)
+  left_of_saw before now p (failed_file r) h (comes, read) is = inr (r, comes, read)
   left_of_saw before now p (longer_file r) h (comes, same, long) is = absurd (none_too_long before.held (reads_of job) contents r h comes long)
 
   left_of : (before now : FilesAt) (p : Prepared) → HoldsAll before.held (reads_of job) contents → Prepares (Some job) before now p → (p ≡ q) ⊎ OneReadFailed (reads_of job) before now
@@ -155,7 +155,7 @@ only_run job contents source showing task program (to_run r) (other, is) =
 only_run job contents source showing task program (to_record r) (other, is) = absurd (cc (other, task))
 only_run job contents source showing task program (to_run_each r) (other, is) = absurd (cc (other, task))
 
--- and so is one whose journal is told
+-- and so is one whose journal is printed
 only_record : (job : Job) (contents : List (List ℕ)) (source : Source) → IsToRecord job → (program : Program) (p : Prepared)
     → PreparesProgram job (beside_in job contents) program source p → p ≡ to_record (RecordOf job source contents)
 only_record job contents source task program (answered made) (none, unrecorded, single, done) = absurd (unrecorded task)
@@ -241,13 +241,13 @@ within_source job beside bytes p within few (inr (fault, only, is)) = within_ans
 within_saw : (job : Job) (before now : FilesAt) (files_read : FilesResult) (p : Prepared) → IsWithin job → ReadsGave (reads_of job) before now files_read → PreparesRead job files_read p → IsPreparedWithin p
 within_saw job before now (all contents) p within (are, same) prepared =
     within_source job (beside_in job contents) (source_text job contents) p within (λ task. (few_names job before.held contents within task are, batch_inputs job before.held contents task are)) prepared
-within_saw job before now (unread_file r) p within reads is = within_answer p _ is
+within_saw job before now (failed_file r) p within reads is = within_answer p _ is
 within_saw job before now (longer_file r) p within reads is = within_answer p _ is
 
 pub prepared_within : (job : Job) (before now : FilesAt) (p : Prepared) → IsWithin job → PreparesJob job before now p → IsPreparedWithin p
 prepared_within job before now p within (files_read, reads_all, prepared) = within_saw job before now files_read p within (reads_gave (reads_of job) before now files_read reads_all) prepared
 
--- an answer that was made is the answer, and so is what is told of a run that was left
+-- an answer that was made is the answer, and so is what is printed of a run that was left
 pub answered_done : (p : MadePrepared) (made : MadeAnswer) → p ≡ Answered made → Completes (prepared_view p) (answer_view made)
 answered_done p made is = subst (λ (q : MadePrepared). Completes (prepared_view q) (answer_view made)) (sym is) refl
 

@@ -1,20 +1,20 @@
--- What the reads of files gave, and what files that are told hold.
+-- What the reads of files gave, and what files that are known hold.
 use Rattle.std.proofs.Common.{ℕ, ◌≡◌, ◌<◌, ◌≤◌, ◌++◌, List, [], ◌∷◌, length, Option, Some, None, IfSome, IsSomeAnd, IsSome, IsTrue, inl, inr, refl, sym, ◌∙◌, subst, ap, arith}
 use Rattle.shim_edge.specs.Files.{file_of, HasFile}
 use Rattle.shim_tool.specs.Moments.{FilesAt, KeepsFiles}
 use Rattle.shim_tool.specs.Modes.{FileView}
-use Rattle.shim_tool.specs.Reads.{AreContents, ComesToRead, GrewByOneOf, Holds, HoldsAll, HoldsUpTo, IsContent, IsTooLong, ReadsAll, OneReadFailed, ReadFailed, FilesResult, all, longer_file, then_read, unread_file, longer, unread, whole, KnownFiles}
+use Rattle.shim_tool.specs.Reads.{AreContents, ComesToRead, GrewByOneOf, Holds, HoldsAll, HoldsUpTo, IsContent, IsTooLong, ReadsAll, OneReadFailed, ReadFailed, FilesResult, all, longer_file, then_read, failed_file, longer, unread, whole, KnownFiles}
 
 -- the bytes that were read are those that the files hold
 held_bytes : (held : KnownFiles) (r : FileView) (bytes content : List ℕ) → Holds held r.name content → IsContent r held bytes → bytes ≡ content
-held_bytes held r bytes content h is = agree held h.told is.1 where
+held_bytes held r bytes content h is = agree held h.known is.1 where
   agree : (o : KnownFiles) → o ≡ Some h.files → IfSome o (λ files. file_of files r.name ≡ Some bytes) → bytes ≡ content
   agree None e c = absurd (cc)
   agree (Some files) e c = let f : file_of files r.name ≡ Some content = ap (λ (l : List (List ℕ × List ℕ)). file_of l r.name) (let g : files ≡ h.files = cc in g) ∙ h.found in cc
 
--- a file that is told and too long has more bytes than it may have
+-- a file that is known and too long has more bytes than it may have
 held_too_long : (held : KnownFiles) (r : FileView) (content : List ℕ) → Holds held r.name content → IsTooLong r held → r.limit < length content
-held_too_long held r content h long = agree held h.told long where
+held_too_long held r content h long = agree held h.known long where
   agree : (o : KnownFiles) → o ≡ Some h.files → IfSome o (λ files. IsSomeAnd (file_of files r.name) (λ bytes. r.limit < length bytes)) → r.limit < length content
   agree None e c = absurd (cc)
   agree (Some files) e c =
@@ -22,7 +22,7 @@ held_too_long held r content h long = agree held h.told long where
       let P : Option (List ℕ) → Type 0 = λ o. IsSomeAnd o (λ bytes. r.limit < length bytes) in subst P f c
 
 is_held : (held : KnownFiles) (name content : List ℕ) → Holds held name content → HasFile held name
-is_held held name content h = agree held h.told where
+is_held held name content h = agree held h.known where
   agree : (o : KnownFiles) → o ≡ Some h.files → HasFile o name
   agree None e = absurd (cc)
   agree (Some files) e =
@@ -42,13 +42,13 @@ failed_later name before between now keeps same (grew, unheld) = (
 -- What reads came to, in one go: all files were read; or one of them failed, or is too long, with those before it read.
 abbrev pub ReadsGave : List FileView → FilesAt → FilesAt → FilesResult → Type 0
 ReadsGave rs before now (all contents) = AreContents before.held rs contents × (now.failed ≡ before.failed)
-ReadsGave rs before now (unread_file r) = ComesToRead before.held rs r × ReadFailed r.name before now
+ReadsGave rs before now (failed_file r) = ComesToRead before.held rs r × ReadFailed r.name before now
 ReadsGave rs before now (longer_file r) = ComesToRead before.held rs r × (now.failed ≡ before.failed) × IsTooLong r before.held
 
 gave_later : (r : FileView) (rs : List FileView) (before between now : FilesAt) (bytes : List ℕ) (rest : FilesResult) → KeepsFiles before between → between.failed ≡ before.failed → IsContent r before.held bytes
     → ReadsGave rs between now rest → ReadsGave (r ∷ rs) before now (then_read bytes rest)
 gave_later r rs before between now bytes (all contents) keeps same is (are, later) = ((is, subst (λ (o : KnownFiles). AreContents o rs contents) keeps.held are), later ∙ same)
-gave_later r rs before between now bytes (unread_file x) keeps same is (comes, read) =
+gave_later r rs before between now bytes (failed_file x) keeps same is (comes, read) =
     (inr (bytes, is, subst (λ (o : KnownFiles). ComesToRead o rs x) keeps.held comes), failed_later x.name before between now keeps same read)
 gave_later r rs before between now bytes (longer_file x) keeps same is (comes, later, long) =
     (inr (bytes, is, subst (λ (o : KnownFiles). ComesToRead o rs x) keeps.held comes), later ∙ same, subst (λ (o : KnownFiles). IsTooLong x o) keeps.held long)

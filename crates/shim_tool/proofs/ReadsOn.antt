@@ -6,7 +6,7 @@ use Rattle.shim_tool.specs.declared.files.Found.{Found}
 use Rattle.shim_tool.specs.declared.files.Found.TheVariants.{Unread, Longer, Whole}
 use Rattle.shim_tool.specs.Moments.{FilesAt, KeepsFiles}
 use Rattle.shim_tool.specs.Modes.{FileView}
-use Rattle.shim_tool.specs.Reads.{ReadsAll, FilesResult, ReadsOne, all, longer, longer_file, then_read, unread, unread_file, whole}
+use Rattle.shim_tool.specs.Reads.{ReadsAll, FilesResult, ReadsOne, all, longer, longer_file, then_read, unread, failed_file, whole}
 use Rattle.shim_tool.specs.Views.{found_view, reading_view}
 
 -- what was seen behind these contents
@@ -22,7 +22,7 @@ nothing_left : (cs : List (List ℕ)) → behind cs (all []) ≡ all cs
 nothing_left [] = refl
 nothing_left (c ∷ cs) = ap (then_read c) (nothing_left cs)
 
-then_unread : (cs : List (List ℕ)) (r : FileView) → behind cs (unread_file r) ≡ unread_file r
+then_unread : (cs : List (List ℕ)) (r : FileView) → behind cs (failed_file r) ≡ failed_file r
 then_unread [] r = refl
 then_unread (c ∷ cs) r = ap (then_read c) (then_unread cs r)
 
@@ -50,11 +50,11 @@ module _ (files : List FileToRead) (before between later : FilesAt) (cs : List (
         subst (λ (s : FilesResult). ReadsAll (map reading_view files) before now s) (sym (one_more cs bytes files_read) ∙ ap (λ (ds : List (List ℕ)). behind ds files_read) (sym pushed))
         (next now (then_read bytes files_read) (later, whole bytes, keeps, reads_one, (files_read, reads_all, refl)))
 
-    pub one_unread : (found : Found) → found ≡ Unread → IsFound found → ReadsAll (map reading_view files) before later (unread_file (reading_view (slice_index_or files at d)))
+    pub one_unread : (found : Found) → found ≡ Unread → IsFound found → ReadsAll (map reading_view files) before later (failed_file (reading_view (slice_index_or files at d)))
     one_unread found is reads =
         let r = reading_view (slice_index_or files at d) in
         let reads_one : IsFound Unread = subst IsFound is reads in
-        subst (λ (s : FilesResult). ReadsAll (map reading_view files) before later s) (then_unread cs r) (next later (unread_file r) (later, unread, keeps, reads_one, (refl, refl)))
+        subst (λ (s : FilesResult). ReadsAll (map reading_view files) before later s) (then_unread cs r) (next later (failed_file r) (later, unread, keeps, reads_one, (refl, refl)))
 
     pub one_longer : (found : Found) → found ≡ Longer → IsFound found → ReadsAll (map reading_view files) before later (longer_file (reading_view (slice_index_or files at d)))
     one_longer found is reads =

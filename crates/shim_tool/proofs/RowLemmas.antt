@@ -29,7 +29,7 @@ use Rattle.shim_results.proofs.SourceSlots.{source_uses_own_slots}
 use Rattle.shim_results.proofs.Statuses.{each_status}
 use Rattle.shim_tool.specs.Moments.{FilesAt, SinkAt}
 use Rattle.shim_tool.specs.Modes.{FileView, beside_in, source_action_of, execution, executions, inputs_in, reads_of, source_text, IsBatch, IsExecution}
-use Rattle.shim_tool.specs.Reads.{AreContents, HoldsAll, HoldsUpTo, Holds, OneReadFailed, FilesResult, all, longer_file, unread_file}
+use Rattle.shim_tool.specs.Reads.{AreContents, HoldsAll, HoldsUpTo, Holds, OneReadFailed, FilesResult, all, longer_file, failed_file}
 use Rattle.shim_tool.specs.Answer.{Answers, AnswersRead, FailedGrew, MayAnswer, longer_line, memory_line, usage_line}
 use Rattle.shim_tool.specs.Call.{Ran, Writes}
 use Rattle.shim_tool.specs.Rows.{Printed, PrintedWithText, PrintedOrFailed, PrintedUnlessUnread, WasRead, PrintedStopped, EndRow, SpentRow, CountRow, BeginningRow, IsBatchAsked, IsEndOfOne, PrintedOfEach, BatchRow, RefusedRow, FileCause, FileRow, SinkRow, MemoryRow, WordsRow, JournalRow, FilesRow, IsComplete, IsJobRefused}
@@ -71,7 +71,7 @@ done_so : (job : Job) (contents : List (List ℕ)) (source : Source) (answer : A
     → ActionOf job contents is.program source answer
 done_so job contents source answer is done = action_outcome (source_action_of job contents) is.program (execution job contents source) answer (source_uses_own_slots (source_text job contents) source is) done
 
--- What came of a job whose files are told and short enough: its source was answered, or a read failed, or memory was wanted, or the sink failed.
+-- What came of a job whose files are known and short enough: its source was answered, or a read failed, or memory was wanted, or the sink failed.
 pub data JobOutcome (job : Job) (contents : List (List ℕ)) (before now : FilesAt) (ob on : SinkAt) (result : ℕ) : Type 0 where
   of_source : (answer : Answer) → OutcomeOf job contents answer → Printed answer.status answer.text ob on result → JobOutcome job contents before now ob on result
   unreadable : result ≡ 6 → OneReadFailed (reads_of job) before now → JobOutcome job contents before now ob on result
@@ -86,7 +86,7 @@ job_outcome ask job contents before now ob on result ran asks h = by_wrote (ran_
   by_read answer (all read) (are, same) is printed =
       let P : List (List ℕ) → Type 0 = λ cs. AnswersRead job (all cs) answer in
       of_source answer (answered_source job contents answer (subst P (same_contents before.held (reads_of job) read contents are h) is)) printed
-  by_read answer (unread_file r) (comes, read) is printed = unreadable (printed.0 ∙ ap (λ (a : Answer). a.status) is) (r, comes, read)
+  by_read answer (failed_file r) (comes, read) is printed = unreadable (printed.0 ∙ ap (λ (a : Answer). a.status) is) (r, comes, read)
   by_read answer (longer_file r) (comes, same, long) is printed = absurd (none_too_long before.held (reads_of job) contents r h comes long)
 
   by_wrote : Wrote (Some job) before now ob on result → JobOutcome job contents before now ob on result
@@ -108,7 +108,7 @@ program_of job contents source answer is (refuses line why only none refused) = 
 action_of_source : (job : Job) (contents : List (List ℕ)) (source : Source) (answer : Answer) (is : IsSource (source_text job contents) source) → OutcomeOf job contents answer → ActionOf job contents is.program source answer
 action_of_source job contents source answer is outcome = done_so job contents source answer is (program_of job contents source answer is outcome)
 
--- what is told of the execution that is done
+-- what is printed of the execution that is done
 printed_so : (job : Job) (contents : List (List ℕ)) (source : Source) (x : Execution) (answer : Answer) (is : IsSource (source_text job contents) source) → IsExecution job contents source x → OutcomeOf job contents answer
     → UsesOwnSlots x.source × ActionPrinted (source_action_of job contents) is.program x answer
 printed_so job contents source x answer is run outcome = action_printed (source_action_of job contents) is.program (execution job contents source) answer (action_of_source job contents source answer is outcome) x run
@@ -121,7 +121,7 @@ does_status job contents source answer is done = action_status (source_action_of
 -- a refusal's line was written with 5
 refused_with : (job : Job) (contents : List (List ℕ)) (line : List ℕ) (answer : Answer) (ob on : SinkAt) (result : ℕ) → IsRefusal (source_text job contents) line → OutcomeOf job contents answer →
     Printed answer.status answer.text ob on result → Printed 5 line ob on result
-refused_with job contents line answer ob on result why (does source has told only free) printed = absurd (free line why)
+refused_with job contents line answer ob on result why (does source has as_printed only free) printed = absurd (free line why)
 refused_with job contents line answer ob on result why (refuses other cause only none is) printed =
     let text : answer.text ≡ line = ap (λ (a : Answer). a.text) is ∙ sym (only line why) in
     (printed.0 ∙ ap (λ (a : Answer). a.status) is, printed.1 ∙ ap (λ (t : List ℕ). then_bytes ob.taken t) text)
@@ -129,7 +129,7 @@ refused_with job contents line answer ob on result why (refuses other cause only
 -- bytes that are no source are refused with some line
 refused_somehow : (job : Job) (contents : List (List ℕ)) (answer : Answer) (ob on : SinkAt) (result : ℕ) → IsNoSource (source_text job contents) → OutcomeOf job contents answer →
     Printed answer.status answer.text ob on result → (line : List ℕ) × IsRefusal (source_text job contents) line × Printed 5 line ob on result
-refused_somehow job contents answer ob on result none (does source has told only free) printed = absurd (none source has)
+refused_somehow job contents answer ob on result none (does source has as_printed only free) printed = absurd (none source has)
 refused_somehow job contents answer ob on result none (refuses line why only _ is) printed =
     (line, why, (printed.0 ∙ ap (λ (a : Answer). a.status) is, printed.1 ∙ ap (λ (a : Answer). then_bytes ob.taken a.text) is))
 
@@ -137,7 +137,7 @@ refused_somehow job contents answer ob on result none (refuses line why only _ i
 action_no_fault : (fault : ℕ) → 5 ≤ fault → fault ≤ 8 → (status : ℕ) → IsActionStatus status → status ≡ fault → ⊥
 action_no_fault fault least most status action is = elim action.few [ inl few ↦ omega (arith, few, is, least) | inr nine ↦ omega (arith, nine, is, most) ]
 
--- what is told where the status of a action came
+-- what is printed where the status of a action came
 record EndedSo (status : ℕ) (before now : FilesAt) (ob on : SinkAt) (asks : Option Job) : Type 0 where
   unfailed : now.failed ≡ before.failed
   asked : Job
@@ -149,7 +149,7 @@ record EndedSo (status : ℕ) (before now : FilesAt) (ob on : SinkAt) (asks : Op
   x : Execution
   run : IsExecution asked contents source x
   own : UsesOwnSlots x.source
-  told : ActionPrinted (source_action_of asked contents) is.program x answer
+  as_printed : ActionPrinted (source_action_of asked contents) is.program x answer
   by : status_by (source_action_of asked contents) x ≡ status
   taken : on.taken ≡ then_bytes ob.taken answer.text
 
@@ -168,7 +168,7 @@ ended_so : (status : ℕ) → status < 5 → (status ≡ 2 → ⊥) → (ask : O
 ended_so status few apart ask before now ob on result ran alone has_come = by_wrote ask (wrote ask before now ob on result ran) alone has_come where
   by_action : (job : Job) (contents : List (List ℕ)) (source : Source) (answer : Answer) → (IsBatchAsked (Some job) → ⊥) → now.failed ≡ before.failed → AreContents before.held (reads_of job) contents → (is : IsSource (source_text job contents) source)
       → ActionOf job contents is.program source answer → Printed answer.status answer.text ob on result → result ≡ status → EndedSo status before now ob on (Some job)
-  by_action job contents source answer alone same are is (ends x own run only free told) printed so = record {
+  by_action job contents source answer alone same are is (ends x own run only free as_printed) printed so = record {
     unfailed = same;
     asked = job;
     contents = contents;
@@ -179,8 +179,8 @@ ended_so status few apart ask before now ob on result ran alone has_come = by_wr
     x = x;
     run = run;
     own = own;
-    told = told;
-    by = sym told.status ∙ (sym printed.0 ∙ so);
+    as_printed = as_printed;
+    by = sym as_printed.status ∙ (sym printed.0 ∙ so);
     taken = printed.1;
   }
   by_action job contents source answer alone same are is (stays line why only none refused) printed so = absurd (let e : answer.status ≡ 9 = ap (λ (a : Answer). a.status) refused in omega (arith, e, printed.0, so, few))
@@ -194,7 +194,7 @@ ended_so status few apart ask before now ob on result ran alone has_come = by_wr
   by_read : (job : Job) (answer : Answer) (files_read : FilesResult) → (IsBatchAsked (Some job) → ⊥) → ReadsGave (reads_of job) before now files_read → AnswersRead job files_read answer → Printed answer.status answer.text ob on result → result ≡ status
       → EndedSo status before now ob on (Some job)
   by_read job answer (all contents) alone (are, same) is printed so = by_source job contents answer alone same are (answered_source job contents answer is) printed so
-  by_read job answer (unread_file r) alone reads is printed so = absurd (let e : answer.status ≡ 6 = ap (λ (a : Answer). a.status) is in omega (arith, e, printed.0, so, few))
+  by_read job answer (failed_file r) alone reads is printed so = absurd (let e : answer.status ≡ 6 = ap (λ (a : Answer). a.status) is in omega (arith, e, printed.0, so, few))
   by_read job answer (longer_file r) alone reads is printed so = absurd (let e : answer.status ≡ 6 = ap (λ (a : Answer). a.status) is in omega (arith, e, printed.0, so, few))
 
   by_wrote : (a : Option Job) → Wrote a before now ob on result → (IsBatchAsked a → ⊥) → result ≡ status → EndedSo status before now ob on a
@@ -230,25 +230,25 @@ end_row status Cause tell few apart whole ask before now ob on result ran = reco
         ends_by status Cause tell action (execution e.asked e.contents e.source) e.x e.run e.own e.by,
         action_reached action (execution e.asked e.contents e.source) e.x e.run,
         e.by,
-        (e.answer.text, e.told.whole (λ four. whole (sym e.by ∙ four)), (printed, e.taken)),
+        (e.answer.text, e.as_printed.whole (λ four. whole (sym e.by ∙ four)), (printed, e.taken)),
       )
 
   comes : (action : SourceAction) (program : Program) (x : Execution) (answer : Answer) → UsesOwnSlots x.source → EndsBy status Cause action x → ActionPrinted action program x answer → Printed answer.status answer.text ob on result
       → PrintedWithText status action program x ob on result
-  comes action program x answer own cause told printed =
+  comes action program x answer own cause as_printed printed =
       let by : status_by action x ≡ status = status_is status Cause tell action x own cause in
-      (answer.text, told.whole (λ four. whole (sym by ∙ four)), (printed.0 ∙ (told.status ∙ by), printed.1))
+      (answer.text, as_printed.whole (λ four. whole (sym by ∙ four)), (printed.0 ∙ (as_printed.status ∙ by), printed.1))
 
   when : (job : Job) (contents : List (List ℕ)) (source : Source) (x : Execution) (is : IsSource (source_text job contents) source) → IsExecution job contents source x → EndsBy status Cause (source_action_of job contents) x
       → JobOutcome job contents before now ob on result → PrintedOrFault (PrintedWithText status (source_action_of job contents) is.program x ob on result) job before now result
   when job contents source x is run cause (of_source answer outcome printed) =
-      let told = printed_so job contents source x answer is run outcome in
-      inl (comes (source_action_of job contents) is.program x answer told.0 cause told.1 printed)
+      let as_printed = printed_so job contents source x answer is run outcome in
+      inl (comes (source_action_of job contents) is.program x answer as_printed.0 cause as_printed.1 printed)
   when job contents source x is run cause (unreadable six read) = inr (inr (inr (six, read)))
   when job contents source x is run cause (wanting eight) = inr (inr (inl eight))
   when job contents source x is run cause (unwritten seven rose) = inr (inl seven)
 
--- what is told of a run that was stopped came
+-- what is printed of a run that was stopped came
 printed_stopped : (action : SourceAction) (x : Execution) (text : List ℕ) (ob on : SinkAt) (result : ℕ) → StoppedPrinted action x text → Printed 4 text ob on result → PrintedStopped action x ob on result
 printed_stopped action x text ob on result s printed = (read_off x s.tree, s.may, text, s.shown, printed)
 
@@ -274,20 +274,20 @@ spent_row ask before now ob on result ran = record {
         ends_by 4 IsSpent decides_spent action (execution e.asked e.contents e.source) e.x e.run e.own e.by,
         action_reached action (execution e.asked e.contents e.source) e.x e.run,
         e.by,
-        printed_stopped action e.x e.answer.text ob on result (e.told.part e.by) (printed, e.taken),
+        printed_stopped action e.x e.answer.text ob on result (e.as_printed.part e.by) (printed, e.taken),
       )
 
   comes : (action : SourceAction) (program : Program) (x : Execution) (answer : Answer) → UsesOwnSlots x.source → EndsBy 4 IsSpent action x → ActionPrinted action program x answer → Printed answer.status answer.text ob on result
       → PrintedStopped action x ob on result
-  comes action program x answer own cause told printed =
+  comes action program x answer own cause as_printed printed =
       let four : status_by action x ≡ 4 = status_is 4 IsSpent decides_spent action x own cause in
-      printed_stopped action x answer.text ob on result (told.part four) (printed.0 ∙ (told.status ∙ four), printed.1)
+      printed_stopped action x answer.text ob on result (as_printed.part four) (printed.0 ∙ (as_printed.status ∙ four), printed.1)
 
   when : (job : Job) (contents : List (List ℕ)) (source : Source) (x : Execution) → IsSource (source_text job contents) source → IsExecution job contents source x → EndsBy 4 IsSpent (source_action_of job contents) x
       → JobOutcome job contents before now ob on result → PrintedOrFault (PrintedStopped (source_action_of job contents) x ob on result) job before now result
   when job contents source x is run cause (of_source answer outcome printed) =
-      let told = printed_so job contents source x answer is run outcome in
-      inl (comes (source_action_of job contents) is.program x answer told.0 cause told.1 printed)
+      let as_printed = printed_so job contents source x answer is run outcome in
+      inl (comes (source_action_of job contents) is.program x answer as_printed.0 cause as_printed.1 printed)
   when job contents source x is run cause (unreadable six read) = inr (inr (inr (six, read)))
   when job contents source x is run cause (wanting eight) = inr (inr (inl eight))
   when job contents source x is run cause (unwritten seven rose) = inr (inl seven)
@@ -298,7 +298,7 @@ count_row ask before now ob on result ran alone four = counts (ended_so 4 (omega
       × (x : Execution) × IsExecution job contents source x × IsReachedIn x.budget x × (e : Ended) × IsStoppedBy (source_action_of job contents) x e × (printed_steps e ≡ x.budget)
       × (text : List ℕ) × IsShown (source_action_of job contents) x e text × (on.taken ≡ then_bytes ob.taken text)
   counts e =
-      let s = e.told.part e.by in (
+      let s = e.as_printed.part e.by in (
         e.asked,
         e.contents,
         e.source,
@@ -320,15 +320,15 @@ beginning_row ask before now ob on result ran alone four = begins (ended_so 4 (o
   begins : EndedSo 4 before now ob on ask → (job : Job) × (contents : List (List ℕ)) × (source : Source) × WasRead ask job before contents × IsSource (source_text job contents) source
       × (x : Execution) × IsExecution job contents source x × (t : Tree LocalState) × IsStoppedAt x t × IsBeginning x t
       × (text : List ℕ) × IsShownAt (source_action_of job contents) x t text × (on.taken ≡ then_bytes ob.taken text)
-  begins e = let s = e.told.part e.by in (e.asked, e.contents, e.source, e.was, e.is, e.x, e.run, s.tree, s.at, s.begins, e.answer.text, s.shown_there, e.taken)
+  begins e = let s = e.as_printed.part e.by in (e.asked, e.contents, e.source, e.was, e.is, e.x, e.run, s.tree, s.at, s.begins, e.answer.text, s.shown_there, e.taken)
 
 -- ---- runs on several inputs
 
--- of a source whose units use slots of their own, the status is told exactly where its cause is so
+-- of a source whose units use slots of their own, the answer has the status exactly where its cause is so
 decides_exactly : (status : ℕ) (Cause : Execution → Type 0) → DecidesCause status Cause → (x : Execution) → UsesOwnSlots x.source → (status_of x ≡ status) ↔ Cause x
 decides_exactly status Cause tell x own = (tell.only x own, tell.when x own)
 
--- what is told of one of them
+-- what is printed of one of them
 end_of_one : (x : Execution) (e : Ended) → UsesOwnSlots x.source → IsEnd InSomeOrder x e → IsEndOfOne x e
 end_of_one x e own end = record {
   is = end;
@@ -368,7 +368,7 @@ printed_of_each job contents source answer ob on result own (named, es, each, is
   (printed.0 ∙ runs_status job contents source answer (named, es, each, is), printed.1 ∙ ap (λ (a : Answer). then_bytes ob.taken a.text) is),
 )
 
--- what is told where runs on several inputs were asked for
+-- what is printed where runs on several inputs were asked for
 abbrev BatchSo : FilesAt → FilesAt → SinkAt → SinkAt → ℕ → Option Job → Type 0
 BatchSo before now ob on result ask = (now.failed ≡ before.failed) × (job : Job) × (contents : List (List ℕ)) × (source : Source) × WasRead ask job before contents × IsBatch job
     × IsSource (source_text job contents) source × (length (inputs_in job contents) ≡ length job.inputs) × PrintedOfEach job contents source ob on result
@@ -396,7 +396,7 @@ batch_row ask before now ob on result ran = record {
   by_read : (job : Job) (answer : Answer) (files_read : FilesResult) → ask ≡ Some job → IsBatch job → ReadsGave (reads_of job) before now files_read → AnswersRead job files_read answer → Printed answer.status answer.text ob on result → IsEndStatus result
       → BatchSo before now ob on result ask
   by_read job answer (all contents) asks task (are, same) is printed end = by_source job contents answer asks task same are (answered_source job contents answer is) printed end
-  by_read job answer (unread_file r) asks task reads is printed end = absurd (let e : answer.status ≡ 6 = ap (λ (a : Answer). a.status) is in omega (arith, e, printed.0, end.0))
+  by_read job answer (failed_file r) asks task reads is printed end = absurd (let e : answer.status ≡ 6 = ap (λ (a : Answer). a.status) is in omega (arith, e, printed.0, end.0))
   by_read job answer (longer_file r) asks task reads is printed end = absurd (let e : answer.status ≡ 6 = ap (λ (a : Answer). a.status) is in omega (arith, e, printed.0, end.0))
 
   by_wrote : (job : Job) → ask ≡ Some job → IsBatch job → Wrote (Some job) before now ob on result → IsEndStatus result → BatchSo before now ob on result ask
@@ -435,7 +435,7 @@ refused_by : (job : Job) (contents : List (List ℕ)) (source : Source) (line : 
 refused_by job contents source line (task, why) =
     subst (λ (t : Task). IsRefusedBy (action_by t job (beside_in job contents)) (execution job contents source) line) (sym task) why
 
--- what is told where a journal was refused
+-- what is printed where a journal was refused
 abbrev JournalRefusedSo : FilesAt → FilesAt → SinkAt → SinkAt → Option Job → Type 0
 JournalRefusedSo before now ob on a = (now.failed ≡ before.failed) × (job : Job) × (contents : List (List ℕ)) × (source : Source) × (line : List ℕ) × WasRead a job before contents
     × IsSource (source_text job contents) source × IsJobRefused job contents source line × (on.taken ≡ then_bytes ob.taken line)
@@ -447,7 +447,7 @@ journal_row ask before now ob on result ran = record {
 } where
   line_came : (job : Job) (contents : List (List ℕ)) (source : Source) (line : List ℕ) (program : Program) (answer : Answer) → IsRefusedBy (source_action_of job contents) (execution job contents source) line
       → ActionOf job contents program source answer → Printed answer.status answer.text ob on result → Printed 9 line ob on result
-  line_came job contents source line program answer why (ends x own run only free told) printed = absurd (free line why)
+  line_came job contents source line program answer why (ends x own run only free as_printed) printed = absurd (free line why)
   line_came job contents source line program answer why (stays other cause only none is) printed =
       (printed.0 ∙ ap (λ (a : Answer). a.status) is, printed.1 ∙ ap (λ (t : List ℕ). then_bytes ob.taken t) (ap (λ (a : Answer). a.text) is ∙ only line why))
   line_came job contents source line program answer why (many several end none free) printed = absurd (free line why)
@@ -462,8 +462,8 @@ journal_row ask before now ob on result ran = record {
 
   by_action : (job : Job) (contents : List (List ℕ)) (source : Source) (answer : Answer) → now.failed ≡ before.failed → AreContents before.held (reads_of job) contents → (is : IsSource (source_text job contents) source)
       → ActionOf job contents is.program source answer → Printed answer.status answer.text ob on result → result ≡ 9 → JournalRefusedSo before now ob on (Some job)
-  by_action job contents source answer same are is (ends x own run only free told) printed nine =
-      absurd (let h = action_below (source_action_of job contents) x in let e = told.status in omega (arith, h, e, printed.0, nine))
+  by_action job contents source answer same are is (ends x own run only free as_printed) printed nine =
+      absurd (let h = action_below (source_action_of job contents) x in let e = as_printed.status in omega (arith, h, e, printed.0, nine))
   by_action job contents source answer same are is (stays line why only none refused) printed nine =
       (same, job, contents, source, line, record { asked = refl; read = are }, is, refused_as job contents source line why, printed.1 ∙ ap (λ (a : Answer). then_bytes ob.taken a.text) refused)
   by_action job contents source answer same are is (many several end none free) printed nine = absurd (omega (arith, end.0, printed.0, nine))
@@ -476,7 +476,7 @@ journal_row ask before now ob on result ran = record {
   by_read : (job : Job) (answer : Answer) (files_read : FilesResult) → ReadsGave (reads_of job) before now files_read → AnswersRead job files_read answer → Printed answer.status answer.text ob on result → result ≡ 9
       → JournalRefusedSo before now ob on (Some job)
   by_read job answer (all contents) (are, same) is printed nine = by_source job contents answer same are (answered_source job contents answer is) printed nine
-  by_read job answer (unread_file r) reads is printed nine = absurd (let e : answer.status ≡ 6 = ap (λ (a : Answer). a.status) is in omega (arith, e, printed.0, nine))
+  by_read job answer (failed_file r) reads is printed nine = absurd (let e : answer.status ≡ 6 = ap (λ (a : Answer). a.status) is in omega (arith, e, printed.0, nine))
   by_read job answer (longer_file r) reads is printed nine = absurd (let e : answer.status ≡ 6 = ap (λ (a : Answer). a.status) is in omega (arith, e, printed.0, nine))
 
   by_wrote : (a : Option Job) → Wrote a before now ob on result → result ≡ 9 → JournalRefusedSo before now ob on a
@@ -487,7 +487,7 @@ journal_row ask before now ob on result ran = record {
 
 -- ---- a source that is refused
 
--- what is told where a source was refused
+-- what is printed where a source was refused
 abbrev RefusedSo : FilesAt → FilesAt → SinkAt → SinkAt → Option Job → Type 0
 RefusedSo before now ob on a = (now.failed ≡ before.failed) × (job : Job) × (contents : List (List ℕ)) × (line : List ℕ) × WasRead a job before contents × IsNoSource (source_text job contents)
     × IsRefusal (source_text job contents) line × (on.taken ≡ then_bytes ob.taken line)
@@ -520,7 +520,7 @@ refused_row ask before now ob on result ran = record {
   by_read : (job : Job) (answer : Answer) (files_read : FilesResult) → ReadsGave (reads_of job) before now files_read → AnswersRead job files_read answer → Printed answer.status answer.text ob on result → result ≡ 5
       → RefusedSo before now ob on (Some job)
   by_read job answer (all contents) (are, same) is printed five = by_source job contents answer same are (answered_source job contents answer is) printed five
-  by_read job answer (unread_file r) reads is printed five = absurd (let e : answer.status ≡ 6 = ap (λ (a : Answer). a.status) is in omega (arith, e, printed.0, five))
+  by_read job answer (failed_file r) reads is printed five = absurd (let e : answer.status ≡ 6 = ap (λ (a : Answer). a.status) is in omega (arith, e, printed.0, five))
   by_read job answer (longer_file r) reads is printed five = absurd (let e : answer.status ≡ 6 = ap (λ (a : Answer). a.status) is in omega (arith, e, printed.0, five))
 
   by_wrote : (a : Option Job) → Wrote a before now ob on result → result ≡ 5 → RefusedSo before now ob on a
@@ -545,7 +545,7 @@ file_row ask before now ob on result ran = record {
   by_read : (job : Job) (answer : Answer) (files_read : FilesResult) → ReadsGave (reads_of job) before now files_read → AnswersRead job files_read answer → Printed answer.status answer.text ob on result → result ≡ 6
       → FileCause (Some job) before now ob on
   by_read job answer (all contents) (are, same) is printed six = by_source job contents answer (answered_source job contents answer is) printed six
-  by_read job answer (unread_file r) (comes, read) is printed six = (job, r, refl, comes, inl (read, printed.1 ∙ ap (λ (a : Answer). then_bytes ob.taken a.text) is))
+  by_read job answer (failed_file r) (comes, read) is printed six = (job, r, refl, comes, inl (read, printed.1 ∙ ap (λ (a : Answer). then_bytes ob.taken a.text) is))
   by_read job answer (longer_file r) (comes, same, long) is printed six = (job, r, refl, comes, inr (same, long, printed.1 ∙ ap (λ (a : Answer). then_bytes ob.taken a.text) is))
 
   by_wrote : (a : Option Job) → Wrote a before now ob on result → result ≡ 6 → FileCause a before now ob on
@@ -558,7 +558,7 @@ file_row ask before now ob on result ran = record {
       → ReadsGave (reads_of job) before now files_read → AnswersRead job files_read answer → Printed answer.status answer.text ob on result
       → PrintedUnlessUnread 6 (longer_line r.name r.limit) job before now ob on result
   when_saw job r bytes answer (all contents) up h over (are, same) is printed = absurd (not_all_read before.held (reads_of job) contents r bytes up h over are)
-  when_saw job r bytes answer (unread_file q) up h over (comes, read) is printed = inr (printed.0 ∙ ap (λ (a : Answer). a.status) is, (q, comes, read))
+  when_saw job r bytes answer (failed_file q) up h over (comes, read) is printed = inr (printed.0 ∙ ap (λ (a : Answer). a.status) is, (q, comes, read))
   when_saw job r bytes answer (longer_file q) up h over (comes, same, long) is printed =
       let P : FileView → Type 0 = λ (y : FileView). Printed 6 (longer_line y.name y.limit) ob on result in
       inl (inl (subst P (one_too_long before.held (reads_of job) q r bytes up h over comes long) (came_as answer 6 (longer_line q.name q.limit) ob on result is printed)))
@@ -569,18 +569,18 @@ file_row ask before now ob on result ran = record {
   when job r bytes up h over (lacked printed) = inl (inr (inr printed.0))
   when job r bytes up h over (failed answer may is rose part) = inl (inr (inl is))
 
--- an answer that is no want of memory doesn't tell of it, nor of a sink that failed
+-- an answer that is no want of memory has neither its status nor that of a sink that failed
 answers_no_fault : (fault : ℕ) → 7 ≤ fault → fault ≤ 8 → (ask : Option Job) (before now : FilesAt) (answer : Answer) → Answers ask before now answer → answer.status ≡ fault → ⊥
-answers_no_fault fault least most None before now answer (same, is) told = let e : answer.status ≡ 2 = ap (λ (a : Answer). a.status) is in omega (arith, e, told, least)
-answers_no_fault fault least most (Some job) before now answer (files_read, reads_all, is) told = by_read files_read is where
+answers_no_fault fault least most None before now answer (same, is) as_printed = let e : answer.status ≡ 2 = ap (λ (a : Answer). a.status) is in omega (arith, e, as_printed, least)
+answers_no_fault fault least most (Some job) before now answer (files_read, reads_all, is) as_printed = by_read files_read is where
   by_source : (contents : List (List ℕ)) → OutcomeOf job contents answer → ⊥
-  by_source contents (does source has done only free) = action_no_fault fault (omega (arith, least)) most answer.status (does_status job contents source answer has done) told
-  by_source contents (refuses line why only none same) = let e : answer.status ≡ 5 = ap (λ (a : Answer). a.status) same in omega (arith, e, told, least)
+  by_source contents (does source has done only free) = action_no_fault fault (omega (arith, least)) most answer.status (does_status job contents source answer has done) as_printed
+  by_source contents (refuses line why only none same) = let e : answer.status ≡ 5 = ap (λ (a : Answer). a.status) same in omega (arith, e, as_printed, least)
 
   by_read : (reads : FilesResult) → AnswersRead job reads answer → ⊥
   by_read (all contents) done = by_source contents (answered_source job contents answer done)
-  by_read (unread_file r) same = let e : answer.status ≡ 6 = ap (λ (a : Answer). a.status) same in omega (arith, e, told, least)
-  by_read (longer_file r) same = let e : answer.status ≡ 6 = ap (λ (a : Answer). a.status) same in omega (arith, e, told, least)
+  by_read (failed_file r) same = let e : answer.status ≡ 6 = ap (λ (a : Answer). a.status) same in omega (arith, e, as_printed, least)
+  by_read (longer_file r) same = let e : answer.status ≡ 6 = ap (λ (a : Answer). a.status) same in omega (arith, e, as_printed, least)
 
 pub sink_row : (ask : Option Job) (before now : FilesAt) (ob on : SinkAt) (result : ℕ) → Ran ask before now ob on result → SinkRow ask before now ob on result
 sink_row ask before now ob on result ran = record {
@@ -589,7 +589,7 @@ sink_row ask before now ob on result ran = record {
   never_falls = never ran.written;
 } where
   only : Wrote ask before now ob on result → result ≡ 7 → HasRisen ob.faults on.faults × (answer : Answer) × MayAnswer ask before now answer × TakesPart ob.taken answer.text on.taken
-  only (answered answer told printed) seven = absurd (answers_no_fault 7 (omega arith) (omega arith) ask before now answer told (sym printed.0 ∙ seven))
+  only (answered answer as_printed printed) seven = absurd (answers_no_fault 7 (omega arith) (omega arith) ask before now answer as_printed (sym printed.0 ∙ seven))
   only (lacked printed) seven = absurd (omega (arith, printed.0, seven))
   only (failed answer may is rose part) seven = (rose, answer, may, part)
 
@@ -604,7 +604,7 @@ sink_row ask before now ob on result ran = record {
 pub memory_row : (ask : Option Job) (before now : FilesAt) (ob on : SinkAt) (result : ℕ) → Ran ask before now ob on result → MemoryRow ob on result
 memory_row ask before now ob on result ran eight = by_wrote (wrote ask before now ob on result ran) where
   by_wrote : Wrote ask before now ob on result → on.taken ≡ then_bytes ob.taken memory_line
-  by_wrote (answered answer told printed) = absurd (answers_no_fault 8 (omega arith) (omega arith) ask before now answer told (sym printed.0 ∙ eight))
+  by_wrote (answered answer as_printed printed) = absurd (answers_no_fault 8 (omega arith) (omega arith) ask before now answer as_printed (sym printed.0 ∙ eight))
   by_wrote (lacked printed) = printed.1
   by_wrote (failed answer may is rose part) = absurd (omega (arith, is, eight))
 
@@ -619,7 +619,7 @@ words_row ask before now ob on result ran = record {
 
   by_read : (job : Job) (answer : Answer) (files_read : FilesResult) → AnswersRead job files_read answer → answer.status ≡ 2 → ⊥
   by_read job answer (all contents) is two = by_source job contents answer (answered_source job contents answer is) two
-  by_read job answer (unread_file r) is two = let e : answer.status ≡ 6 = ap (λ (a : Answer). a.status) is in omega (arith, e, two)
+  by_read job answer (failed_file r) is two = let e : answer.status ≡ 6 = ap (λ (a : Answer). a.status) is in omega (arith, e, two)
   by_read job answer (longer_file r) is two = let e : answer.status ≡ 6 = ap (λ (a : Answer). a.status) is in omega (arith, e, two)
 
   only : (a : Option Job) → Wrote a before now ob on result → result ≡ 2 → (a ≡ None) × (on.taken ≡ then_bytes ob.taken usage_line)

@@ -4,7 +4,7 @@ use Rattle.shim_command.specs.declared.job.Job.{Job}
 use Rattle.shim_results.specs.Answer.{Answer, AnswersSource}
 use Rattle.shim_tool.specs.Moments.{FilesAt}
 use Rattle.shim_tool.specs.Modes.{source_action_of, execution, reads_of, source_text}
-use Rattle.shim_tool.specs.Reads.{GrewByOneOf, ReadsAll, FilesResult, all, longer_file, unread_file}
+use Rattle.shim_tool.specs.Reads.{GrewByOneOf, ReadsAll, FilesResult, all, longer_file, failed_file}
 
 unfoldable pub usage_line : List ℕ
 usage_line = codes "usage: shim MODE FILE [INPUT]... [--input FILE] [--workers N] [--budget B] [--quantum Q] [--size N] [--journal FILE] [--steal]\n"
@@ -33,7 +33,7 @@ no_memory = record { status = 8; text = memory_line }
 -- the answer to what the reads of a job's files gave
 abbrev pub AnswersRead : Job → FilesResult → Answer → Type 0
 AnswersRead job (all contents) answer = AnswersSource (source_action_of job contents) (execution job contents) (source_text job contents) answer
-AnswersRead job (unread_file r) answer = answer ≡ file_failed r.name
+AnswersRead job (failed_file r) answer = answer ≡ file_failed r.name
 AnswersRead job (longer_file r) answer = answer ≡ file_too_long r.name r.limit
 
 -- the files of a job are read, and what these reads gave is answered

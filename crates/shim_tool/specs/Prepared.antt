@@ -16,7 +16,7 @@ use Rattle.shim_answers.specs.Tasks.{Beside, action_by}
 use Rattle.shim_results.specs.SourceActions.{executed, shown_of}
 use Rattle.shim_tool.specs.Moments.{FilesAt}
 use Rattle.shim_tool.specs.Modes.{IsBatch, beside_in, input_in, inputs_in, reads_of, source_text}
-use Rattle.shim_tool.specs.Reads.{HoldsAll, ReadsAll, OneReadFailed, FilesResult, all, longer_file, unread_file}
+use Rattle.shim_tool.specs.Reads.{HoldsAll, ReadsAll, OneReadFailed, FilesResult, all, longer_file, failed_file}
 use Rattle.shim_tool.specs.Answer.{file_failed, file_too_long, usage}
 use Rattle.shim_tool.specs.Rows.{WasRead}
 
@@ -26,11 +26,11 @@ pub data Prepared : Type 0 where
   to_record : RunToRecord → Prepared
   to_run_each : RunOfEach → Prepared
 
--- the source of the job is run by workers, and this is told of how that ended
+-- the source of the job is run by workers, and this is printed of how that ended
 abbrev pub IsForWorkers : Job → Showing → Type 0
 IsForWorkers job showing = (row_of job.mode).task ≡ Runs InSomeOrder showing
 
--- and so is the source of a job whose journal is told
+-- and so is the source of a job whose journal is printed
 abbrev pub IsToRecord : Job → Type 0
 IsToRecord job = (row_of job.mode).task ≡ Records
 
@@ -47,7 +47,7 @@ abbrev pub LeavesToWorkers : Job → Showing → List ℕ → List ℕ → Prepa
 LeavesToWorkers job showing input bytes p =
     OfBytes (λ program source q. q ≡ to_run (record { job = job; showing = showing; source = source; input = input })) (λ fault q. q ≡ answered (refused fault)) bytes p
 
--- the same of a source whose journal is told
+-- the same of a source whose journal is printed
 abbrev pub LeavesToRecord : Job → List ℕ → List ℕ → Prepared → Type 0
 LeavesToRecord job input bytes p =
     OfBytes (λ program source q. q ≡ to_record (record { job = job; source = source; input = input })) (λ fault q. q ≡ answered (refused fault)) bytes p
@@ -68,7 +68,7 @@ PreparesRun job input bytes p = (beside : Beside) → beside.input ≡ input →
 -- what comes of what the reads of a job's files gave
 abbrev pub PreparesRead : Job → FilesResult → Prepared → Type 0
 PreparesRead job (all contents) p = PreparesSource job (beside_in job contents) (source_text job contents) p
-PreparesRead job (unread_file r) p = p ≡ answered (file_failed r.name)
+PreparesRead job (failed_file r) p = p ≡ answered (file_failed r.name)
 PreparesRead job (longer_file r) p = p ≡ answered (file_too_long r.name r.limit)
 
 abbrev pub PreparesJob : Job → FilesAt → FilesAt → Prepared → Type 0
@@ -100,7 +100,7 @@ pub record RunRow (ask : Option Job) (before now : FilesAt) (p : Prepared) : Typ
       → IsSource (source_text job contents) source → IsForWorkers job showing
       → (p ≡ to_run (record { job = job; showing = showing; source = source; input = input_in job contents })) ⊎ OneReadFailed (reads_of job) before now
 
--- A run is to be done and recorded exactly where the words have a job whose journal is told, and the job's text is a source. The run is of that source, with the input that was read.
+-- A run is to be done and recorded exactly where the words have a job whose journal is printed, and the job's text is a source. The run is of that source, with the input that was read.
 pub record RecordRow (ask : Option Job) (before now : FilesAt) (p : Prepared) : Type 0 where
   pub only : (r : RunToRecord) → p ≡ to_record r → (now.failed ≡ before.failed) × (job : Job) × (contents : List (List ℕ)) × (source : Source) × WasRead ask job before contents
       × IsSource (source_text job contents) source × IsToRecord job × (r ≡ record { job = job; source = source; input = input_in job contents })

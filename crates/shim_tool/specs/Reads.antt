@@ -4,7 +4,7 @@ use Rattle.shim_edge.specs.Files.{file_of, HasFile}
 use Rattle.shim_tool.specs.Moments.{FilesAt, KeepsFiles}
 use Rattle.shim_tool.specs.Modes.{FileView}
 
--- names and contents of files, where they are told
+-- names and contents of files, where they are known
 abbrev pub KnownFiles : Type 0
 KnownFiles = Option (List (List ℕ × List ℕ))
 
@@ -18,11 +18,11 @@ pub data FileResult : Type 0 where
 abbrev pub ReadFailed : List ℕ → FilesAt → FilesAt → Type 0
 ReadFailed name before now = (now.failed ≡ before.failed ++ name ∷ []) × (IsTrue before.sound → HasFile before.held name → ⊥)
 
--- the file is told and has more bytes than it may have, or isn't told
+-- the file is known and has more bytes than it may have, or isn't known
 abbrev pub IsTooLong : FileView → KnownFiles → Type 0
 IsTooLong r held = IfSome held (λ files. IsSomeAnd (file_of files r.name) (λ content. r.limit < length content))
 
--- the bytes are those of the file, where it is told, and no more than it may have
+-- the bytes are those of the file, where it is known, and no more than it may have
 abbrev pub IsContent : FileView → KnownFiles → List ℕ → Type 0
 IsContent r held bytes = (length bytes ≤ r.limit) × IfSome held (λ files. file_of files r.name ≡ Some bytes)
 
@@ -35,17 +35,17 @@ ReadsOne r before now (whole bytes) = (now.failed ≡ before.failed) × IsConten
 -- what the reads of several files gave: the contents of all; or one couldn't be read, or has more bytes than it may have
 pub data FilesResult : Type 0 where
   all : List (List ℕ) → FilesResult
-  unread_file : FileView → FilesResult
+  failed_file : FileView → FilesResult
   longer_file : FileView → FilesResult
 
 abbrev pub then_read : List ℕ → FilesResult → FilesResult
 then_read content (all rest) = all (content ∷ rest)
-then_read content (unread_file r) = unread_file r
+then_read content (failed_file r) = failed_file r
 then_read content (longer_file r) = longer_file r
 
 -- what one read gave is all, or the files behind it are read, too
 abbrev pub Follows : FileView → (FilesAt → FilesAt → FilesResult → Type 0) → FilesAt → FilesAt → FilesResult → FileResult → Type 0
-Follows r on between now files_read unread = (now ≡ between) × (files_read ≡ unread_file r)
+Follows r on between now files_read unread = (now ≡ between) × (files_read ≡ failed_file r)
 Follows r on between now files_read longer = (now ≡ between) × (files_read ≡ longer_file r)
 Follows r on between now files_read (whole bytes) = (rest : FilesResult) × on between now rest × (files_read ≡ then_read bytes rest)
 
@@ -55,20 +55,20 @@ ReadsAll [] before now files_read = (now ≡ before) × (files_read ≡ all [])
 ReadsAll (r ∷ rs) before now files_read = (between : FilesAt) × (one : FileResult) × KeepsFiles before between × ReadsOne r before between one
     × Follows r (ReadsAll rs) between now files_read one
 
--- the files are told, and hold these bytes under the name
+-- the files are known, and hold these bytes under the name
 pub record Holds (held : KnownFiles) (name bytes : List ℕ) : Type 0 where
   pub files : List (List ℕ × List ℕ)
-  pub told : held ≡ Some files
+  pub known : held ≡ Some files
   pub found : file_of files name ≡ Some bytes
 
--- the files are told, and hold these contents, each of which is as short as it has to be
+-- the files are known, and hold these contents, each of which is as short as it has to be
 abbrev pub HoldsAll : KnownFiles → List FileView → List (List ℕ) → Type 0
 HoldsAll held [] [] = Unit {0}
 HoldsAll held [] (content ∷ contents) = ⊥
 HoldsAll held (r ∷ rs) [] = ⊥
 HoldsAll held (r ∷ rs) (content ∷ contents) = Holds held r.name content × (length content ≤ r.limit) × HoldsAll held rs contents
 
--- these are the contents of the files, where they are told
+-- these are the contents of the files, where they are known
 abbrev pub AreContents : KnownFiles → List FileView → List (List ℕ) → Type 0
 AreContents held [] [] = Unit {0}
 AreContents held [] (content ∷ contents) = ⊥
@@ -80,7 +80,7 @@ abbrev pub ComesToRead : KnownFiles → List FileView → FileView → Type 0
 ComesToRead held [] r = ⊥
 ComesToRead held (x ∷ xs) r = (r ≡ x) ⊎ ((content : List ℕ) × IsContent x held content × ComesToRead held xs r)
 
--- the same of files that are told
+-- the same of files that are known
 abbrev pub HoldsUpTo : KnownFiles → List FileView → FileView → Type 0
 HoldsUpTo held [] r = ⊥
 HoldsUpTo held (x ∷ xs) r = (r ≡ x) ⊎ ((content : List ℕ) × Holds held x.name content × (length content ≤ x.limit) × HoldsUpTo held xs r)

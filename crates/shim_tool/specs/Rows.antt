@@ -49,9 +49,9 @@ IsBatchAsked ask = (job : Job) × (ask ≡ Some job) × IsBatch job
 abbrev pub PrintedWithText : ℕ → SourceAction → Program → Execution → SinkAt → SinkAt → ℕ → Type 0
 PrintedWithText status action program x out_before out_now result = (text : List ℕ) × IsTextBy action program x text × Printed status text out_before out_now result
 
--- The rows below say "exactly where" of told files, within their limits. Of other files each says that there is some source, fault or cause that fits.
+-- The rows below say "exactly where" of known files, within their limits. Of other files each says that there is some source, fault or cause that fits.
 
--- 0, 1, 3 of words that ask for one run or none: exactly where the job has a source whose meaning ends for this cause within the budget. The text is that of the mode: for `run` and `ref` the report of that meaning. The order of events in the run doesn't matter. A source that isn't run has 0 wherever it is accepted, with what is told of its program. A run within the budget leads to the tree of the meaning. What `trace` writes is the journal of a run to that tree. A journal that is replayed is one, too, and its budget counts.
+-- 0, 1, 3 of words that ask for one run or none: exactly where the job has a source whose meaning ends for this cause within the budget. The text is that of the mode: for `run` and `ref` the report of that meaning. The order of events in the run doesn't matter. A source that isn't run has 0 wherever it is accepted, with what is printed of its program. A run within the budget leads to the tree of the meaning. What `trace` writes is the journal of a run to that tree. A journal that is replayed is one, too, and its budget counts.
 pub record EndRow (status : ℕ) (Cause : Execution → Type 0) (ask : Option Job) (before now : FilesAt) (out_before out_now : SinkAt) (result : ℕ) : Type 0 where
   pub only : (IsBatchAsked ask → ⊥) → result ≡ status → (now.failed ≡ before.failed) × (job : Job) × (contents : List (List ℕ)) × (source : Source) × WasRead ask job before contents
       × (is : IsSource (source_text job contents) source) × (x : Execution) × IsExecution job contents source x × EndsBy status Cause (source_action_of job contents) x × IsReached (source_action_of job contents) x
@@ -73,31 +73,31 @@ pub record SpentRow (ask : Option Job) (before now : FilesAt) (out_before out_no
       → IsSource (source_text job contents) source → IsExecution job contents source x → EndsBy 4 IsSpent (source_action_of job contents) x
       → PrintedStopped (source_action_of job contents) x out_before out_now result ⊎ (result ≡ 7) ⊎ (result ≡ 8) ⊎ ((result ≡ 6) × OneReadFailed (reads_of job) before now)
 
--- 4 of such words: a run of as many events as the budget has leads to the tree of the meaning, too. The own steps and the events that are read off the tree that is told add up to the budget; `run`, `ref`, `why` and `replay` print them.
+-- 4 of such words: a run of as many events as the budget has leads to the tree of the meaning, too. The own steps and the events that are read off the tree that is printed add up to the budget; `run`, `ref`, `why` and `replay` print them.
 abbrev pub CountRow : Option Job → FilesAt → SinkAt → SinkAt → ℕ → Type 0
 CountRow ask before out_before out_now result = (IsBatchAsked ask → ⊥) → result ≡ 4 → (job : Job) × (contents : List (List ℕ)) × (source : Source) × WasRead ask job before contents
     × IsSource (source_text job contents) source × (x : Execution) × IsExecution job contents source x × IsReachedIn x.budget x × (e : Ended) × IsStoppedBy (source_action_of job contents) x e
     × (printed_steps e ≡ x.budget) × (text : List ℕ) × IsShown (source_action_of job contents) x e text × (out_now.taken ≡ then_bytes out_before.taken text)
 
--- 4 of such words: the tree that is told, or to which the journal leads that is told or replayed, is one at which a run is stopped, and what was put and met in it is a prefix of what the meaning gives in as many rounds as the budget has events
+-- 4 of such words: the tree that is printed, or to which the journal leads that is printed or replayed, is one at which a run is stopped, and what was put and met in it is a prefix of what the meaning gives in as many rounds as the budget has events
 abbrev pub BeginningRow : Option Job → FilesAt → SinkAt → SinkAt → ℕ → Type 0
 BeginningRow ask before out_before out_now result = (IsBatchAsked ask → ⊥) → result ≡ 4 → (job : Job) × (contents : List (List ℕ)) × (source : Source) × WasRead ask job before contents
     × IsSource (source_text job contents) source × (x : Execution) × IsExecution job contents source x × (t : Tree LocalState) × IsStoppedAt x t × IsBeginning x t
     × (text : List ℕ) × IsShownAt (source_action_of job contents) x t text × (out_now.taken ≡ then_bytes out_before.taken text)
 
--- What one of several runs comes to: what its meaning comes to, to which a run within the budget leads, unless that is stopped by the budget. Then a run was stopped at a tree that is told: the own steps and the events that its report prints add up to the budget, and what was put and met in it is a prefix of what the meaning gives in as many rounds as the budget has events. The status of the meaning tells its cause, as that of a source that is run once does.
+-- What one of several runs comes to: what its meaning comes to, to which a run within the budget leads, unless that is stopped by the budget. Then a run was stopped at a tree that is printed: the own steps and the events that its report prints add up to the budget, and what was put and met in it is a prefix of what the meaning gives in as many rounds as the budget has events. The status of the meaning tells its cause, as that of a source that is run once does.
 pub record IsEndOfOne (x : Execution) (e : Ended) : Type 0 where
   pub is : IsEnd InSomeOrder x e
   pub causes : ((status_of x ≡ 0) ↔ IsDone x) × ((status_of x ≡ 1) ↔ IsFailed x) × ((status_of x ≡ 3) ↔ IsBlocked x) × ((status_of x ≡ 4) ↔ IsSpent x)
   pub reached : IsReachedWithin x
   pub stopped : status_of x ≡ 4 → (t : Tree LocalState) × IsStoppedAt x t × IsBeginning x t × (e ≡ read_off x t) × (printed_steps e ≡ x.budget)
 
--- The reports of a run on each input came, in the order of the names, with the greatest of the statuses that tell how the meanings ended.
+-- The reports of a run on each input came, in the order of the names, with the greatest of the statuses for how the meanings ended.
 abbrev pub PrintedOfEach : Job → List (List ℕ) → Source → SinkAt → SinkAt → ℕ → Type 0
 PrintedOfEach job contents source out_before out_now result = (es : List Ended) × AllZip IsEndOfOne (executions job contents source) es
     × Printed (greatest (map status_of (executions job contents source))) (reports_of source job.inputs es) out_before out_now result
 
--- 0, 1, 3, 4 of words that ask for several runs: exactly where the job has a source, which was run on as many inputs as the words name. The meaning on each input tells of its own run.
+-- 0, 1, 3, 4 of words that ask for several runs: exactly where the job has a source, which was run on as many inputs as the words name. The meaning on each input is that of its own run.
 pub record BatchRow (ask : Option Job) (before now : FilesAt) (out_before out_now : SinkAt) (result : ℕ) : Type 0 where
   pub only : IsBatchAsked ask → IsEndStatus result → (now.failed ≡ before.failed) × (job : Job) × (contents : List (List ℕ)) × (source : Source) × WasRead ask job before contents
       × IsBatch job × IsSource (source_text job contents) source × (length (inputs_in job contents) ≡ length job.inputs) × PrintedOfEach job contents source out_before out_now result

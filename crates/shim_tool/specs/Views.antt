@@ -9,7 +9,7 @@ use Rattle.shim_tool.specs.declared.files.FilesRead.TheVariants.{All, Failed, To
 use Rattle.shim_tool.specs.declared.files.Found.{Found}
 use Rattle.shim_tool.specs.declared.files.Found.TheVariants.{Unread, Longer, Whole}
 use Rattle.shim_tool.specs.Modes.{FileView}
-use Rattle.shim_tool.specs.Reads.{FilesResult, FileResult, all, longer, longer_file, unread, unread_file, whole}
+use Rattle.shim_tool.specs.Reads.{FilesResult, FileResult, all, longer, longer_file, unread, failed_file, whole}
 
 abbrev pub found_view : Found → FileResult
 found_view Unread = unread
@@ -25,7 +25,7 @@ reading_view file = record { name = file.name.now; limit = file.limit }
 
 abbrev pub read_view : FilesRead → FilesResult
 read_view (All contents) = all contents
-read_view (Failed file) = unread_file (reading_view file)
+read_view (Failed file) = failed_file (reading_view file)
 read_view (TooLong file) = longer_file (reading_view file)
 
 abbrev pub beside_view : ReadBeside → Beside

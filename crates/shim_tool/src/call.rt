@@ -86,14 +86,14 @@ fn run_tool<F: Files, K: Sink, G: Gate, R: Threads + Wait + Sync>(
 /// returns.
 ///
 /// The processes of a run do their work piece by piece, each piece behind the gate, on at most as many
-/// threads as the words ask for. Whatever their number and the order of events, the run ends as its meaning
+/// threads as the arguments ask for. Whatever their number and the order of events, the run ends as its meaning
 /// does, with the text of that, where the meaning ends within the budget. Else it is stopped at a tree to
-/// which some run of just the budget's events leads, and that is told. Where the journal of the run is told
+/// which some run of just the budget's events leads, and that is printed. Where the journal of the run is printed
 /// in place of the report, it is that of a run to such a tree, and its own report is what a replay of it
-/// tells: a journal is replayed exactly where it is a run of the source, within the journal's own budget,
+/// prints: a journal is replayed exactly where it is a run of the source, within the journal's own budget,
 /// that ends quiescent or with the budget spent.
 ///
-/// Of runs on several inputs at most as many are done at a time as the words ask for workers, each by one
+/// Of runs on several inputs at most as many are done at a time as the arguments ask for workers, each by one
 /// worker; their reports are written in the order of the inputs, each behind the line of its input, and the
 /// status is the greatest that a meaning has. No clause says that the source is compiled once for all of
 /// them.
@@ -112,9 +112,9 @@ pub fn shim<F: Files, K: Sink, G: Gate, R: Threads + Wait + Sync>(
     ensures ran { Ran (job (texts_of words.now)) (files_at F.held F.sound F.failed files.old)
         (files_at F.held F.sound F.failed files.new) (sink_at K.taken K.faults out.old)
         (sink_at K.taken K.faults out.new) result }
-    // What follows says "exactly where" of told files, within their limits. Of other files each clause says
-    // that there is some source, fault or cause that fits. Statuses 0, 1, 3 and 4 are told of words that ask
-    // for one run, or for none, up to `batch`, which tells them of words that ask for several.
+    // What follows says "exactly where" of known files, within their limits. Of other files each clause says
+    // that there is some source, fault or cause that fits. Statuses 0, 1, 3 and 4 are said of words that ask
+    // for one run, or for none, up to `batch`, which says them of words that ask for several.
     // 0: exactly where the root of the source ends in its meaning, with the text of the mode, as the report
     // of that meaning; of a source that isn't run, exactly where it is accepted.
     ensures done { EndRow 0 IsDone (job (texts_of words.now)) (files_at F.held F.sound F.failed files.old)
@@ -133,15 +133,15 @@ pub fn shim<F: Files, K: Sink, G: Gate, R: Threads + Wait + Sync>(
         (files_at F.held F.sound F.failed files.new) (sink_at K.taken K.faults out.old)
         (sink_at K.taken K.faults out.new) result }
     // 4: exactly where something can still happen in the meaning after the budget's events. `ref` and
-    // `why` tell the meaning itself, and `run` and `gen` a tree that some run of just the budget's events reaches; `trace`
-    // tells the journal of a run to such a tree, and `replay` the tree to which its journal leads.
+    // `why` print the meaning itself, and `run` and `gen` a tree that some run of just the budget's events reaches; `trace`
+    // prints the journal of a run to such a tree, and `replay` the tree to which its journal leads.
     ensures spent { SpentRow (job (texts_of words.now)) (files_at F.held F.sound F.failed files.old)
         (files_at F.held F.sound F.failed files.new) (sink_at K.taken K.faults out.old)
         (sink_at K.taken K.faults out.new) result }
     // Then the own steps and the events that a report prints add up to the budget.
     ensures counts { CountRow (job (texts_of words.now)) (files_at F.held F.sound F.failed files.old)
         (sink_at K.taken K.faults out.old) (sink_at K.taken K.faults out.new) result }
-    // In the tree that is told what was put, and what each channel gave, are prefixes of what the meaning
+    // In the tree that is printed what was put, and what each channel gave, are prefixes of what the meaning
     // gives in as many rounds as the budget has events.
     ensures beginning { BeginningRow (job (texts_of words.now)) (files_at F.held F.sound F.failed files.old)
         (sink_at K.taken K.faults out.old) (sink_at K.taken K.faults out.new) result }

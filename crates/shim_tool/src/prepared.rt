@@ -1,4 +1,4 @@
-// What is done without a thread: the words, the files, each refusal, and what is told of a source that
+// What is done without a thread: the words, the files, each refusal, and what is printed of a source that
 // workers don't run.
 ghost use Rattle.std.specs.Prelude.{◌≡◌, ◌≤◌, IfOk, length};
 ghost use Rattle.shim_command.specs.Jobs.{IsWithin, job, texts_of};
@@ -202,13 +202,13 @@ fn prepare_job<F: Files>(alloc: Global, job: Job, files: &mut F) -> Result<Prepa
     }
 }
 
-/// Does what needs no thread: reads the words, of which the first is the program's own name, then the
-/// files that the mode reads, and then the source; answers what is refused on the way, and what is told of
-/// a source that workers don't run. It starts no thread, waits for nothing, and returns.
+/// Does what needs no thread: reads the arguments, of which the first is the program's own name, then the
+/// files that the mode reads, and then the source; answers what is refused on the way, and what is printed of a
+/// source that workers don't run. It starts no thread, waits for nothing, and returns.
 ///
 /// A run is left to be done exactly where the mode has its sources run by workers and the text is a
 /// source, which is left with its input; and so is one that is to be recorded, and so are runs on several
-/// inputs, of which there are as many as the words name. "Exactly where" is said of told files, within
+/// inputs, of which there are as many as the arguments name. "Exactly where" is said of known files, within
 /// their limits; of other files, that there is such a source. A read that failed may come in place of
 /// both, and so may out of memory, which is `Err`.
 pub fn prepare<F: Files>(

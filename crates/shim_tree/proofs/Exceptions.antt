@@ -32,9 +32,9 @@ trap_acts {S} o l b kind line e s =
 
 -- or puts
 pub put_acts : {S : Type 0} (o : Ops S) (l m : S) (b : NodeStatus S) (effects : Effects) → b ≡ code.Live → o.stop l ≡ AtPut → effects ≡ putting (o.byte l) → m ≡ o.put l → ActsAtNode o (node l b) effects (node m b)
-put_acts {S} o l m b effects e s told there =
+put_acts {S} o l m b effects e s put_effects there =
     ap (act_here o) (ap (node l) e ∙ node_live l) ∙ (ap (act_live o l) s
-    ∙ sym ((λ t. let r : Acted S = record { node = (ap (node m) e ∙ node_live m) t; effects = told t } in Some r)
+    ∙ sym ((λ t. let r : Acted S = record { node = (ap (node m) e ∙ node_live m) t; effects = put_effects t } in Some r)
     ∙ ap (λ z. let r : Acted S = record { node = model.Live z; effects = putting (o.byte l) } in Some r) there))
 
 -- the children's values, taken back as the code asks: they go on behind the fork where no label is found

@@ -18,52 +18,52 @@ use Rattle.shim_run_log.specs.Reserved.{stepped, HasCount, KeepsCounts, with_cou
 use Rattle.shim_semantics.specs.Sound.{IsSound}
 use Rattle.shim_run_log.specs.Logged.{logged}
 use Rattle.shim_run_log.proofs.Logged.{with_one_more}
-use Rattle.shim_tree.specs.Telling.{Tells}
+use Rattle.shim_tree.specs.OwnStepEffects.{DoesOwnStep}
 use Rattle.shim_tree.specs.declared.effects.Effects.{Effects}
-use Rattle.shim_tree.specs.declared.effects.Effects.TheVariants as told
+use Rattle.shim_tree.specs.declared.effects.Effects.TheVariants as variant
 use Rattle.shim_run_log.proofs.Reserved.{few_steps, placed, steps_placed, none_stepped, more_stay, steps_more}
 use Rattle.shim_tree.proofs.Placed.{still_placed}
 use Rattle.shim_semantics.proofs.SoundEvents.{route_sound}
 use Rattle.shim_base.proofs.Facts.{first_holds, cond_there}
 
--- what the code was told of an event, put or logged
+-- the effects of an event by the code, put or logged
 module _ {S : Type 0} (o : Ops S) (p : Path) (before after : Node S) (put put' : List ℕ) (logs logs' : List Log) (t : Effects) (acts_so : ActsOn o p before (effects_of t) after) where
-  pub nothing_told : t ≡ told.Nothing → put' ≡ put → logs' ≡ logs → Tells o p before after put put' (logged logs) (logged logs')
-  nothing_told is puts same = record {
+  pub nothing_done : t ≡ variant.Nothing → put' ≡ put → logs' ≡ logs → DoesOwnStep o p before after put put' (logged logs) (logged logs')
+  nothing_done is puts same = record {
     effects = nothing;
     acts = subst (λ z. ActsOn o p before (effects_of z) after) is acts_so;
     puts = puts ∙ sym (append-nil put);
     logs_more = ap logged same;
   }
 
-  pub byte_told : (b : ℕ) → t ≡ told.Byte b → put' ≡ put ++ b ∷ [] → logs' ≡ logs → Tells o p before after put put' (logged logs) (logged logs')
-  byte_told b is puts same = record {
-    effects = effects_of (told.Byte b);
+  pub byte_put : (b : ℕ) → t ≡ variant.Byte b → put' ≡ put ++ b ∷ [] → logs' ≡ logs → DoesOwnStep o p before after put put' (logged logs) (logged logs')
+  byte_put b is puts same = record {
+    effects = effects_of (variant.Byte b);
     acts = subst (λ z. ActsOn o p before (effects_of z) after) is acts_so;
     puts = puts;
     logs_more = ap logged same;
   }
 
-  pub log_told : (w : LogWhat) (e : Log) → t ≡ told.Log w → put' ≡ put → e.path ≡ p → e.what ≡ w → logs' ≡ logs ++ e ∷ [] → Tells o p before after put put' (logged logs) (logged logs')
-  log_told w e is puts path what more = record {
-    effects = effects_of (told.Log w);
+  pub log_added : (w : LogWhat) (e : Log) → t ≡ variant.Log w → put' ≡ put → e.path ≡ p → e.what ≡ w → logs' ≡ logs ++ e ∷ [] → DoesOwnStep o p before after put put' (logged logs) (logged logs')
+  log_added w e is puts path what more = record {
+    effects = effects_of (variant.Log w);
     acts = subst (λ z. ActsOn o p before (effects_of z) after) is acts_so;
     puts = puts ∙ sym (append-nil put);
     logs_more = ap logged more ∙ (with_one_more finite.empty logs e ∙ (λ i. with_logs (logged logs) (path i) (what i ∷ [])));
   }
 
 -- t is the tree that the code's parts mean, and u the one that they mean afterwards
-module _ {S : Type 0} (o : Ops S) (p : Path) (t u v : Tree S) (is : t ≡ v) (tells : Tells o p t.root u.root t.output u.output t.logs u.logs) (histories : u.histories ≡ t.histories) where
+module _ {S : Type 0} (o : Ops S) (p : Path) (t u v : Tree S) (is : t ≡ v) (did : DoesOwnStep o p t.root u.root t.output u.output t.logs u.logs) (histories : u.histories ≡ t.histories) where
   -- a step of its own, with one count more
   pub own_done : (m m' : finite.FinMap path_order ℕ) → t.counts ≡ stepped m → u.counts ≡ stepped m' → m' ≡ more_steps m p 1 → u.events ≡ t.events → count_own p v (acted_on o p v.root) ≡ Some u
   own_done m m' counts counts' more events =
       let grown = counts' ∙ (ap stepped more ∙ (steps_more m p 1 ∙ ap (λ z. finite.insert z p (count_of z p + 1)) (sym counts))) in
       subst (λ z. count_own p z (acted_on o p z.root) ≡ Some u) is
-      (ap (count_own p t) tells.acts ∙ (λ i. Some (record { root = u.root; output = sym tells.puts i; histories = sym histories i; logs = sym tells.logs_more i; counts = sym grown i; events = sym events i })))
+      (ap (count_own p t) did.acts ∙ (λ i. Some (record { root = u.root; output = sym did.puts i; histories = sym histories i; logs = sym did.logs_more i; counts = sym grown i; events = sym events i })))
 
 -- what a process does by itself leaves a sound tree
-pub told_sound : {S : Type 0} (o : Ops S) → LocalLaws o → (p : Path) (n n' : Node S) (put put' : List ℕ) (logs logs' : finite.FinMap path_order (List LogWhat)) → IsSound o n → Tells o p n n' put put' logs logs' → IsSound o n'
-told_sound o law p n n' put put' logs logs' s tells = route_sound o law (route (o.path (state n)) p) n (record { node = n'; effects = tells.effects }) s tells.acts
+pub own_step_sound : {S : Type 0} (o : Ops S) → LocalLaws o → (p : Path) (n n' : Node S) (put put' : List ℕ) (logs logs' : finite.FinMap path_order (List LogWhat)) → IsSound o n → DoesOwnStep o p n n' put put' logs logs' → IsSound o n'
+own_step_sound o law p n n' put put' logs logs' s did = route_sound o law (route (o.path (state n)) p) n (record { node = n'; effects = did.effects }) s did.acts
 
 -- one step more takes no place away
 pub more_placed : {S : Type 0} (o : Ops S) (m m' : finite.FinMap path_order ℕ) (p : Path) (n : Node S) → m' ≡ more_steps m p 1 → AllHaveCounts o m n → AllHaveCounts o m' n
@@ -95,6 +95,6 @@ started l t root output histories logs none m m' p fresh e logs_are counts event
     let no_counts = counts ∙ (ap stepped e ∙ (steps_placed m p ∙ (ap stepped fresh ∙ none_stepped))) in
     λ i. record { root = root i; output = output i; histories = histories i; logs = no_logs i; counts = no_counts i; events = events i }
 
--- the test of the code tells what the walk's emptiness does
-pub told_quiescent : (b x : Bool) (Q : Type 0) → b ≡ x → (x ≡ true) ↔ Q → IsTrue b ↔ Q
-told_quiescent b x Q e w = (λ t. w.0 (sym e ∙ t), λ q. e ∙ w.1 q)
+-- the test of the code says what the walk's emptiness does
+pub answered_quiescent : (b x : Bool) (Q : Type 0) → b ≡ x → (x ≡ true) ↔ Q → IsTrue b ↔ Q
+answered_quiescent b x Q e w = (λ t. w.0 (sym e ∙ t), λ q. e ∙ w.1 q)

@@ -7,7 +7,7 @@ use Rattle.shim_semantics.specs.Places.{SoundBelow, StandsAt, at, at_route, bran
 use Rattle.shim_semantics.proofs.Leading.{route_rest}
 use Rattle.shim_semantics.proofs.Routes.{route_of}
 use Rattle.shim_tree.specs.ChildCounts.{live_in}
-use Rattle.shim_semantics.proofs.Advances.{stands_by}
+use Rattle.shim_semantics.proofs.Advances.{process_at}
 use Rattle.shim_base.proofs.Facts.{some_same, none_some}
 
 lives : {S : Type 0} (x : Option (Node S)) (l : S) → live_in x ≡ Some l → x ≡ Some (Live l)
@@ -25,7 +25,7 @@ module _ {S : Type 0} (o : Ops S) (n : Node S) (p : Path) where
   -- who stands there lives behind the root's path
   pub stands_behind : (l : S) → StandsAt o n p (Live l) → (length (o.path (state n)) ≤ length p) × (at rest n ≡ Some (Live l))
   stands_behind l w =
-      let s = stands_by n (route (o.path (state n)) p) l w.there in
+      let s = process_at n (route (o.path (state n)) p) l w.there in
       let r = route_rest (o.path (state n)) p s.branches s.is in
       (r.0, ap (λ z. at z n) (sym r.1) ∙ s.there)
 

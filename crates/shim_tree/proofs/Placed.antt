@@ -11,7 +11,7 @@ use Rattle.shim_semantics.specs.Quiets.{ComesBy}
 use Rattle.shim_tree.specs.Advancing.{AllHaveCounts}
 use Rattle.shim_run_log.specs.Reserved.{HasCount, KeepsCounts}
 use Rattle.shim_semantics.specs.Advancing.{with_state, with_state_at, with_state_in}
-use Rattle.shim_semantics.proofs.Advances.{stands_by}
+use Rattle.shim_semantics.proofs.Advances.{process_at}
 use Rattle.shim_base.proofs.Facts.{some_same, none_some}
 
 pub all_left : {A : Type 0} (P : A → Type 0) (xs ys : List A) → AllOf P (xs ++ ys) → AllOf P xs
@@ -72,13 +72,13 @@ module _ {S : Type 0} (o : Ops S) where
 
   pub comes_placed : (m : FinMap path_order ℕ) (t : Tree S) (n : ℕ) (last : S) → ComesBy o t n last → AllHaveCounts o m t.root → HasCount m (o.path last)
   comes_placed m t n last comes h =
-      let w = stands_by t.root _ comes.start comes.stands.there in
-      subst (HasCount m) comes.stands.is_its (place_there m comes.start w.branches t.root w.there h)
+      let w = process_at t.root _ comes.start comes.in_tree.there in
+      subst (HasCount m) comes.in_tree.is_its (place_there m comes.start w.branches t.root w.there h)
 
   pub advanced_placed : (m m' : FinMap path_order ℕ) (t : Tree S) (n : ℕ) (last : S) (new : Node S) → ComesBy o t n last → KeepsCounts m m'
       → ((q : List ℕ) → route (o.path (state t.root)) (o.path last) ≡ Some q → new ≡ with_state_at last q t.root)
       → AllHaveCounts o m t.root → AllHaveCounts o m' new
   advanced_placed m m' t n last new comes keeps is h =
-      let w = stands_by t.root _ comes.start comes.stands.there in
+      let w = process_at t.root _ comes.start comes.in_tree.there in
       subst (AllHaveCounts o m') (sym (is w.branches w.is))
-      (still_placed m m' _ keeps (placed_with m last comes.start (sym comes.stands.is_its) w.branches t.root w.there h))
+      (still_placed m m' _ keeps (placed_with m last comes.start (sym comes.in_tree.is_its) w.branches t.root w.there h))

@@ -6,7 +6,7 @@ use Rattle.shim_base.specs.Paths.{Path, Channel, same_pair}
 use Rattle.shim_local.specs.Process.{Ops}
 use Rattle.shim_semantics.specs.Nodes as model
 use Rattle.shim_semantics.specs.Nodes.{state}
-use Rattle.shim_semantics.specs.Poison.{dooms, any_dooms, is_doomed, is_ready_child, poisoned, all_poisoned, one_poisoned, can_poison, poison_here, above, before_rest, after_one, poison_route}
+use Rattle.shim_semantics.specs.Poison.{dooms, any_dooms, is_doomed, is_ready_child, poisoned, all_poisoned, one_poisoned, can_poison, poison_node, above, before_rest, after_one, poison_route}
 use Rattle.shim_tree.specs.Poisoning.{poison_by, poison_among}
 use Rattle.shim_semantics.specs.Places.{behind_front, branches, option_branches, route, led_to, has_path}
 use Rattle.shim_semantics.specs.Trees.{poisons}
@@ -88,24 +88,24 @@ module _ {S : Type 0} (o : Ops S) (c : Channel) where
   ready_there (suc i) (l ∷ ls) (f ∷ fs) e = let w = ready_there i ls fs e in omega (arith, w)
 
   -- what is known where the child in a place of the fork is poisoned
-  pub record PoisonsHere (l : S) (b : NodeStatus S) (i : ℕ) (ls : List S) (bs : List (NodeStatus S)) : Type 0 where
+  pub record PoisonsNode (l : S) (b : NodeStatus S) (i : ℕ) (ls : List S) (bs : List (NodeStatus S)) : Type 0 where
     pub there : i < length ls
     pub some : 1 ≤ o.handlers l
-    pub is : poison_here o c i (node l b) ≡ Some (model.Forked l (one_poisoned o c (model.death (o.handlers l - 1)) i (together ls (nodes bs))))
+    pub is : poison_node o c i (node l b) ≡ Some (model.Forked l (one_poisoned o c (model.death (o.handlers l - 1)) i (together ls (nodes bs))))
 
-  pub poisons_here : (l : S) (b : NodeStatus S) (i : ℕ) (ls : Vec S Global) (bs : Vec (NodeStatus S) Global) → b ≡ code.Forked ls bs → (poison_here o c i (node l b) ≡ None → ⊥) → PoisonsHere l b i ls.items bs.items
+  pub poisons_here : (l : S) (b : NodeStatus S) (i : ℕ) (ls : Vec S Global) (bs : Vec (NodeStatus S) Global) → b ≡ code.Forked ls bs → (poison_node o c i (node l b) ≡ None → ⊥) → PoisonsNode l b i ls.items bs.items
   poisons_here l b i ls bs e h =
       let n = at_forked l b ls bs e in
       let ks = together ls.items (nodes bs.items) in
-      let w = cond_there (can_poison o l c i ks) (Some (model.Forked l (one_poisoned o c (model.death (o.handlers l - 1)) i ks))) (λ z. h (ap (poison_here o c i) n ∙ z)) in
+      let w = cond_there (can_poison o l c i ks) (Some (model.Forked l (one_poisoned o c (model.death (o.handlers l - 1)) i ks))) (λ z. h (ap (poison_node o c i) n ∙ z)) in
       record {
         there = ready_there i ls.items (nodes bs.items) (first_holds (is_ready_child o c i ks) (is_doomed o (o.handlers l) c i ks) w.0);
         some = doomed_some (o.handlers l) i ks (second_holds (is_ready_child o c i ks) (is_doomed o (o.handlers l) c i ks) w.0);
-        is = ap (poison_here o c i) n ∙ w.1;
+        is = ap (poison_node o c i) n ∙ w.1;
       }
 
-  pub poison_done : (l : S) (b : NodeStatus S) (i x : ℕ) (ls ls' : Vec S Global) (bs bs' : Vec (NodeStatus S) Global) → PoisonsHere l b i ls.items bs.items → x ≡ o.handlers l - 1
-      → together ls'.items (nodes bs'.items) ≡ one_poisoned o c (model.death x) i (together ls.items (nodes bs.items)) → poison_here o c i (node l b) ≡ Some (node l (code.Forked ls' bs'))
+  pub poison_done : (l : S) (b : NodeStatus S) (i x : ℕ) (ls ls' : Vec S Global) (bs bs' : Vec (NodeStatus S) Global) → PoisonsNode l b i ls.items bs.items → x ≡ o.handlers l - 1
+      → together ls'.items (nodes bs'.items) ≡ one_poisoned o c (model.death x) i (together ls.items (nodes bs.items)) → poison_node o c i (node l b) ≡ Some (node l (code.Forked ls' bs'))
   poison_done l b i x ls ls' bs bs' p e n =
       p.is ∙ ap Some (ap (model.Forked l) (ap (λ z. one_poisoned o c (model.death z) i (together ls.items (nodes bs.items))) (sym e) ∙ sym n) ∙ sym (node_forked l ls' bs'))
 

@@ -61,14 +61,14 @@ module _ {S : Type 0} (o : Ops S) where
         by_entry None e = refl
         by_entry (Some v) e =
             let w = (pieces_are_entries o laws).piece u v p n sound some e in
-            none_some w.0 ((none w.0).1 (subst (λ z. StandsAt o u.root z (Live w.0)) w.3 w.2.stands))
+            none_some w.0 ((none w.0).1 (subst (λ z. StandsAt o u.root z (Live w.0)) w.3 w.2.in_tree))
 
     -- t is the tree that the code's parts mean, where m are the counts with their places
-    module _ (t : Tree S) (m : FinMap path_order ℕ) (counts : t.counts ≡ stepped m) (u : Tree S) (e : t ≡ u) (p : Path) (first : S) (stands : StandsAt o u.root p (Live first)) (sound : IsSound o t.root)
+    module _ (t : Tree S) (m : FinMap path_order ℕ) (counts : t.counts ≡ stepped m) (u : Tree S) (e : t ≡ u) (p : Path) (first : S) (in_tree : StandsAt o u.root p (Live first)) (sound : IsSound o t.root)
         (most : ℕ) (few : steps u + most ≤ 4000000) (placed : AllHaveCounts o m t.root) (left : Path) (rest : left ≡ drop (length (o.path (state t.root))) p) (r : Quiet) (new : Node S)
         (quiet : QuietAt o (branches left) most r t.root new) where
       here : StandsAt o t.root p (Live first)
-      here = subst (λ (z : Tree S). StandsAt o z.root p (Live first)) (sym e) stands
+      here = subst (λ (z : Tree S). StandsAt o z.root p (Live first)) (sym e) in_tree
 
       sound_of : IsSound o u.root
       sound_of = subst (λ (z : Tree S). IsSound o z.root) e sound
@@ -80,10 +80,10 @@ module _ {S : Type 0} (o : Ops S) where
       went = quiet first found
 
       same : o.path went.last ≡ p
-      same = same_path_behind r.taken first went.last (sound_at o (branches left) t.root (Live first) sound.below found) went.steps ∙ stands.is_its
+      same = same_path_behind r.taken first went.last (sound_at o (branches left) t.root (Live first) sound.below found) went.steps ∙ in_tree.is_its
 
       comes : ComesBy o u r.taken went.last
-      comes = record { start = first; stands = subst (λ z. StandsAt o u.root z (Live first)) (sym same) stands; steps = went.steps }
+      comes = record { start = first; in_tree = subst (λ z. StandsAt o u.root z (Live first)) (sym same) in_tree; steps = went.steps }
 
       put : (q : List ℕ) → route (o.path (state t.root)) (o.path went.last) ≡ Some q → new ≡ with_state_at went.last q t.root
       put q i =
@@ -114,8 +114,8 @@ module _ {S : Type 0} (o : Ops S) where
             by_entry None i = refl
             by_entry (Some v) i =
                 let w = (pieces_are_entries o laws).piece u v p most sound_of (omega (arith, h)) i in
-                let other = subst (λ z. StandsAt o u.root z (Live w.0)) w.3 w.2.stands in
-                let it : w.0 ≡ first = ap state (some_same (Live w.0) (Live first) (sym other.there ∙ stands.there)) in
+                let other = subst (λ z. StandsAt o u.root z (Live w.0)) w.3 w.2.in_tree in
+                let it : w.0 ≡ first = ap state (some_same (Live w.0) (Live first) (sym other.there ∙ in_tree.there)) in
                 absurd (went.fewer h short (stands_between r.taken most first went.last w.1 h went.steps (subst (λ z. QuietSteps o most z w.1) it w.4)))
 
         pub goes : DoesQuietSteps o p most r u (moved_on t new (stepped more))

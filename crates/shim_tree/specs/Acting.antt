@@ -1,4 +1,4 @@
--- What an event at a process of the code leaves, and what it tells.
+-- What an event at a process of the code leaves, and its effects.
 use Rattle.std.specs.Prelude.{◌≡◌, ℕ, Option, Some, List, [], ◌∷◌}
 use Rattle.shim_base.specs.Paths.{Path}
 use Rattle.shim_local.specs.Process.{Ops}
@@ -9,7 +9,7 @@ use Rattle.shim_semantics.specs.Acts.{Effects, nothing, putting, Acted, act_here
 use Rattle.shim_semantics.specs.Places.{route, SoundChildren}
 use Rattle.shim_semantics.specs.Trees.{act_route}
 
--- what the code tells of an event
+-- the effects of an event by the code
 abbrev pub effects_of : CodeEffects → Effects
 effects_of code.Nothing = nothing
 effects_of (code.Byte b) = putting (Some b)

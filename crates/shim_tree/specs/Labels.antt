@@ -16,6 +16,6 @@ abbrev pub prevailing_of : Option Death → Option Death → Option Death
 prevailing_of None y = y
 prevailing_of (Some d) y = prevailing d y
 
--- the exception of this death, thrown in the process, leaves this node and tells this
+-- the exception of this death, thrown in the process, leaves this node and has these effects
 abbrev pub ThrowLeaves : {S : Type 0} → Ops S → S → Death → Effects → Node S → Type 0
 ThrowLeaves o l d effects after = thrown o l d ≡ record { node = after; effects = effects }

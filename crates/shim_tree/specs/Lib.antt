@@ -4,7 +4,7 @@ pub mod Beside
 pub mod Finding
 pub mod Searching
 pub mod Acting
-pub mod Telling
+pub mod OwnStepEffects
 pub mod Inserted
 pub mod Labels
 pub mod Meeting

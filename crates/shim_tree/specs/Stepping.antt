@@ -10,7 +10,7 @@ use Rattle.shim_semantics.specs.Trees.{Tree}
 use Rattle.shim_laws_replay.specs.Journals.{quiet_steps}
 use Rattle.shim_semantics.specs.Advancing.{with_state_at}
 
--- The process in this state, to which the branches lead, did the steps that the answer tells, of which there are so many at most.
+-- The process in this state, to which the branches lead, did the steps that the answer says, of which there are so many at most.
 pub record DidQuietSteps {S : Type 0} (o : Ops S) (q : List ℕ) (most : ℕ) (quiet : Quiet) (first : S) (before after : Node S) : Type 0 where
   pub last : S
   pub steps : QuietSteps o quiet.taken first last
@@ -22,7 +22,7 @@ pub record DidQuietSteps {S : Type 0} (o : Ops S) (q : List ℕ) (most : ℕ) (q
 abbrev pub QuietAt : {S : Type 0} → Ops S → List ℕ → ℕ → Quiet → Node S → Node S → Type 0
 QuietAt {S} o q most quiet before after = (first : S) → at q before ≡ Some (Live first) → DidQuietSteps o q most quiet first before after
 
--- the process of the path did the steps that the answer tells; where they are fewer than so many, and no memory was wanted, so many can't be done
+-- the process of the path did the steps that the answer says; where they are fewer than so many, and memory didn't run out, so many can't be done
 pub record DoesQuietSteps {S : Type 0} (o : Ops S) (p : Path) (most : ℕ) (quiet : Quiet) (before after : Tree S) : Type 0 where
   pub within : quiet.taken ≤ most
   pub leads : quiet_steps o p quiet.taken before ≡ Some after

@@ -28,7 +28,7 @@ abbrev pub fork_of : {S : Type 0} → Ops S → List S → ℕ
 fork_of o [] = 0
 fork_of o (l ∷ ls) = last_fork (o.path l)
 
--- a count as 32 bits tell it
+-- a count as 32 bits have it
 abbrev pub as_word : ℕ → ℕ
 as_word n = min n 4294967295
 

@@ -28,11 +28,11 @@ fn step_quietly<L: Local>(process: &mut L) -> Result<(), NoMemory>
     Ok(())
 }
 
-// The put at which the process stands. Where its expression traps, nothing is told yet, and the
+// The put at which the process is. Where its expression traps, there is no effect yet, and the
 // process stands trapped.
 fn put<L: Local>(process: &mut L) -> Effects
     requires { L.ops.stop process.old ≡ AtPut }
-    ensures told { effects_of result ≡ putting (L.ops.byte process.old) }
+    ensures effects { effects_of result ≡ putting (L.ops.byte process.old) }
     ensures after { process.new ≡ L.ops.put process.old }
 {
     match process.put() {
@@ -75,9 +75,9 @@ fn throw<L: Local>(process: &mut L, status: &mut NodeStatus<L>, death: Death) ->
     Effects::Log(LogWhat::Caught(name, line))
 }
 
-// The throw of this label at which the process stands. Where its expression traps, nothing is told yet, and
+// The throw of this label at which the process is. Where its expression traps, there is no effect yet, and
 // the process stands trapped.
-fn throw_here<L: Local>(process: &mut L, status: &mut NodeStatus<L>, label: u32) -> Effects
+fn execute_throw<L: Local>(process: &mut L, status: &mut NodeStatus<L>, label: u32) -> Effects
     requires lives { status.old ≡ NodeStatus.Live }
     requires sound { L.ops.sound process.old }
     requires throws { L.ops.stop process.old ≡ AtThrow label }
@@ -101,7 +101,7 @@ fn act_live<L: Local>(process: &mut L, status: &mut NodeStatus<L>) -> Result<Eff
     requires lives { status.old ≡ NodeStatus.Live }
     requires sound { SoundBelow L.ops (node process.old status.old) }
     requires acts { act_here L.ops (node process.old status.old) ≢ None }
-    ensures ok { IfOk result (λ told. ActsAtNode L.ops (node process.old status.old) (effects_of told) (node process.new status.new)) }
+    ensures ok { IfOk result (λ effects. ActsAtNode L.ops (node process.old status.old) (effects_of effects) (node process.new status.new)) }
     ensures err { OnErr result (node process.new status.new ≡ node process.old status.old) }
 {
     match process.stop() {
@@ -118,7 +118,7 @@ fn act_live<L: Local>(process: &mut L, status: &mut NodeStatus<L>) -> Result<Eff
             *status = NodeStatus::Ended;
             Ok(Effects::Nothing)
         }
-        Stop::Throw(label) => Ok(throw_here(process, status, label)),
+        Stop::Throw(label) => Ok(execute_throw(process, status, label)),
         // a trap is the exception of a label that no handler has
         Stop::Trapped(kind, line) => {
             *status = NodeStatus::Dead(Death {
@@ -195,7 +195,7 @@ fn take_back<L: Local>(process: &mut L, children: &[L], statuses: &[NodeStatus<L
 fn act_alone<L: Local>(process: &mut L, status: &mut NodeStatus<L>) -> Result<Effects, NoMemory>
     requires sound { SoundBelow L.ops (node process.old status.old) }
     requires acts { act_here L.ops (node process.old status.old) ≢ None }
-    ensures ok { IfOk result (λ told. ActsAtNode L.ops (node process.old status.old) (effects_of told) (node process.new status.new)) }
+    ensures ok { IfOk result (λ effects. ActsAtNode L.ops (node process.old status.old) (effects_of effects) (node process.new status.new)) }
     ensures err { OnErr result (node process.new status.new ≡ node process.old status.old) }
 {
     match status {
@@ -224,7 +224,7 @@ fn act_child<L: Local>(
 ) -> Result<Effects, NoMemory>
     requires sound { SoundAmong L.ops (together processes.old.items (nodes statuses.old.items)) }
     requires acts { act_child L.ops place (branches pairs.now) (together processes.old.items (nodes statuses.old.items)) ≢ None }
-    ensures ok { IfOk result (λ told. ActsAmong L.ops place (branches pairs.now) (together processes.old.items (nodes statuses.old.items)) (effects_of told) (together processes.new.items (nodes statuses.new.items))) }
+    ensures ok { IfOk result (λ effects. ActsAmong L.ops place (branches pairs.now) (together processes.old.items (nodes statuses.old.items)) (effects_of effects) (together processes.new.items (nodes statuses.new.items))) }
     ensures err { OnErr result (together processes.new.items (nodes statuses.new.items) ≡ together processes.old.items (nodes statuses.old.items)) }
 {
     // takes memory, so it comes before anything has changed
@@ -233,7 +233,7 @@ fn act_child<L: Local>(
 }
 
 /// The process to which these pairs of a path lead from here does the one thing that it can do by
-/// itself. The answer is what that tells. Want of memory changes nothing.
+/// itself. The answer is the effect of that. Running out of memory changes nothing.
 #[cycle(act)]
 pub(crate) fn act_at<L: Local>(
     process: &mut L,
@@ -242,7 +242,7 @@ pub(crate) fn act_at<L: Local>(
 ) -> Result<Effects, NoMemory>
     requires sound { SoundBelow L.ops (node process.old status.old) }
     requires acts { act L.ops (branches pairs.now) (node process.old status.old) ≢ None }
-    ensures ok { IfOk result (λ told. ActsAt L.ops (branches pairs.now) (node process.old status.old) (effects_of told) (node process.new status.new)) }
+    ensures ok { IfOk result (λ effects. ActsAt L.ops (branches pairs.now) (node process.old status.old) (effects_of effects) (node process.new status.new)) }
     ensures err { OnErr result (node process.new status.new ≡ node process.old status.old) }
 {
     let Some((first, rest)) = pairs.split_first() else {
@@ -259,8 +259,8 @@ pub(crate) fn act_at<L: Local>(
     }
 }
 
-/// The process of this path does the one thing that it can do by itself. The answer is what that
-/// tells. Want of memory changes nothing.
+/// The process of this path does the one thing that it can do by itself. The answer is the effect of
+/// that. Running out of memory changes nothing.
 pub(crate) fn act_on<L: Local>(
     process: &mut L,
     status: &mut NodeStatus<L>,
@@ -268,7 +268,7 @@ pub(crate) fn act_on<L: Local>(
 ) -> Result<Effects, NoMemory>
     requires sound { SoundBelow L.ops (node process.old status.old) }
     requires acts { acted_on L.ops path.now (node process.old status.old) ≢ None }
-    ensures ok { IfOk result (λ told. ActsOn L.ops path.now (node process.old status.old) (effects_of told) (node process.new status.new)) }
+    ensures ok { IfOk result (λ effects. ActsOn L.ops path.now (node process.old status.old) (effects_of effects) (node process.new status.new)) }
     ensures err { OnErr result (node process.new status.new ≡ node process.old status.old) }
 {
     let front = process.path().pairs().len();

@@ -58,7 +58,7 @@ fn reserve_next<L: Local>(process: &L, counts: &mut StepCounts) -> Result<(), No
     }
 }
 
-/// The children that the process of this path would have by its next step get their counts. Want of
+/// The children that the process of this path would have by its next step get their counts. Running out of
 /// memory may leave some of them without.
 pub(crate) fn reserve_child_counts<L: Local>(
     root: &L,

@@ -204,7 +204,7 @@ fn fork_of<L: Local>(children: &[L]) -> u32
     }
 }
 
-// A count as 32 bits tell it.
+// A count as 32 bits have it.
 fn as_word(count: usize) -> u32
     ensures { result ≡ as_word count }
 {

@@ -1,4 +1,4 @@
-// What a process does by itself, with what that tells put and logged.
+// What a process does by itself, with its effects put and logged.
 ghost use Rattle.std.specs.Prelude.{◌≡◌, ◌≢◌, None, OnOk, OnErr};
 ghost use Rattle.shim_semantics.specs.Places.{SoundBelow};
 ghost use Rattle.shim_tree.specs.NodeStatus.{node};
@@ -6,7 +6,7 @@ ghost use Rattle.shim_tree.specs.Acting.{acted_on};
 ghost use Rattle.shim_tree.specs.Advancing.{AllHaveCounts};
 ghost use Rattle.shim_run_log.specs.Reserved.{stepped, KeepsCounts};
 ghost use Rattle.shim_run_log.specs.Logged.{logged};
-ghost use Rattle.shim_tree.specs.Telling.{Tells, TellsNothing};
+ghost use Rattle.shim_tree.specs.OwnStepEffects.{DoesOwnStep, ChangesNothing};
 
 use crate::act::act_on;
 use crate::child_counts::reserve_child_counts;
@@ -17,7 +17,7 @@ use shim_local::{Local, Log};
 use shim_run_log::StepCounts;
 
 /// The process of this path does the one thing that it can do by itself, and the byte that it puts, or
-/// what is logged of it, comes behind the others. The children that it then has have their counts. Want
+/// what is logged of it, comes behind the others. The children that it then has have their counts. Running out
 /// of memory changes nothing, but for counts of 0.
 pub(crate) fn own_step<L: Local>(
     root: &mut L,
@@ -29,8 +29,8 @@ pub(crate) fn own_step<L: Local>(
 ) -> Result<(), NoMemory>
     requires sound { SoundBelow L.ops (node root.old status.old) }
     requires acts { acted_on L.ops path.now (node root.old status.old) ≢ None }
-    ensures ok { OnOk result (Tells L.ops path.now (node root.old status.old) (node root.new status.new) output.old.items output.new.items (logged logs.old.items) (logged logs.new.items)) }
-    ensures err { OnErr result (TellsNothing (node root.old status.old) (node root.new status.new) output.old.items output.new.items (logged logs.old.items) (logged logs.new.items)) }
+    ensures ok { OnOk result (DoesOwnStep L.ops path.now (node root.old status.old) (node root.new status.new) output.old.items output.new.items (logged logs.old.items) (logged logs.new.items)) }
+    ensures err { OnErr result (ChangesNothing (node root.old status.old) (node root.new status.new) output.old.items output.new.items (logged logs.old.items) (logged logs.new.items)) }
     ensures places { AllHaveCounts L.ops counts.old (node root.old status.old) → AllHaveCounts L.ops counts.new (node root.new status.new) }
     ensures keeps { KeepsCounts counts.old counts.new }
     ensures same { stepped counts.new ≡ stepped counts.old }

@@ -4,7 +4,7 @@ ghost use Rattle.std.specs.Prelude.{◌≡◌, ◌≢◌, ◌<◌, true, Some, N
 ghost use Rattle.shim_tree.specs.NodeStatus.{node, nodes, together};
 ghost use Rattle.shim_tree.specs.Filled.{is_filled};
 ghost use Rattle.shim_semantics.specs.Nodes.{death};
-ghost use Rattle.shim_semantics.specs.Poison.{poisoned, one_poisoned, poison_here};
+ghost use Rattle.shim_semantics.specs.Poison.{poisoned, one_poisoned, poison_node};
 ghost use Rattle.shim_tree.specs.Poisoning.{poison_by, poison_among};
 ghost use Rattle.shim_semantics.specs.Trees.{poisons};
 
@@ -69,14 +69,14 @@ fn poison_child<L: Local>(
 }
 
 // The child in this place of the fork of the process is poisoned.
-fn poison_here<L: Local>(
+fn poison_node<L: Local>(
     process: &L,
     status: &mut NodeStatus<L>,
     place: usize,
     chan: &Chan,
 ) -> Result<(), NoMemory>
-    requires enabled { poison_here L.ops chan.now.channel place (node process.now status.old) ≢ None }
-    ensures ok { OnOk result (poison_here L.ops chan.now.channel place (node process.now status.old) ≡ Some (node process.now status.new)) }
+    requires enabled { poison_node L.ops chan.now.channel place (node process.now status.old) ≢ None }
+    ensures ok { OnOk result (poison_node L.ops chan.now.channel place (node process.now status.old) ≡ Some (node process.now status.new)) }
     ensures err { OnErr result (node process.now status.new ≡ node process.now status.old) }
 {
     match status {
@@ -122,7 +122,7 @@ fn poison_at<L: Local>(
     ensures err { OnErr result (node process.now status.new ≡ node process.now status.old) }
 {
     let Some((first, rest)) = pairs.split_first() else {
-        return poison_here(process, status, place, chan);
+        return poison_node(process, status, place, chan);
     };
     match status {
         NodeStatus::Forked(processes, statuses) => {
@@ -132,7 +132,7 @@ fn poison_at<L: Local>(
     }
 }
 
-/// The child of this path is poisoned on the channel. Want of memory changes nothing.
+/// The child of this path is poisoned on the channel. Running out of memory changes nothing.
 pub(crate) fn poison_on<L: Local>(
     process: &L,
     status: &mut NodeStatus<L>,

@@ -18,7 +18,7 @@ fn receive_here<L: Local>(process: &mut L, chan: &Chan, value: i64)
     }
 }
 
-/// Each live process here and below that stands at the channel receives the value.
+/// Each live process here and below that waits at the channel receives the value.
 pub(crate) fn receive_at<L: Local>(
     process: &mut L,
     status: &mut NodeStatus<L>,
@@ -79,7 +79,7 @@ fn value_at<L: Local>(process: &L, status: &NodeStatus<L>, chan: &Chan) -> Optio
     }
 }
 
-/// The value that a meeting on the channel gives: that of its source, and 0 where there is none.
+/// The value that a rendezvous on the channel gives: that of its source, and 0 where there is none.
 pub(crate) fn value_met<L: Local>(process: &L, status: &NodeStatus<L>, chan: &Chan) -> i64
     ensures { result ≡ value_of L.ops chan.now.channel (source L.ops chan.now.channel (node process.now status.now)) }
 {
@@ -87,7 +87,7 @@ pub(crate) fn value_met<L: Local>(process: &L, status: &NodeStatus<L>, chan: &Ch
 }
 
 // The name that the process has for the channel, where it stands there.
-fn name_here<L: Local>(process: &L, chan: &Chan) -> Option<u32>
+fn own_name<L: Local>(process: &L, chan: &Chan) -> Option<u32>
     ensures { result ≡ name_for chan.now.channel (next_channel (L.ops.stop process.now)) }
 {
     match process.stop() {
@@ -112,14 +112,14 @@ fn name_at<L: Local>(process: &L, status: &NodeStatus<L>, chan: &Chan) -> Option
     ensures { result ≡ first_name L.ops chan.now.channel (node process.now status.now) }
 {
     match status {
-        NodeStatus::Live => name_here(process, chan),
+        NodeStatus::Live => own_name(process, chan),
         NodeStatus::Ended | NodeStatus::Dead(_) => None,
         NodeStatus::Forked(processes, statuses) => {
             for i in 0..processes.len() {
                 let found = if i < statuses.len() {
                     name_at(&processes[i], &statuses[i], chan)
                 } else {
-                    name_here(&processes[i], chan)
+                    own_name(&processes[i], chan)
                 };
                 if found.is_some() {
                     return found;
@@ -130,7 +130,7 @@ fn name_at<L: Local>(process: &L, status: &NodeStatus<L>, chan: &Chan) -> Option
     }
 }
 
-/// The name by which a meeting on the channel is printed, and 0 where no process stands there.
+/// The name by which a rendezvous on the channel is printed, and 0 where no process waits there.
 pub(crate) fn name_met<L: Local>(process: &L, status: &NodeStatus<L>, chan: &Chan) -> u32
     ensures { result ≡ unwrap_or (first_name L.ops chan.now.channel (node process.now status.now)) 0 }
 {

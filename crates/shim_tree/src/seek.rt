@@ -52,7 +52,7 @@ pub(crate) enum Test<'a, L> {
     Poisons(&'a L, &'a [L], &'a [NodeStatus<L>], usize, &'a L),
 }
 
-/// What a live process can do: a step of its own, its end, or the meeting at which it stands, if it
+/// What a live process can do: a step of its own, its end, or the rendezvous at which it waits, if it
 /// declared that channel.
 pub(crate) fn own_event<L: Local>(l: &L) -> Option<Found<'_>>
     ensures { option_map found_event result ≡ head (own_events (L.ops.path l.now) (L.ops.stop l.now)) }

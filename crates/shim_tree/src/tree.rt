@@ -43,7 +43,7 @@ use std::alloc::Global;
 use std::marker::Model;
 
 /// A tree of processes: the root with those below it, the bytes that were put, the values that the
-/// meetings on each channel gave, what was logged, how many steps of its own each process did, and how
+/// rendezvous on each channel gave, what was logged, how many steps of its own each process did, and how
 /// many events were no process's own. Contracts see that, and its type keeps that the tree is sound.
 #[derive(Drop)]
 pub struct Tree<L: Local> {
@@ -119,7 +119,7 @@ impl<L: Local> Tree<L> {
         }
     }
 
-    /// An enabled event happens, and counts one step. Want of memory leaves the tree as it was.
+    /// An enabled event happens, and counts one step. Running out of memory leaves the tree as it was.
     pub fn do_event(&mut self, event: &Event) -> Result<(), NoMemory>
         requires enabled { after L.ops (event_of event.now) self.old ≢ None }
         requires few { steps self.old < 4000000 }
@@ -130,7 +130,7 @@ impl<L: Local> Tree<L> {
         self.happen(event)
     }
 
-    /// Whether no event is enabled. It takes no memory. Its clauses tell, too, that the tree is sound,
+    /// Whether no event is enabled. It takes no memory. Its clauses say, too, that the tree is sound,
     /// which its type keeps.
     pub fn quiescent(&self) -> bool
         ensures rests { IsTrue result ↔ IsQuiescent L.ops self.now }
@@ -219,7 +219,7 @@ impl<L: Local> Tree<L> {
         can_happen(&root, event)
     }
 
-    /// The values that the meetings on the channel gave, if it had one; it lends no empty list. It takes
+    /// The values that the rendezvous on the channel gave, if it had one; it lends no empty list. It takes
     /// no memory.
     pub fn history(&self, c: &Chan) -> Option<&[i64]>
         ensures values { option_copied result ≡ endings.history_at c.now.channel self.now }

@@ -18,7 +18,7 @@ pub mod Waiting
 pub mod Beginning
 pub mod AtMarks
 pub mod BackByCode
-pub mod Leaving
+pub mod Unwinding
 pub mod Entering
 pub mod Bodies
 pub mod BurstSteps

@@ -24,7 +24,7 @@ pub enum Action {
     Make(usize, Ty, u32, i64),
     /// The next byte of the input is stored in the slot's location.
     Read(usize, u32),
-    /// The unit is called with these arguments, and its exceptions stand for these labels.
+    /// The unit is called with these arguments, and its exceptions have these labels.
     Enter(usize, u32, List<Argument>, List<u32>),
     /// The exception of this number comes into force, by this name, with its handler at the second
     /// place, and with a variable of the handler in this slot, where it has one.
@@ -32,7 +32,7 @@ pub enum Action {
     Trapped(Trap),
 }
 
-// The place behind one. One that no number holds is taken for want of memory: no code is so long.
+// The place behind one. One that no number holds counts as out of memory: no code is so long.
 fn behind(place: usize) -> Result<usize, NoMemory>
     ensures { IfOk result (λ next. next ≡ place + 1) }
 {
@@ -114,8 +114,8 @@ fn install(
     Ok(Action::Install(next, handler, exception, name, slot))
 }
 
-/// What the instruction at which a computation ended does, by what the statement sees. Code that lacks what
-/// its instruction works on is taken for want of memory: no program has such.
+/// What the instruction at which a computation ended does, by what the statement sees. Code that lacks what its
+/// instruction works on counts as out of memory: no program has such.
 pub fn action_at(
     alloc: Global,
     code: &[MachineInstr],

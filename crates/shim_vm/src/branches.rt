@@ -25,8 +25,8 @@ use shim_locations::location::Location;
 use shim_locations::remainder::Remainder;
 use shim_walk::process::Process;
 
-/// Computes from a place on the arguments of the next branch of a fork, and answers its callee; `None` where
-/// the fork itself stands there. Code that comes to neither is taken for want of memory: the code of no fork
+/// Computes from a place on the arguments of the next branch of a fork, and answers its callee; `None` where the
+/// fork itself is there. Code that comes to neither counts as out of memory: the code of no fork
 /// is such.
 pub fn next_branch<'a>(
     computation: &mut Computation,
@@ -116,7 +116,7 @@ fn is_fork_instr(instr: Option<&MachineInstr>) -> bool
     }
 }
 
-/// The place behind the first fork that stands at a place or later.
+/// The place behind the first fork that is at a place or later.
 pub fn behind_fork(code: &[MachineInstr], place: usize) -> usize
     ensures { result ≡ behind_fork place (drop place code.now) }
 {

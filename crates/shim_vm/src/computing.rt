@@ -214,8 +214,8 @@ impl Computation {
         }
     }
 
-    /// Computes from the next place on, up to an instruction that does more. Code that doesn't come there
-    /// is taken for want of memory: the code of no program is such.
+    /// Computes from the next place on, up to an instruction that does more. Code that doesn't come there counts
+    /// as out of memory: the code of no program is such.
     pub fn run(
         &mut self,
         code: &[MachineInstr],

@@ -29,7 +29,7 @@ pub fn a_mark_leads_to_what_is_asked_for()
     ensures { (u : CodedUnit) (l : LocalState) (place : ℕ) → u.units ≡ l.program.units → NextSuits l.frame.todo l → IsPlaceOf u place l.frame.todo l.frame.halfway → (next_action l ≡ Wait) ⊎ ((r : Computed) × (Computes (env_of l.locations l.frame.slots) l.frame.slots u.code (record { place = place + 1; stack = []; given = [] }) r × EndAgrees u l r (next_action l))) }
 {}
 
-/// Where a process of an accepted program stands at a number of its unit, a call there has an argument for
+/// Where a process of an accepted program is at a number of its unit, a call there has an argument for
 /// each parameter.
 pub fn a_call_suits_its_unit()
     ensures { (l : LocalState) (number : ℕ) → IsAcceptedForm l.program → l.frame.todo ≡ left_all (unit_at l.program l.frame.unit).body number → NextSuits l.frame.todo l }

@@ -1,4 +1,4 @@
-// How a unit goes on from a place in its code to where it comes to rest, past jumps and the ends of `try`
+// How a unit goes on from a place in its code to where it resumes, past jumps and the ends of `try`
 // blocks.
 ghost use Rattle.std.specs.Prelude.{◌≡◌, ◌∷◌, ℕ, Bool, true, List as ListOf, length, slice_get};
 ghost use Rattle.std.specs.Option.{option_copied};
@@ -8,7 +8,7 @@ ghost use Rattle.shim_machine.specs.Machine.{CodedUnit};
 ghost use Rattle.shim_machine.specs.Correspondence.{AtHalf, IsCodeOf};
 ghost use Rattle.shim_vm.specs.declared.resuming.Rest.TheVariants as rest;
 ghost use Rattle.shim_vm.specs.declared.resuming.ResumePoint.TheVariants.{At};
-ghost use Rattle.shim_vm.specs.Resuming.{ResumesFor, is_unit_over, landing_of};
+ghost use Rattle.shim_vm.specs.Resuming.{ResumesFor, is_unit_over, resume_step};
 
 use crate::instrs::instr_at;
 use shim_code::MachineInstr;
@@ -25,7 +25,7 @@ pub enum Rest {
     End,
 }
 
-/// Where a unit comes to rest, and how many of its exception places are in force then, the outermost ones.
+/// Where a unit goes on, and how many of its exception places are in force then, the outermost ones.
 #[derive(Clone, Copy, Debug, PartialEq, Eq)]
 pub enum ResumePoint {
     /// At the mark at this place, of the statement of this number, or of its second part.
@@ -36,7 +36,7 @@ pub enum ResumePoint {
 
 /// What the instruction at a place is to it.
 pub fn rest_of(instr: Option<&MachineInstr>) -> Rest
-    ensures { result ≡ landing_of (option_copied instr.entry) }
+    ensures { result ≡ resume_step (option_copied instr.entry) }
 {
     match instr {
         Some(MachineInstr::Mark(mark)) => Rest::Mark(mark.number, mark.halfway),
@@ -48,7 +48,7 @@ pub fn rest_of(instr: Option<&MachineInstr>) -> Rest
 
 // At the mark of a loop, to which a jump leads back.
 fn back_at(code: &[MachineInstr], place: usize, kept: usize) -> ResumePoint
-    ensures { (number : ℕ) (halfway : Bool) → landing_of (slice_get code.now place) ≡ rest.Mark number halfway → result ≡ At place number halfway kept }
+    ensures { (number : ℕ) (halfway : Bool) → resume_step (slice_get code.now place) ≡ rest.Mark number halfway → result ≡ At place number halfway kept }
 {
     match rest_of(instr_at(code, place)) {
         Rest::Mark(number, halfway) => ResumePoint::At(place, number, halfway, kept),

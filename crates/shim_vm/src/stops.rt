@@ -17,8 +17,8 @@ use shim_locations::locations::number_of;
 use shim_walk::labels::label_for;
 use shim_walk::next_action::StatementContext;
 
-/// At what a process stands, so that it can be kept beside the process: a meeting is told by the number of the location
-/// whose channel it is on.
+/// At what a process is, so that it can be kept beside the process: a rendezvous has the number of the
+/// location whose channel it is on.
 #[derive(Clone, Copy, Debug)]
 pub enum KeptStop {
     Quiet,

@@ -20,7 +20,7 @@ use Rattle.shim_waits.proofs.Resting.{tree_rests}
 use Rattle.shim_waits.proofs.Found.{at_live, goes_lives}
 use Rattle.shim_waits.proofs.Ordered.{in_order}
 use Rattle.shim_waits.proofs.Given.{holder_given}
-use Rattle.shim_waits.proofs.Held.{held, each}
+use Rattle.shim_waits.proofs.HeldUp.{held_up, each}
 use Rattle.shim_waits.proofs.Cycle.{AllWait, has_cycle, one_cycle}
 
 -- the wait of one of the paths
@@ -61,7 +61,7 @@ module _ {S : Type 0} (o : Ops S) where
   each_waits law t b p i =
       let r = by_among (waits o t.root) p i in
       let of = waits_of_all (wait_of_process o t.root) (lives t.root) r.0 r.1 in
-      let h = held o law t of.0 b of.1 in
+      let h = held_up o law t of.0 b of.1 in
       let same : h.wait ≡ r.0 = some_same h.wait r.0 (sym h.is ∙ of.2) in
       let lives' : IsAmong h.wait.by (map o.path (lives t.root)) =
       subst (λ z. IsAmong z (map o.path (lives t.root))) h.waits.lives.is_its (among_map o.path h.waits.other (lives t.root) (stands_lives t.root h.wait.by h.waits.other h.waits.lives)) in (
@@ -83,7 +83,7 @@ module _ {S : Type 0} (o : Ops S) where
 
   pub blocked_is_explained : LocalLaws o → BlockedIsExplained o
   blocked_is_explained law = record {
-    held = held o law;
+    held_up = held_up o law;
     each = each o law;
     in_order = λ t s. in_order o t.root s.below;
     given = holder_given o law;

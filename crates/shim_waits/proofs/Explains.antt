@@ -28,7 +28,7 @@ use Rattle.shim_waits.specs.declared.explained.Wait.{Wait}
 use Rattle.shim_waits.specs.declared.gathering.Holder.{Holder}
 use Rattle.shim_waits.proofs.Asked.{given_suffice}
 use Rattle.shim_waits.proofs.Following.{no_less_itself}
-use Rattle.shim_waits.proofs.Held.{held, each}
+use Rattle.shim_waits.proofs.HeldUp.{held_up, each}
 use Rattle.shim_waits.proofs.NumberedWaits.{its_wait}
 use Rattle.shim_waits.proofs.Numbers.{numbers_lead}
 use Rattle.shim_waits.proofs.Ordered.{in_order, of_behind}
@@ -87,14 +87,14 @@ module _ {S : Type 0} (o : Ops S) (law : LocalLaws o) (t : Tree S) (b : IsBlocke
   with_holder : (l : S) (w : Wait) (c : NamedChannel) (n : Node S) (y : S) (d : NamedChannel) (i : ℕ) → IsAmong l (lives t.root) → wait_of_process o t.root l ≡ Some w → next_channel (o.stop l) ≡ Some c
       → first_with (holds_given o c.channel) 0 t.root ≡ Some (n, i) → head (lives n) ≡ Some y → next_channel (o.stop y) ≡ Some d
       → w ≡ record { path = o.path l; chan = c; holder = o.path (state n); by = o.path y; at = d } → Numbered o t.root holders l
-  with_holder l w c n y d i a e stands first leads stands_too is =
+  with_holder l w c n y d i a e at_channel first leads other_waits is =
       let there = (numbers_lead S).leads (holds_given o c.channel) t.root n i y first leads in
       record {
         wait = w;
         number = i;
         by = y;
         is = e;
-        found = its_wait o (lives t.root) holders l c d (record { path = o.path (state n); number = i }) y stands (kept c.channel ∙ ap (option_map (holder_of o)) first) there stands_too ∙ ap (λ z. Some (z, i)) (sym is);
+        found = its_wait o (lives t.root) holders l c d (record { path = o.path (state n); number = i }) y at_channel (kept c.channel ∙ ap (option_map (holder_of o)) first) there other_waits ∙ ap (λ z. Some (z, i)) (sym is);
         there = there;
         its = ap (λ z. z.path) is;
         for_it = ap (λ z. z.by) is;
@@ -102,7 +102,7 @@ module _ {S : Type 0} (o : Ops S) (law : LocalLaws o) (t : Tree S) (b : IsBlocke
 
   numbered : (l : S) → IsAmong l (lives t.root) → Numbered o t.root holders l
   numbered l a =
-      let h = held o law t l b a in
+      let h = held_up o law t l b a in
       let c = next_its o t.root (o.path l) (next_channel (o.stop l)) h.wait h.is in
       let n = held_its o (o.path l) c.0 (first_of (holds_up o c.0.channel) t.root) h.wait c.2 in
       let y = through_its o (o.path l) c.0 (o.path (state n.0)) (head (lives n.0)) h.wait n.2 in

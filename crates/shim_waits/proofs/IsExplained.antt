@@ -16,7 +16,7 @@ use Rattle.shim_waits.specs.Waits.{wait_of_process, waits, explained, IsWait}
 use Rattle.shim_waits.specs.declared.explained.Wait.{Wait}
 use Rattle.shim_waits.proofs.Blocked.{waits_of_all, the_cycle}
 use Rattle.shim_waits.proofs.Following.{no_less_itself}
-use Rattle.shim_waits.proofs.Held.{held, each}
+use Rattle.shim_waits.proofs.HeldUp.{held_up, each}
 use Rattle.shim_waits.proofs.Ordered.{in_order, of_behind}
 
 chosen_more : (b : Bool) (n m : ℕ) → b ≡ true → n ≡ m → (if b then suc n else n) ≡ suc m
@@ -62,7 +62,7 @@ module _ {S : Type 0} (o : Ops S) where
         ∙ once_of (o.path l) (map o.path (lives t.root)) (in_order o t.root b.sound.below) (among_map o.path l (lives t.root) i));
     each = all_of (IsWait o t.root) (waits o t.root) (λ w i.
         let of = waits_of_all (wait_of_process o t.root) (lives t.root) w i in
-        let h = held o law t of.0 b of.1 in
+        let h = held_up o law t of.0 b of.1 in
         subst (IsWait o t.root) (some_same h.wait w (sym h.is ∙ of.2)) h.waits);
     ring = is_ring (waits o t.root) (cycle_of (waits o t.root)) (the_cycle o law t b);
   }

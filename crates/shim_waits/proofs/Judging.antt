@@ -69,9 +69,9 @@ module _ {S : Type 0} (o : Ops S) (root : Node S) (p : Path) where
   pub somebody_lives : (n : Node S) (l : S) (b : Bool) (c : NamedChannel) → Some n ≡ its_node o root p → Some l ≡ live_in (Some n) → IsTrue b ↔ StandsAtNext o l c → IsTrue b ↔ WaitsThere o root p c
   somebody_lives n l b c e f h =
       let is = live_is n l (sym f) in
-      let stands = stands_its (Live l) (sym (e) ∙ ap Some is) in (
-        λ t. (l, stands, h.0 t),
-        λ w. h.1 (subst (λ z. StandsAtNext o z c) (one_live w.0 l (some_same (Live w.0) (Live l) (sym (its_stands (Live w.0) w.1) ∙ its_stands (Live l) stands))) w.2),
+      let in_tree = stands_its (Live l) (sym (e) ∙ ap Some is) in (
+        λ t. (l, in_tree, h.0 t),
+        λ w. h.1 (subst (λ z. StandsAtNext o z c) (one_live w.0 l (some_same (Live w.0) (Live l) (sym (its_stands (Live w.0) w.1) ∙ its_stands (Live l) in_tree))) w.2),
       )
 
   pub no_holder : None ≡ its_node o root p → (c : NamedChannel) → IsTrue false ↔ IsHolder o root p c
@@ -252,8 +252,8 @@ module _ {S : Type 0} (o : Ops S) (root : Node S) (e : Explained) (each : AllOf 
   pub are_first_of : IsExplanation o root e → AreFirst e.waits
   are_first_of x i w there =
       let wait = at_member (IsWait o root) e.waits i w each there in
-      let path = wait.stands.is_its in
-      first_once e.waits w.path i w there refl (subst (λ z. how_many (λ v. same_path v.path z) e.waits ≡ 1) path (x.once wait.process (stands_lives o root w.path wait.process wait.stands)))
+      let path = wait.in_tree.is_its in
+      first_once e.waits w.path i w there refl (subst (λ z. how_many (λ v. same_path v.path z) e.waits ≡ 1) path (x.once wait.process (stands_lives o root w.path wait.process wait.in_tree)))
 
   pub have_waits_of : IsExplanation o root e → HaveWaits e.waits (map o.path (lives root))
   have_waits_of x = all_members (λ p. first_place e.waits p ≢ None) (map o.path (lives root)) (λ p i.

@@ -3,7 +3,7 @@ pub mod Resting
 pub mod Descent
 pub mod Found
 pub mod Sharing
-pub mod Held
+pub mod HeldUp
 pub mod Given
 pub mod Ordered
 pub mod Following

@@ -19,7 +19,7 @@ use Rattle.shim_waits.specs.Laws.{IsBlockedTree, HasTwo, NobodyWaitsForHimself}
 use Rattle.shim_waits.specs.Waits.{IsWait}
 use Rattle.shim_waits.specs.declared.explained.Wait.{Wait}
 use Rattle.shim_waits.proofs.Found.{at_both}
-use Rattle.shim_waits.proofs.Held.{never_below}
+use Rattle.shim_waits.proofs.HeldUp.{never_below}
 
 -- the branches of a path in two parts
 branches_both : (p q : Path) → branches (p ++ q) ≡ branches p ++ branches q
@@ -56,12 +56,12 @@ module _ {S : Type 0} (o : Ops S) where
 
   other : LocalLaws o → (t : Tree S) (w : Wait) → IsBlockedTree o t → IsWait o t.root w → w.by ≢ w.path
   other law t w b x e =
-      let holder = led_at t.root x.holding (route (o.path (state t.root)) w.holder) x.there.there in
-      let waits = led_at t.root (Live x.process) (route (o.path (state t.root)) w.path) x.stands.there in
-      let down : o.path x.process ≡ o.path (state x.holding) ++ x.below.0 = x.stands.is_its ∙ (sym e ∙ (x.below.1 ∙ ap (λ z. z ++ x.below.0) (sym x.there.is_its))) in
-      let there = below t.root x.holding (Live x.process) holder.0 waits.0 x.below.0 b.sound.below holder.1 waits.1 down in
+      let holder = led_at t.root x.holding_node (route (o.path (state t.root)) w.holder) x.there.there in
+      let waits = led_at t.root (Live x.process) (route (o.path (state t.root)) w.path) x.in_tree.there in
+      let down : o.path x.process ≡ o.path (state x.holding_node) ++ x.below.0 = x.in_tree.is_its ∙ (sym e ∙ (x.below.1 ∙ ap (λ z. z ++ x.below.0) (sym x.there.is_its))) in
+      let there = below t.root x.holding_node (Live x.process) holder.0 waits.0 x.below.0 b.sound.below holder.1 waits.1 down in
       let same = sym x.waits.2 in
-      never_below o law x.waits.0 x.holding (branches x.below.0) x.process x.below_home.0 (sound_at o holder.0 t.root x.holding b.sound.below holder.1) (ap (λ z. holds_up o z x.holding) (sym same) ∙ x.holds)
+      never_below o law x.waits.0 x.holding_node (branches x.below.0) x.process x.below_home.0 (sound_at o holder.0 t.root x.holding_node b.sound.below holder.1) (ap (λ z. holds_up o z x.holding_node) (sym same) ∙ x.holds)
       (x.there.is_its ∙ (x.below_home.1 ∙ ap (λ z. z.home ++ x.below_home.0) same)) there x.waits.1
 
   two_of : (ws : List Wait) (cycle : List Path) → ((w : Wait) → IsAmong w ws → w.by ≢ w.path) → IsRing ws cycle → HasTwo cycle

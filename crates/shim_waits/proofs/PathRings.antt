@@ -87,13 +87,13 @@ module _ (n : ℕ) (f : ℕ → Path) (order : (i j : ℕ) → i < j → j < n �
       mapped_choice false xs ys = refl
 
   module _ (ws : List Wait) (next : List ℕ) (leads : (i to : ℕ) → slice_get next i ≡ Some to → (by_of ws (f i) ≡ Some (f to)) × (to < n)) (long : length next ≡ n) where
-    going : (i : ℕ) → i < n → (to : ℕ) × (slice_get next i ≡ Some to)
-    going i h = (get_or next i 0, slice_get-get_or next i 0 (omega (arith, h, long)))
+    next_number : (i : ℕ) → i < n → (to : ℕ) × (slice_get next i ≡ Some to)
+    next_number i h = (get_or next i 0, slice_get-get_or next i 0 (omega (arith, h, long)))
 
     pub ring_mapped : (k : ℕ) (passed : List ℕ) (i : ℕ) → AreBelow n passed → i < n → ring k ws (map f passed) (f i) ≡ map f (number_ring k next passed i)
     ring_mapped zero passed i all a = since_mapped i passed [] a all
     ring_mapped (suc k) passed i all a =
-        let to = going i a in
+        let to = next_number i a in
         let there = leads i to.0 to.1 in
         both (was_passed i passed) (has (f i) (map f passed)) (passed_since (f i) (map f passed) []) (from_some (ring k ws (f i ∷ map f passed)) (by_of ws (f i))) (numbers_since i passed [])
         (from_number (number_ring k next (i ∷ passed)) (slice_get next i)) (has_mapped i passed a all) (since_mapped i passed [] a all)
@@ -110,7 +110,7 @@ module _ (n : ℕ) (f : ℕ → Path) (order : (i j : ℕ) → i < j → j < n �
     pub ring_below : (k : ℕ) (passed : List ℕ) (i : ℕ) → AreBelow n passed → i < n → AreBelow n (number_ring k next passed i)
     ring_below zero passed i all a = since_below i passed [] all tt
     ring_below (suc k) passed i all a =
-        let to = going i a in
+        let to = next_number i a in
         chosen_below n (was_passed i passed) (numbers_since i passed []) (from_number (number_ring k next (i ∷ passed)) (slice_get next i)) (since_below i passed [] all tt)
         (subst (λ z. AreBelow n (from_number (number_ring k next (i ∷ passed)) z)) (sym to.1) (ring_below k (i ∷ passed) to.0 (a, all) (leads i to.0 to.1).1))
 

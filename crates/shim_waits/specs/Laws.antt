@@ -37,7 +37,7 @@ PathsAscend [] = Unit {0}
 PathsAscend (p ∷ ps) = AllOf (λ q. path_order p q ≡ Less) ps × PathsAscend ps
 
 pub record BlockedIsExplained {S : Type 0} (o : Ops S) : Type 0 where
-  pub held : (t : Tree S) (l : S) → IsBlockedTree o t → IsAmong l (lives t.root) → IsHeldUp o t.root l
+  pub held_up : (t : Tree S) (l : S) → IsBlockedTree o t → IsAmong l (lives t.root) → IsHeldUp o t.root l
   -- so each has one wait, and these are in the order of paths
   pub each : (t : Tree S) → IsBlockedTree o t → map (λ w. w.path) (explained o t.root).waits ≡ map o.path (lives t.root)
   pub in_order : (t : Tree S) → IsSoundTree o t → PathsAscend (map o.path (lives t.root))

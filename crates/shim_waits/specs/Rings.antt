@@ -42,6 +42,6 @@ pub record IsLeastAt (is : List ℕ) (m : ℕ) : Type 0 where
 abbrev pub path_of_wait : List Wait → ℕ → Path
 path_of_wait ws i = get_or (map (λ w. w.path) ws) i []
 
--- what stands for the numbers of a ring, from the least one on
+-- what replaces the numbers of a ring, from the least one on
 abbrev pub IsTurned : (ℕ → Path) → List ℕ → List Path → Type 0
 IsTurned f ring cycle = (m : ℕ) × IsLeastAt ring m × (cycle ≡ map f (drop m ring) ++ map f (take m ring))

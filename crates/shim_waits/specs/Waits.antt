@@ -17,16 +17,16 @@ StandsAtNext o l c = (d : NamedChannel) × (o.stop l ≡ AtNext d) × (d.channel
 -- The process of the wait's path stands at its channel. It waits for the live process `by` through the process `holder`, which holds it up: that lies at or below the channel's home, and `by` at or below that.
 pub record IsWait {S : Type 0} (o : Ops S) (root : Node S) (w : Wait) : Type 0 where
   pub process : S
-  pub stands : StandsAt o root w.path (Live process)
+  pub in_tree : StandsAt o root w.path (Live process)
   pub waits : StandsAtNext o process w.chan
-  pub holding : Node S
-  pub there : StandsAt o root w.holder holding
-  pub holds : holds_up o w.chan.channel holding ≡ true
+  pub holding_node : Node S
+  pub there : StandsAt o root w.holder holding_node
+  pub holds : holds_up o w.chan.channel holding_node ≡ true
   pub below_home : (r : Path) × (w.holder ≡ w.chan.channel.home ++ r)
   pub other : S
   pub lives : StandsAt o root w.by (Live other)
   pub below : (r : Path) × (w.by ≡ w.holder ++ r)
-  pub stands_too : StandsAtNext o other w.at
+  pub other_waits : StandsAtNext o other w.at
 
 -- the wait of the process of this path at this channel, by the process f and the live process b, as far as there are these
 abbrev pub wait_by : Path → NamedChannel → Path → Path → Option NamedChannel → Option Wait

@@ -38,7 +38,7 @@ pub fn explain<L: Local>(alloc: Global, tree: &Tree<L>) -> Result<Explained, NoM
     requires goes { nodes.goes tree.now.root ≡ true }
     ensures { IfOk result (λ e. e ≡ specs.explained L.ops tree.now.root) }
 {
-    // its clause tells that the tree is sound, on which the laws stand
+    // its clause says that the tree is sound, on which the laws stand
     let _rests = tree.quiescent();
     let mut lives = Vec::new(alloc);
     let mut holders = BTreeMap::new(alloc);

@@ -181,7 +181,7 @@ pub fn holds<L: Local>(alloc: Global, tree: &Tree<L>, e: &Explained) -> Result<b
     requires goes { nodes.goes tree.now.root ≡ true }
     ensures { IfOk result (λ yes. IsTrue yes ↔ IsExplanation L.ops tree.now.root e.now) }
 {
-    // its clause tells that the tree is sound, on which the look-ups by path stand
+    // its clause says that the tree is sound, on which the look-ups by path stand
     let _rests = tree.quiescent();
     let waits = e.waits.as_slice();
     if !are_waits(tree, waits) {

@@ -47,7 +47,7 @@ fn any_child_shares<L: Local>(node: &NodeRef<'_, L>, c: &Chan) -> bool
     false
 }
 
-/// Whether the process holds up those that wait at the channel: it shares it, and lives and stands at another
+/// Whether the process holds up those that wait at the channel: it shares it, and lives and waits at another
 /// one, or has forked and no child that goes on shares it.
 pub(crate) fn holds_up<L: Local>(node: &NodeRef<'_, L>, c: &Chan) -> bool
     ensures { result ≡ holding.holds_up L.ops c.now.channel node.now }

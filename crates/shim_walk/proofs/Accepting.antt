@@ -9,7 +9,7 @@ use Rattle.shim_process.specs.Sound.{Sound}
 use Rattle.shim_process.proofs.PlaceRoot.{root_sound}
 use Rattle.shim_laws_sources.proofs.Units.{units_use_slots_of_their_own}
 
--- what an accepted program tells of itself
+-- what holds of an accepted program
 pub accepted : (p a b : Form) (throws : List ℕ) → a ≡ p → b ≡ p → ∥ IsUnitsOfText a ∥₁ → AreFit a.units → throws ≡ b.main_throws → length throws < 2 ^ 21 → IsAcceptedForm p
 accepted p a b throws ea eb of fit is few = record {
   of_text = subst (λ p. ∥ IsUnitsOfText p ∥₁) ea of;

@@ -12,8 +12,8 @@ use Rattle.shim_process.specs.Unwinding.{catching}
 use Rattle.shim_walk_frames.specs.FrameViews.{FrameView, exception_place_of}
 use Rattle.shim_walk_frames.specs.Depths.{shown, unit_stmts}
 use Rattle.shim_walk_frames.specs.Pieces.{left_all}
-use Rattle.shim_walk_frames.specs.Leaving.{catching_in, serial_of, taking_in, untaken_behind, untaken_without, variable_of}
-use Rattle.shim_walk_frames.proofs.Leaves.{catches, caught_is, untaken_here}
+use Rattle.shim_walk_frames.specs.Unwinding.{catching_in, serial_of, taking_in, untaken_behind, untaken_without, variable_of}
+use Rattle.shim_walk_frames.proofs.Unwinds.{catches, caught_is, untaken_here}
 
 -- one more place of a frame
 shown_with : (units : List UnitOf) (top : FrameView) (x name line : ℕ) (y : Option HandlerVariable) → line ≡ line_of (shown units top).todo

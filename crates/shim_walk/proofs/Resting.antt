@@ -6,7 +6,7 @@ use Rattle.shim_process.specs.LocalState.{Frame, LocalState, unit_at}
 use Rattle.shim_walk_frames.specs.Depths.{shown, unit_stmts}
 use Rattle.shim_walk_frames.specs.FrameViews.{FrameView, exception_place_of}
 use Rattle.shim_walk_frames.specs.Pieces.{left_all}
-use Rattle.shim_walk.specs.Returning.{IsLeft, resting}
+use Rattle.shim_walk.specs.Returning.{HasExitedFrame, resting}
 
 pub rests : (l : LocalState) (top next : FrameView) (number : ℕ) (halfway : Bool) (kept : ℕ) → l.frame ≡ shown l.program.units top
     → next ≡ record top { at = number; cursor = None; halfway = halfway; places = take kept top.places } → record l { frame = shown l.program.units next } ≡ resting number halfway kept l
@@ -20,7 +20,7 @@ rests l top next number halfway kept e h =
 
 pub leaves : (l : LocalState) (top caller : FrameView) (callers rest : List FrameView) (locations : Locations) → l.callers ≡ map (shown l.program.units) callers → callers ≡ caller ∷ rest
     → top ≡ caller → locations ≡ take l.frame.floor l.locations
-    → IsLeft l (record l { frame = shown l.program.units top; callers = map (shown l.program.units) rest; locations = locations })
+    → HasExitedFrame l (record l { frame = shown l.program.units top; callers = map (shown l.program.units) rest; locations = locations })
 leaves l top caller callers rest locations e er et el =
     let units = l.program.units in
     let below = map (shown units) rest in

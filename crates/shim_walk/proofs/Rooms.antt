@@ -10,7 +10,7 @@ use Rattle.shim_walk_frames.specs.declared.handler.Handler.{Handler}
 use Rattle.shim_walk_frames.specs.FrameViews.{FrameView}
 use Rattle.shim_walk_frames.specs.Depths.{shown}
 use Rattle.shim_walk_frames.specs.Cursors.{HasOwnCursor}
-use Rattle.shim_walk_frames.specs.Leaving.{serial_of}
+use Rattle.shim_walk_frames.specs.Unwinding.{serial_of}
 use Rattle.shim_walk_frames.specs.Variables.{one_of, variables_in, variables_of}
 use Rattle.shim_walk_frames.proofs.Counting.{variables_more, variables_take}
 use Rattle.shim_locations.specs.Runs.{AreBelow}
@@ -50,9 +50,9 @@ room_for_one top next p callers room e fits =
 pub room_for_plain : (units : List UnitOf) (top next : FrameView) (p : Handler) (callers : List FrameView) (room : ℕ) (r : Result (Unit {0}) NoMemory) → one_of p.variable ≡ 0
     → OnOk r (next ≡ record top { places = top.places ++ p ∷ [] }) → OnErr r (next ≡ top) → HasOwnCursor units top → variables_in (top ∷ callers) ≤ room
     → HasOwnCursor units next × (variables_in (next ∷ callers) ≤ room)
-room_for_plain units top next p callers room (Ok x) none ok err stands fits =
-    (subst (HasOwnCursor units) (sym ok) stands, room_for_one top next p callers room (ap (λ (s : FrameView). s.places) ok) (omega (arith, none, fits)))
-room_for_plain units top next p callers room (Err x) none ok err stands fits = subst (λ (s : FrameView). HasOwnCursor units s × (variables_in (s ∷ callers) ≤ room)) (sym err) (stands, fits)
+room_for_plain units top next p callers room (Ok x) none ok err own_cursor fits =
+    (subst (HasOwnCursor units) (sym ok) own_cursor, room_for_one top next p callers room (ap (λ (s : FrameView). s.places) ok) (omega (arith, none, fits)))
+room_for_plain units top next p callers room (Err x) none ok err own_cursor fits = subst (λ (s : FrameView). HasOwnCursor units s × (variables_in (s ∷ callers) ≤ room)) (sym err) (own_cursor, fits)
 
 -- a channel more was made
 pub still_below : (made more : ℕ) (runs : List SerialRun) → made ≤ more → AreBelow made runs → AreBelow more runs

@@ -10,7 +10,7 @@ resting number halfway kept l = record l {
 }
 
 -- the innermost unit is left, with its locations, and its caller stands at its call
-pub record IsLeft (before after : LocalState) : Type 0 where
+pub record HasExitedFrame (before after : LocalState) : Type 0 where
   pub caller : Frame
   pub callers : List Frame
   pub waited : before.callers ≡ caller ∷ callers

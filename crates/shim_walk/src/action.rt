@@ -14,7 +14,7 @@ pub enum Action {
     Make(Ty, u32, i64),
     /// The next byte of the input is stored.
     Read(u32),
-    /// The unit is called with these arguments, and its exceptions stand for these labels.
+    /// The unit is called with these arguments, and its exceptions have these labels.
     Enter(u32, List<Argument>, List<u32>),
     /// The exception of this number comes into force, by this name, with the variable of its handler in
     /// this slot, where it has one.

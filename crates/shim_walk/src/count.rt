@@ -3,7 +3,7 @@ ghost use Rattle.std.specs.Prelude.{◌≡◌, ◌+◌, IfOk};
 
 use shim_base::NoMemory;
 
-/// One more. A count that is full is taken for want of memory: no process comes there.
+/// One more. A count that is full counts as out of memory: no process comes there.
 pub fn one_more(count: u32) -> Result<u32, NoMemory>
     ensures { IfOk result (λ more. more ≡ count + 1) }
 {

@@ -2,7 +2,7 @@
 ghost use Rattle.std.specs.Prelude.{◌≡◌, ◌≢◌, ◌≤◌, ◌+◌, ◌-◌, ℤ, [], ◌∷◌, List as ListOf, map, slice_get, OnSome};
 ghost use Rattle.shim_units.specs.declared.unit.Unit.{Unit as UnitOf};
 ghost use Rattle.shim_process.specs.Unwinding.{handling};
-ghost use Rattle.shim_walk_frames.specs.Leaving.{handler_in, serial_of, taking_in, unwound_in, variable_of};
+ghost use Rattle.shim_walk_frames.specs.Unwinding.{handler_in, serial_of, taking_in, unwound_in, variable_of};
 ghost use Rattle.shim_walk_frames.specs.Variables.{one_of, variables_in, variables_of};
 ghost use Rattle.shim_process.specs.Ends.{went};
 ghost use Rattle.shim_walk_frames.specs.Turns.{successor_of};
@@ -99,8 +99,8 @@ pub fn keep(
 }
 
 // The frames that were entered since a place came into force are left.
-#[tactic(auto, using(shim_walk_frames::proofs::Leaves::leaves_one, shim_walk_frames::proofs::Leaves::leaves_place))]
-fn leave(top: &mut Frame, callers: &mut CallStack, locations: &mut Locations, place: u32)
+#[tactic(auto, using(shim_walk_frames::proofs::Unwinds::unwinds_one, shim_walk_frames::proofs::Unwinds::unwinds_place))]
+fn exit_frames(top: &mut Frame, callers: &mut CallStack, locations: &mut Locations, place: u32)
     ensures same { (units : ListOf UnitOf) (v : ℤ) → unwound_in (map (shown units) callers.new) (shown units top.new) place v locations.new ≡ unwound_in (map (shown units) callers.old) (shown units top.old) place v locations.old }
     ensures handler { handler_in top.new place callers.new ≡ handler_in top.old place callers.old }
     ensures fewer { variables_in (top.new ∷ callers.new) ≤ variables_in (top.old ∷ callers.old) }
@@ -134,7 +134,7 @@ pub fn unwind_to(
     ensures none { variables_in (top.new ∷ callers.new) ≤ variables_in (top.old ∷ callers.old) }
     ensures cursors { AllStand units.now (top.new ∷ callers.new) }
 {
-    leave(top, callers, locations, place);
+    exit_frames(top, callers, locations, place);
     let variable = handle(units, top, place);
     let serial = keep(locations, top.slots(), variable, value);
     settle(units, top, callers, locations);

@@ -25,7 +25,7 @@ ghost use Rattle.shim_locations.specs.Lendings.{remainder_of};
 ghost use Rattle.shim_walk.specs.ForkResults.{IsForkResult};
 ghost use Rattle.shim_walk.specs.StatementContexts.{context_view};
 ghost use Rattle.shim_walk_frames.specs.Turns.{successor_of};
-ghost use Rattle.shim_walk.specs.Returning.{IsLeft, resting};
+ghost use Rattle.shim_walk.specs.Returning.{HasExitedFrame, resting};
 
 use crate::action::Action;
 use crate::count::one_more;
@@ -258,10 +258,10 @@ impl Process {
         self.top.rest(number, halfway, kept);
     }
 
-    /// The innermost unit is left, with its locations, and its caller stands at its call. False where
+    /// The innermost unit is left, with its locations, and its caller is at its call. False where
     /// there is no caller; then nothing changes.
-    pub fn leave(&mut self) -> bool
-        ensures left { result ≡ true → IsLeft self.old self.new }
+    pub fn exit_frame(&mut self) -> bool
+        ensures left { result ≡ true → HasExitedFrame self.old self.new }
         ensures last { result ≡ false → (self.old.callers ≡ []) × (self.new ≡ self.old) }
     {
         let Some(caller) = self.callers.pop() else {
@@ -563,7 +563,7 @@ impl Process {
         receiver_at(self.stmt())
     }
 
-    /// The meeting at which it stands gave this value; on from it.
+    /// The rendezvous at which it waits gave this value; on from it.
     pub fn receive(&mut self, v: i64)
         ensures { self.new ≡ receive self.old v }
     {
@@ -662,7 +662,7 @@ impl Process {
         self.untaken.take_some(taken);
     }
 
-    /// Whether it stands at a statement that concerns it alone.
+    /// Whether it is at a statement that concerns it alone.
     pub fn is_quiet(&self) -> bool
         ensures { IsTrue result ↔ (stop self.now ≡ AtQuiet) }
     {

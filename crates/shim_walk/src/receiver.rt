@@ -8,7 +8,7 @@ ghost use Rattle.shim_walk.specs.Receivers.{received};
 
 use shim_units::{UStmt, UWhat};
 
-/// The slot in which a statement stores what its meeting gives.
+/// The slot in which a statement stores what its rendezvous gives.
 #[derive(Clone, Copy, Debug, PartialEq, Eq)]
 pub enum Receiver {
     /// The statement is over then.

@@ -57,7 +57,7 @@ pub fn assign(slot: u32, expr: &UExpr, locations: &[Option<Location>], slots: &[
     }
 }
 
-/// The assignment before a meeting.
+/// The assignment before a rendezvous.
 pub fn assign_first(
     slot: u32,
     expr: &UExpr,

@@ -83,8 +83,8 @@ act_child-returns-clause-ok g t c =
     let q = branches c.args.pairs.now in
     let p = place_of o i q ls c.deref.result.now c.args.statuses.now.items c.fill.new.statuses c.requires.acts c.deref.ensures.value c.in_ok-fill.ensures.same c.in_ok-fill.ensures.ok in
     IfOk-weaker c.act_at.result
-    (λ told. ActsAt o q (node c.index_mut.result.now c.index_mut-2.result.now) (effects_of told) (node c.act_at.new.process c.act_at.new.status))
-    (λ told. ActsAmong o i q (together ls (nodes c.args.statuses.now.items)) (effects_of told) (together (slice_set ls i c.act_at.new.process) (nodes (slice_set bs i c.act_at.new.status))))
-    (λ told e. ap (act_child o i q) (sym p.same)
-    ∙ acts_some o i q ls bs c.index_mut.result.now c.act_at.new.process c.index_mut-2.result.now c.act_at.new.status (effects_of told) p.there p.inside c.index_mut.ensures.value c.index_mut-2.ensures.value e)
+    (λ effects. ActsAt o q (node c.index_mut.result.now c.index_mut-2.result.now) (effects_of effects) (node c.act_at.new.process c.act_at.new.status))
+    (λ effects. ActsAmong o i q (together ls (nodes c.args.statuses.now.items)) (effects_of effects) (together (slice_set ls i c.act_at.new.process) (nodes (slice_set bs i c.act_at.new.status))))
+    (λ effects e. ap (act_child o i q) (sym p.same)
+    ∙ acts_some o i q ls bs c.index_mut.result.now c.act_at.new.process c.index_mut-2.result.now c.act_at.new.status (effects_of effects) p.there p.inside c.index_mut.ensures.value c.index_mut-2.ensures.value e)
     c.act_at.ensures.ok

@@ -8,12 +8,12 @@ use Rattle.shim_tree.proofs.act.act_live.Goals as goal
 pub returns-in-Put-clause-ok : goal.returns-in-Put-clause-ok
 returns-in-Put-clause-ok g c =
     put_acts g.L.Local.ops c.args.process.now c.put.new.process c.args.status.now (effects_of c.put.result) c.requires.lives
-    (sym c.stop.ensures ∙ ap stop_view c.in-Put.is) c.put.ensures.told c.put.ensures.after
+    (sym c.stop.ensures ∙ ap stop_view c.in-Put.is) c.put.ensures.effects c.put.ensures.after
 
 pub returns-in-Throw-clause-ok : goal.returns-in-Throw-clause-ok
 returns-in-Throw-clause-ok g c =
-    throw_acts g.L.Local.ops c.args.process.now c.args.status.now c.in-Throw.label (effects_of c.throw_here.result) (node c.throw_here.new.process c.throw_here.new.status) c.requires.lives
-    (sym c.stop.ensures ∙ ap stop_view c.in-Throw.is) c.throw_here.ensures
+    throw_acts g.L.Local.ops c.args.process.now c.args.status.now c.in-Throw.label (effects_of c.execute_throw.result) (node c.execute_throw.new.process c.execute_throw.new.status) c.requires.lives
+    (sym c.stop.ensures ∙ ap stop_view c.in-Throw.is) c.execute_throw.ensures
 
 pub returns-in-Trapped-clause-ok : goal.returns-in-Trapped-clause-ok
 returns-in-Trapped-clause-ok g c =

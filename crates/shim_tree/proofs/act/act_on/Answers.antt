@@ -34,5 +34,5 @@ returns-clause-ok g c =
     let e : c.pairs-front.result.now ≡ o.path (state n) = c.pairs-front.ensures ∙ (c.path.ensures.path ∙ ap o.path (sym (state_node c.args.process.now c.args.status.now))) in
     let f : c.behind.result.now ≡ drop (length (o.path (state n))) c.args.path.now = c.behind.ensures ∙ λ t. drop (length (e t)) (c.pairs.ensures t) in
     let m = node c.act_at.new.process c.act_at.new.status in
-    IfOk-weaker c.act_at.result (λ told. ActsAt o (branches c.behind.result.now) n (effects_of told) m) (λ told. ActsOn o c.args.path.now n (effects_of told) m)
-    (λ told h. on_route o n (o.path (state n)) c.args.path.now c.requires.acts ∙ (ap (λ q. act o (branches q) n) (sym f) ∙ h)) c.act_at.ensures.ok
+    IfOk-weaker c.act_at.result (λ effects. ActsAt o (branches c.behind.result.now) n (effects_of effects) m) (λ effects. ActsOn o c.args.path.now n (effects_of effects) m)
+    (λ effects h. on_route o n (o.path (state n)) c.args.path.now c.requires.acts ∙ (ap (λ q. act o (branches q) n) (sym f) ∙ h)) c.act_at.ensures.ok

@@ -4,12 +4,12 @@ use Rattle.shim_tree.specs.NodeStatus.{node}
 use Rattle.shim_tree.specs.Acting.{effects_of}
 use Rattle.shim_tree.proofs.Placed.{still_placed}
 use Rattle.shim_tree.proofs.ReservedCounts.{acted_placed}
-use Rattle.shim_tree.proofs.Happens.{nothing_told, byte_told, log_told}
+use Rattle.shim_tree.proofs.Happens.{nothing_done, byte_put, log_added}
 use Rattle.shim_tree.proofs.own_step.own_step.Goals as goal
 
 pub returns-in-Nothing-clause-ok : goal.returns-in-Nothing-clause-ok
 returns-in-Nothing-clause-ok g c =
-    nothing_told g.L.Local.ops c.args.path.now (node c.args.root.now c.args.status.now) (node c.act_on.new.process c.act_on.new.status) c.args.output.now.items c.reserve.new.self.items c.args.logs.now.items c.reserve-2.new.self.items c.in_ok-act_on.field-0 c.in_ok-act_on.ensures.ok c.in-Nothing.is c.reserve.ensures.items c.reserve-2.ensures.items
+    nothing_done g.L.Local.ops c.args.path.now (node c.args.root.now c.args.status.now) (node c.act_on.new.process c.act_on.new.status) c.args.output.now.items c.reserve.new.self.items c.args.logs.now.items c.reserve-2.new.self.items c.in_ok-act_on.field-0 c.in_ok-act_on.ensures.ok c.in-Nothing.is c.reserve.ensures.items c.reserve-2.ensures.items
 
 pub returns-in-Nothing-clause-places : goal.returns-in-Nothing-clause-places
 returns-in-Nothing-clause-places g c h =
@@ -21,7 +21,7 @@ returns-in-Nothing-clause-places g c h =
 
 pub returns-in-Byte-clause-ok : goal.returns-in-Byte-clause-ok
 returns-in-Byte-clause-ok g c =
-    byte_told g.L.Local.ops c.args.path.now (node c.args.root.now c.args.status.now) (node c.act_on.new.process c.act_on.new.status) c.args.output.now.items c.push_reserved.new.self.items c.args.logs.now.items c.reserve-2.new.self.items c.in_ok-act_on.field-0 c.in_ok-act_on.ensures.ok c.in-Byte.byte c.in-Byte.is
+    byte_put g.L.Local.ops c.args.path.now (node c.args.root.now c.args.status.now) (node c.act_on.new.process c.act_on.new.status) c.args.output.now.items c.push_reserved.new.self.items c.args.logs.now.items c.reserve-2.new.self.items c.in_ok-act_on.field-0 c.in_ok-act_on.ensures.ok c.in-Byte.byte c.in-Byte.is
     (c.push_reserved.ensures.items ∙ ap (λ z. z ++ c.in-Byte.byte ∷ []) c.reserve.ensures.items) c.reserve-2.ensures.items
 
 pub returns-in-Byte-clause-places : goal.returns-in-Byte-clause-places
@@ -35,7 +35,7 @@ returns-in-Byte-clause-places g c h =
 pub returns-in-Log-clause-ok : goal.returns-in-Log-clause-ok
 returns-in-Log-clause-ok g c =
     let entry : Log = record { path = c.in_ok-logged.logged; what = c.in-Log.what } in
-    log_told g.L.Local.ops c.args.path.now (node c.args.root.now c.args.status.now) (node c.act_on.new.process c.act_on.new.status) c.args.output.now.items c.reserve.new.self.items c.args.logs.now.items c.push_reserved-in-Log.new.self.items c.in_ok-act_on.field-0 c.in_ok-act_on.ensures.ok c.in-Log.what entry c.in-Log.is c.reserve.ensures.items c.in_ok-logged.ensures refl
+    log_added g.L.Local.ops c.args.path.now (node c.args.root.now c.args.status.now) (node c.act_on.new.process c.act_on.new.status) c.args.output.now.items c.reserve.new.self.items c.args.logs.now.items c.push_reserved-in-Log.new.self.items c.in_ok-act_on.field-0 c.in_ok-act_on.ensures.ok c.in-Log.what entry c.in-Log.is c.reserve.ensures.items c.in_ok-logged.ensures refl
     (c.push_reserved-in-Log.ensures.items ∙ ap (λ z. z ++ entry ∷ []) c.reserve-2.ensures.items)
 
 pub returns-in-Log-clause-places : goal.returns-in-Log-clause-places

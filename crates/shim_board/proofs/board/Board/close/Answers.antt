@@ -1,6 +1,6 @@
 use Rattle.std.proofs.Common.{arith, sym, subst, ◌<◌}
 use Rattle.shim_board.specs.Counting.{occurs, total}
-use Rattle.shim_board.proofs.Seats.{first_taken, has_all}
+use Rattle.shim_board.proofs.Seats.{first_taken, has_all_counts}
 use Rattle.shim_board.proofs.board.Board.close.Goals as goal
 
 pub place_of_first-at-requires : goal.place_of_first-at-requires
@@ -20,4 +20,4 @@ pub returns-clause-left : goal.returns-clause-left
 returns-clause-left g c = let low = c.place_of_first-at.ensures.inside in let ok = c.into_vec-others.result.ok.0 in let joined = c.join_all-seat.ensures in
     let out = first_taken c.args.self c.args.chairs c.into_vec-others.result.items c.remove-seat.new.self.items c.place_of_first-at.result c.remove-seat.result c.into_vec-others.ensures (omega arith)
     c.place_of_first-at.ensures.first c.remove-seat.ensures.value c.remove-seat.ensures.by_index.2 c.requires.chairs c.requires.all in
-    (c.join_all-seat.result.me.0, has_all c.join_all-seat.result.me.0 c.remove-seat.result c.remove-seat.new.self.items c.args.chairs joined.lists out.3 joined.first.3, c.empty.ensures.left)
+    (c.join_all-seat.result.me.0, has_all_counts c.join_all-seat.result.me.0 c.remove-seat.result c.remove-seat.new.self.items c.args.chairs joined.lists out.3 joined.first.3, c.empty.ensures.left)

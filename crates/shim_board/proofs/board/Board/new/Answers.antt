@@ -2,7 +2,7 @@ use Rattle.std.proofs.Common.{rules, arith, refl, sym, ap, ◌∙◌, ◌<◌, �
 use Rattle.shim_board.specs.Views.{fresh, after_split, split_off}
 use Rattle.shim_board.proofs.Totals.{each-all}
 use Rattle.shim_board.proofs.Opening.{opens_as}
-use Rattle.shim_board.proofs.Seats.{splits_first, told_no_more, dealt_more, dealt_all}
+use Rattle.shim_board.proofs.Seats.{splits_first, counts_no_more, dealt_more, dealt_all}
 use Rattle.shim_board.proofs.board.Board.new.Goals as goal
 
 pub new-requires : goal.new-requires
@@ -14,7 +14,7 @@ split_seat-other-requires g c = let i = c.loop-number.invariant in (search rules
 pub loop-number-preserved : goal.loop-number-preserved
 loop-number-preserved g c = let i = c.loop-number.invariant in let s = c.split_seat-other.ensures in let v = ap (λ z. z.0) s.4 ∙ ap split_off i.3 in
     let inside : c.loop-number.number < c.args.chairs = search rules in let above : 0 < c.loop-number.number = omega arith in
-    let d = dealt_more (λ d. d.seat.me.0) _ _ _ _ _ c.in_ok-push.ensures.items (((s.3 ∙ i.0, ap (λ u. u.name) v), ap (λ u. u.turn) v, ap (λ u. u.claimed) v), refl, (c.loop-number.number, inside, v ∙ ap (fresh _ _) (sym (told_no_more c.args.chairs c.loop-number.number above)))) i.5 i.6 i.7 (ap (λ u. u.numbers) v) (ap (λ u. u.count) v) in
+    let d = dealt_more (λ d. d.seat.me.0) _ _ _ _ _ c.in_ok-push.ensures.items (((s.3 ∙ i.0, ap (λ u. u.name) v), ap (λ u. u.turn) v, ap (λ u. u.claimed) v), refl, (c.loop-number.number, inside, v ∙ ap (fresh _ _) (sym (counts_no_more c.args.chairs c.loop-number.number above)))) i.5 i.6 i.7 (ap (λ u. u.numbers) v) (ap (λ u. u.count) v) in
     (s.0 ∙ i.0, s.1 ∙ i.1, ap (λ z. z.1) s.2 ∙ i.2, ap (λ z. z.0) s.2 ∙ ap after_split i.3, search rules, d.0, d.1, d.2)
 
 pub returns-clause-chairs : goal.returns-clause-chairs

@@ -2,7 +2,7 @@ use Rattle.std.proofs.Common.{refl, ap, sym, ◌∙◌}
 use Rattle.shim_tree.specs.NodeStatus.{node}
 use Rattle.shim_semantics.specs.Places.{has_path, led_to}
 use Rattle.shim_tree.proofs.ReservedCounts.{place_of_path}
-use Rattle.shim_tree.proofs.Happens.{told_sound, more_placed, few_counted, own_done}
+use Rattle.shim_tree.proofs.Happens.{own_step_sound, more_placed, few_counted, own_done}
 use Rattle.shim_tree.proofs.tree.Tree.step.Goals as goal
 
 pub add-requires-clause-place : goal.add-requires-clause-place
@@ -18,7 +18,7 @@ pub invariant_of-self-2 : goal.invariant_of-self-2
 invariant_of-self-2 g c =
     let o = g.L.Local.ops in
     let laws = (g.met.L.Local g.world.𝓛 g.world.𝓜 g.world.𝓡 ((λ s x. x), (λ x. x), (λ x. x), λ x. x)).laws in (
-      told_sound o laws c.args.path.now (node c.self.inside.root c.self.inside.status) (node c.own_step.new.root c.own_step.new.status) _ _ _ _ c.self.invariant.0 c.in_ok-own_step.ensures.ok,
+      own_step_sound o laws c.args.path.now (node c.self.inside.root c.self.inside.status) (node c.own_step.new.root c.own_step.new.status) _ _ _ _ c.self.invariant.0 c.in_ok-own_step.ensures.ok,
       more_placed o c.own_step.new.counts c.add.new.self c.args.path.now (node c.own_step.new.root c.own_step.new.status) c.add.ensures (c.in_ok-own_step.ensures.places c.self.invariant.1),
     )
 

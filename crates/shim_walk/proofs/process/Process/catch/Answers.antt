@@ -4,7 +4,7 @@ use Rattle.shim_walk_frames.specs.Cursors.{HasOwnCursor}
 use Rattle.shim_walk_frames.specs.Variables.{one_of, variables_in}
 use Rattle.shim_process.specs.LocalState.{LocalState}
 use Rattle.shim_process.specs.Unwinding.{catching}
-use Rattle.shim_walk_frames.specs.Leaving.{taking_in}
+use Rattle.shim_walk_frames.specs.Unwinding.{taking_in}
 use Rattle.shim_walk.specs.contracts.process.Process.{the_view}
 use Rattle.shim_walk.proofs.Installing.{catches_here}
 use Rattle.shim_walk.proofs.Rooms.{below_without, fewer_by, room_behind}

@@ -1,9 +1,9 @@
 use Rattle.std.proofs.Common.{ap, ◌∙◌, refl}
 use Rattle.shim_process.specs.LocalState.{LocalState}
 use Rattle.shim_process.specs.Unwinding.{handler}
-use Rattle.shim_walk_frames.specs.Leaving.{handler_in, name_and_line_of}
+use Rattle.shim_walk_frames.specs.Unwinding.{handler_in, name_and_line_of}
 use Rattle.shim_walk.specs.contracts.process.Process.{the_view}
-use Rattle.shim_walk_frames.proofs.Leaves.{handler_by}
+use Rattle.shim_walk_frames.proofs.Unwinds.{handler_by}
 use Rattle.shim_walk.proofs.process.Process.handler.Goals as goal
 
 pub returns : goal.returns

@@ -8,9 +8,9 @@ use Rattle.shim_process.specs.LocalState.{LocalState}
 use Rattle.shim_process.specs.Unwinding.{unwind}
 use Rattle.shim_walk_frames.specs.Depths.{depth_of, shown}
 use Rattle.shim_process.specs.SerialRuns.{without_some}
-use Rattle.shim_walk_frames.specs.Leaving.{unwound_in}
+use Rattle.shim_walk_frames.specs.Unwinding.{unwound_in}
 use Rattle.shim_walk.specs.contracts.process.Process.{the_view}
-use Rattle.shim_walk_frames.proofs.Leaves.{unwound_by, untaken_is}
+use Rattle.shim_walk_frames.proofs.Unwinds.{unwound_by, untaken_is}
 use Rattle.shim_walk.proofs.Rooms.{below_without, room_behind}
 use Rattle.shim_walk.proofs.process.Process.unwind.Goals as goal
 

@@ -58,38 +58,38 @@ kinds_same Ends Ends e = refl
 kinds_same Closes Closes e = refl
 kinds_same _ _ e = absurd cc
 
--- the tree after an event of one process that left this root and told this
-abbrev pub told : {S : Type 0} → Event → Tree S → Node S → Effects → Tree S
-told e t n s = record { root = n; output = t.output ++ s.bytes; histories = t.histories; logs = with_logs t.logs (doer e) s.logs; counts = counted e t.counts; events = one_later e t.events }
+-- the tree after an event of one process that left this root and has these effects
+abbrev pub with_effects : {S : Type 0} → Event → Tree S → Node S → Effects → Tree S
+with_effects e t n s = record { root = n; output = t.output ++ s.bytes; histories = t.histories; logs = with_logs t.logs (doer e) s.logs; counts = counted e t.counts; events = one_later e t.events }
 
 -- the same where there may be none
-abbrev told_of : {S : Type 0} → Event → Tree S → Option (Acted S) → Option (Tree S)
-told_of e t None = None
-told_of e t (Some a) = Some (told e t a.node a.effects)
+abbrev with_effects_if : {S : Type 0} → Event → Tree S → Option (Acted S) → Option (Tree S)
+with_effects_if e t None = None
+with_effects_if e t (Some a) = Some (with_effects e t a.node a.effects)
 
 module _ {S : Type 0} (o : Ops S) where
-  own_told : (p : Path) (t : Tree S) (x : Option (Acted S)) → count_own p t x ≡ told_of (Own p) t x
-  own_told p t None = refl
-  own_told p t (Some a) = refl
+  own_with_effects : (p : Path) (t : Tree S) (x : Option (Acted S)) → count_own p t x ≡ with_effects_if (Own p) t x
+  own_with_effects p t None = refl
+  own_with_effects p t (Some a) = refl
 
-  close_told : (p : Path) (t : Tree S) (x : Option (Acted S)) → count_event p t x ≡ told_of (Close p) t x
-  close_told p t None = refl
-  close_told p t (Some a) = refl
+  close_with_effects : (p : Path) (t : Tree S) (x : Option (Acted S)) → count_event p t x ≡ with_effects_if (Close p) t x
+  close_with_effects p t None = refl
+  close_with_effects p t (Some a) = refl
 
-  end_told : (p : Path) (t : Tree S) (x : Option (Acted S)) → count_event p t x ≡ told_of (End p) t x
-  end_told p t None = refl
-  end_told p t (Some a) = refl
+  end_with_effects : (p : Path) (t : Tree S) (x : Option (Acted S)) → count_event p t x ≡ with_effects_if (End p) t x
+  end_with_effects p t None = refl
+  end_with_effects p t (Some a) = refl
 
-  after_told : (e : Event) (t : Tree S) → IsAlone e → after o e t ≡ told_of e t (acts o (does e) (doer e) t.root)
-  after_told (Own p) t d = own_told p t (acts o Steps p t.root)
-  after_told (Meet c) t d = absurd (d refl)
-  after_told (Poison p c) t d = absurd (d refl)
-  after_told (Close p) t d = close_told p t (acts o Closes p t.root)
-  after_told (End p) t d = end_told p t (acts o Ends p t.root)
+  after_with_effects : (e : Event) (t : Tree S) → IsAlone e → after o e t ≡ with_effects_if e t (acts o (does e) (doer e) t.root)
+  after_with_effects (Own p) t d = own_with_effects p t (acts o Steps p t.root)
+  after_with_effects (Meet c) t d = absurd (d refl)
+  after_with_effects (Poison p c) t d = absurd (d refl)
+  after_with_effects (Close p) t d = close_with_effects p t (acts o Closes p t.root)
+  after_with_effects (End p) t d = end_with_effects p t (acts o Ends p t.root)
 
-  told_some : (e : Event) (t a : Tree S) (x : Option (Acted S)) → told_of e t x ≡ Some a → (y : Acted S) × (x ≡ Some y) × (told e t y.node y.effects ≡ a)
-  told_some e t a None h = none_some a h
-  told_some e t a (Some y) h = (y, refl, some_same (told e t y.node y.effects) a h)
+  with_effects_some : (e : Event) (t a : Tree S) (x : Option (Acted S)) → with_effects_if e t x ≡ Some a → (y : Acted S) × (x ≡ Some y) × (with_effects e t y.node y.effects ≡ a)
+  with_effects_some e t a None h = none_some a h
+  with_effects_some e t a (Some y) h = (y, refl, some_same (with_effects e t y.node y.effects) a h)
 
   -- what the node at these branches leaves stands in its place
   mutual
@@ -110,7 +110,7 @@ module _ {S : Type 0} (o : Ops S) where
   root_path law q n m a s e h = act_path o q [] n m n (put q a.node n) a e h (here_keeps o law m a (sound_at o q n m s e) h).follows.path refl refl
 
   -- an event of one process that led from the first tree to the second
-  pub record Opened (e : Event) (t a : Tree S) : Type 0 where
+  pub record EventParts (e : Event) (t a : Tree S) : Type 0 where
     pub place : List ℕ
     pub old : Node S
     pub new : Acted S
@@ -118,11 +118,11 @@ module _ {S : Type 0} (o : Ops S) where
     pub there : at place t.root ≡ Some old
     pub its : is_its o (does e) (doer e) (Some old) ≡ true
     pub here : act_here o old ≡ Some new
-    pub is : told e t (put place new.node t.root) new.effects ≡ a
+    pub is : with_effects e t (put place new.node t.root) new.effects ≡ a
 
-  opened_at : (e : Event) (t a : Tree S) (x : Acted S) (r : Option (List ℕ)) → route (o.path (state t.root)) (doer e) ≡ r → is_its o (does e) (doer e) (at_route t.root r) ≡ true → act_route o t.root r ≡ Some x → told e t x.node x.effects ≡ a → Opened e t a
-  opened_at e t a x None h i f g = none_some x f
-  opened_at e t a x (Some q) h i f g =
+  split_at : (e : Event) (t a : Tree S) (x : Acted S) (r : Option (List ℕ)) → route (o.path (state t.root)) (doer e) ≡ r → is_its o (does e) (doer e) (at_route t.root r) ≡ true → act_route o t.root r ≡ Some x → with_effects e t x.node x.effects ≡ a → EventParts e t a
+  split_at e t a x None h i f g = none_some x f
+  split_at e t a x (Some q) h i f g =
       let y = acts_there o q t.root x f in
       record {
         place = q;
@@ -132,25 +132,25 @@ module _ {S : Type 0} (o : Ops S) where
         there = y.there;
         its = ap (is_its o (does e) (doer e)) (sym y.there) ∙ i;
         here = y.here;
-        is = ap (λ (z : Acted S). told e t z.node z.effects) y.is ∙ g;
+        is = ap (λ (z : Acted S). with_effects e t z.node z.effects) y.is ∙ g;
       }
 
-  pub opened : (e : Event) (t a : Tree S) → IsAlone e → after o e t ≡ Some a → Opened e t a
-  opened e t a d h =
-      let x = told_some e t a (acts o (does e) (doer e) t.root) (sym (after_told e t d) ∙ h) in
+  pub split_event : (e : Event) (t a : Tree S) → IsAlone e → after o e t ≡ Some a → EventParts e t a
+  split_event e t a d h =
+      let x = with_effects_some e t a (acts o (does e) (doer e) t.root) (sym (after_with_effects e t d) ∙ h) in
       let r = route (o.path (state t.root)) (doer e) in
       let w = chosen (is_its o (does e) (doer e) (led_to o t.root (doer e))) (act_route o t.root r) x.0 x.1 in
-      opened_at e t a x.0 r refl w.0 w.1 x.2
+      split_at e t a x.0 r refl w.0 w.1 x.2
 
   -- the node is of the event's process, and does what the event has it do
-  pub its_path : (e : Event) (t a : Tree S) → (x : Opened e t a) → o.path (state x.old) ≡ doer e
+  pub its_path : (e : Event) (t a : Tree S) → (x : EventParts e t a) → o.path (state x.old) ≡ doer e
   its_path e t a x = same_path_is (o.path (state x.old)) (doer e) (first_holds (same_path (o.path (state x.old)) (doer e)) (same_own_action (does e) (own_action_of o x.old)) x.its)
 
-  pub its_kind : (e : Event) (t a : Tree S) → (x : Opened e t a) → same_own_action (does e) (own_action_of o x.old) ≡ true
+  pub its_kind : (e : Event) (t a : Tree S) → (x : EventParts e t a) → same_own_action (does e) (own_action_of o x.old) ≡ true
   its_kind e t a x = second_holds (same_path (o.path (state x.old)) (doer e)) (same_own_action (does e) (own_action_of o x.old)) x.its
 
   -- so two events of one node are one
-  pub one_event : (e f : Event) (t a b : Tree S) → IsAlone e → IsAlone f → (x : Opened e t a) → (y : Opened f t b) → x.place ≡ y.place → e ≡ f
+  pub one_event : (e f : Event) (t a b : Tree S) → IsAlone e → IsAlone f → (x : EventParts e t a) → (y : EventParts f t b) → x.place ≡ y.place → e ≡ f
   one_event e f t a b d g x y h =
       let same : x.old ≡ y.old = some_same x.old y.old (sym x.there ∙ (ap (λ z. at z t.root) h ∙ y.there)) in
       let path : doer e ≡ doer f = sym (its_path e t a x) ∙ (ap (λ z. o.path (state z)) same ∙ its_path f t b y) in
@@ -158,11 +158,11 @@ module _ {S : Type 0} (o : Ops S) where
       sym (made_is e d) ∙ ((λ i. made (kind i) (path i)) ∙ made_is f g)
 
   -- put together again
-  pub shut : (e : Event) (t : Tree S) (q : List ℕ) (m : Node S) (a : Acted S) → IsAlone e → route (o.path (state t.root)) (doer e) ≡ Some q → at q t.root ≡ Some m → is_its o (does e) (doer e) (Some m) ≡ true → act_here o m ≡ Some a
-      → after o e t ≡ Some (told e t (put q a.node t.root) a.effects)
-  shut e t q m a d r h i f =
+  pub join_event : (e : Event) (t : Tree S) (q : List ℕ) (m : Node S) (a : Acted S) → IsAlone e → route (o.path (state t.root)) (doer e) ≡ Some q → at q t.root ≡ Some m → is_its o (does e) (doer e) (Some m) ≡ true → act_here o m ≡ Some a
+      → after o e t ≡ Some (with_effects e t (put q a.node t.root) a.effects)
+  join_event e t q m a d r h i f =
       let r' = route (o.path (state t.root)) (doer e) in
       let its : is_its o (does e) (doer e) (led_to o t.root (doer e)) ≡ true = ap (λ z. is_its o (does e) (doer e) (at_route t.root z)) r ∙ (ap (is_its o (does e) (doer e)) h ∙ i) in
       let acted : acts o (does e) (doer e) t.root ≡ Some (record { node = put q a.node t.root; effects = a.effects }) =
       ap (λ b. cond b (act_route o t.root r') None) its ∙ (ap (act_route o t.root) r ∙ act_put q t.root m a h f) in
-      after_told e t d ∙ ap (told_of e t) acted
+      after_with_effects e t d ∙ ap (with_effects_if e t) acted

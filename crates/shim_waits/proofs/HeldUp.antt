@@ -18,7 +18,7 @@ use Rattle.shim_waits.specs.declared.explained.Wait.{Wait}
 use Rattle.shim_waits.specs.Holding.{is_elsewhere, holds_up, first_of, lives}
 use Rattle.shim_waits.specs.Laws.{IsBlockedTree, IsHeldUp}
 use Rattle.shim_waits.specs.Waits.{wait_by, wait_through, wait_held, wait_at_next, wait_of_process, present, waits}
-use Rattle.shim_waits.proofs.Resting.{Rests, tree_rests, at_rests, stands, meets_not}
+use Rattle.shim_waits.proofs.Resting.{Rests, tree_rests, at_rests, at_channel, meets_not}
 use Rattle.shim_waits.proofs.Descent.{leads_down}
 use Rattle.shim_waits.proofs.Found.{at_both, first_found, first_finds, live_at, goes_above, first_live}
 use Rattle.shim_waits.proofs.Sharing.{HomeOf, SharesAsHome, home_of, below_home, sharer_below}
@@ -92,7 +92,7 @@ module _ {S : Type 0} (o : Ops S) where
     branches : List ℕ
     there : at branches f ≡ Some (Live process)
     chan : NamedChannel
-    stands : o.stop process ≡ AtNext chan
+    at_channel : o.stop process ≡ AtNext chan
     rest : Path
     path : o.path process ≡ o.path (state f) ++ rest
 
@@ -100,8 +100,8 @@ module _ {S : Type 0} (o : Ops S) where
   from_home : (c : Channel) (root : Node S) (l : S) → SoundBelow o root → Rests o root → HomeOf o c root (Live l) → Somewhere c root
   from_home c root l s r home =
       let quiet = at_rests o home.above root home.node r home.there in
-      let hold = leads_down o c home.node (sound_at o home.above root home.node s home.there) quiet (goes_above home.below home.node l home.down) home.shared (meets_not o c home.node quiet home.path) in
-      record { branches = home.above ++ hold.branches; node = hold.node; there = at_both home.above hold.branches root home.node home.there ∙ hold.there; holds = hold.holds }
+      let found = leads_down o c home.node (sound_at o home.above root home.node s home.there) quiet (goes_above home.below home.node l home.down) home.shared (meets_not o c home.node quiet home.path) in
+      record { branches = home.above ++ found.branches; node = found.node; there = at_both home.above found.branches root home.node home.there ∙ found.there; holds = found.holds }
 
   the_holder : (c : Channel) (root f : Node S) (q : List ℕ) → SoundBelow o root → Rests o root → SharesAsHome o c root → first_of (holds_up o c) root ≡ Some f → at q root ≡ Some f → holds_up o c f ≡ true → Holder c root
   the_holder c root f q s r own e there h =
@@ -116,9 +116,9 @@ module _ {S : Type 0} (o : Ops S) where
 
   the_other : (f : Node S) (b : S) (q : List ℕ) → SoundBelow o f → Rests o f → head (lives f) ≡ Some b → at q f ≡ Some (Live b) → Other f
   the_other f b q s r e there =
-      let d = stands o b (at_rests o q f (Live b) r there) in
+      let d = at_channel o b (at_rests o q f (Live b) r there) in
       let down = at_path o f (Live b) q s there in
-      record { process = b; is = e; branches = q; there = there; chan = d.0; stands = d.1; rest = down.0; path = down.1 }
+      record { process = b; is = e; branches = q; there = there; chan = d.0; at_channel = d.1; rest = down.0; path = down.1 }
 
   leftmost : (f : Node S) → SoundBelow o f → Rests o f → goes f ≡ true → Other f
   leftmost f s r g =
@@ -135,20 +135,20 @@ module _ {S : Type 0} (o : Ops S) where
             ap (λ z. wait_at_next o root (o.path l) (next_channel z)) stops
             ∙ (ap (wait_held o (o.path l) d) h.is
             ∙ (ap (wait_through o (o.path l) d (o.path (state h.node))) b.is
-            ∙ ap (λ z. wait_by (o.path l) d (o.path (state h.node)) (o.path b.process) (next_channel z)) b.stands));
+            ∙ ap (λ z. wait_by (o.path l) d (o.path (state h.node)) (o.path b.process) (next_channel z)) b.at_channel));
         its = refl;
         waits = record {
           process = l;
-          stands = stands_there root (Live l) q s place;
+          in_tree = stands_there root (Live l) q s place;
           waits = (d, stops, refl);
-          holding = h.node;
+          holding_node = h.node;
           there = stands_there root h.node h.branches s h.there;
           holds = h.holds;
           below_home = (h.rest, h.path);
           other = b.process;
           lives = stands_there root (Live b.process) (h.branches ++ b.branches) s whole;
           below = (b.rest, b.path);
-          stands_too = (b.chan, b.stands, refl);
+          other_waits = (b.chan, b.at_channel, refl);
         };
         other = λ e.
             never_below law d h.node b.branches l h.rest h.sound h.holds h.path
@@ -157,14 +157,14 @@ module _ {S : Type 0} (o : Ops S) where
 
   held_at : LocalLaws o → (root : Node S) (l : S) (q : List ℕ) → SoundBelow o root → SharesItsOwn o (state root) → Rests o root → at q root ≡ Some (Live l) → IsHeldUp o root l
   held_at law root l q s own r place =
-      let d = stands o l (at_rests o q root (Live l) r place) in
+      let d = at_channel o l (at_rests o q root (Live l) r place) in
       let c = d.0.channel in
       let home = home_of o c q root (Live l) s (own c) place (law.next_shares l d.0 (sound_at o q root (Live l) s place) d.1) in
       let h = first_holder c root s r (own c) (from_home c root l s r home) in
       wait_from root l q d.0 law s place d.1 h (leftmost h.node h.sound h.quiet (holder_goes c h.node h.holds))
 
-  pub held : LocalLaws o → (t : Tree S) (l : S) → IsBlockedTree o t → IsAmong l (lives t.root) → IsHeldUp o t.root l
-  held law t l b i =
+  pub held_up : LocalLaws o → (t : Tree S) (l : S) → IsBlockedTree o t → IsAmong l (lives t.root) → IsHeldUp o t.root l
+  held_up law t l b i =
       let w = live_at l t.root i in
       held_at law t.root l w.0 b.sound.below b.sound.own (tree_rests o t b.sound.below b.rests) w.1
 
@@ -178,4 +178,4 @@ module _ {S : Type 0} (o : Ops S) where
       ap (λ z. map (λ v. v.path) (present (z ∷ map f ls))) w.1 ∙ (λ i. w.2 i ∷ rest i)
 
   pub each : LocalLaws o → (t : Tree S) → IsBlockedTree o t → map (λ w. w.path) (waits o t.root) ≡ map o.path (lives t.root)
-  each law t b = present_each (lives t.root) (wait_of_process o t.root) (λ l i. let w = held law t l b i in (w.wait, w.is, w.its))
+  each law t b = present_each (lives t.root) (wait_of_process o t.root) (λ l i. let w = held_up law t l b i in (w.wait, w.is, w.its))

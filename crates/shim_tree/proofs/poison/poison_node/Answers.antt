@@ -5,7 +5,7 @@ use Rattle.shim_semantics.specs.Nodes.{death}
 use Rattle.shim_semantics.specs.Poison.{one_poisoned}
 use Rattle.shim_tree.proofs.Fills.{same_fork, place_same}
 use Rattle.shim_tree.proofs.Poisonings.{poisons_here, poison_done}
-use Rattle.shim_tree.proofs.poison.poison_here.Goals as goal
+use Rattle.shim_tree.proofs.poison.poison_node.Goals as goal
 
 pub overflow_sub-label : goal.overflow_sub-label
 overflow_sub-label g c =

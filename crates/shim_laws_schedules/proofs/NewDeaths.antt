@@ -13,10 +13,10 @@ use Rattle.shim_laws_schedules.proofs.DeadBelow.{dead_below, any_dead_below, non
 use Rattle.shim_base.proofs.Facts.{some_same, none_some, true_or_false}
 
 -- The node is replaced by another. As to labels below the base of its process there is no other death, or the process threw a label with a number, or was trapped.
-pub data Leaves {S : Type 0} (o : Ops S) (m a : Node S) : Type 0 where
-  no_other : ((t : ℕ) → t ≤ o.base (state m) → dead_below t a ≡ dead_below t m) → Leaves o m a
-  by_throw : (k : S) (y : ℕ) (v : ℤ) → m ≡ Live k → o.stop k ≡ AtThrow y → o.number k ≡ Some v → a ≡ (thrown o k (death_with y v)).node → ((t : ℕ) → t ≤ o.base k → dead_below t a ≡ ltb y t) → Leaves o m a
-  by_trap : ((t : ℕ) → dead_below t a ≡ ltb 0 t) → Leaves o m a
+pub data NewDeath {S : Type 0} (o : Ops S) (m a : Node S) : Type 0 where
+  no_other : ((t : ℕ) → t ≤ o.base (state m) → dead_below t a ≡ dead_below t m) → NewDeath o m a
+  by_throw : (k : S) (y : ℕ) (v : ℤ) → m ≡ Live k → o.stop k ≡ AtThrow y → o.number k ≡ Some v → a ≡ (thrown o k (death_with y v)).node → ((t : ℕ) → t ≤ o.base k → dead_below t a ≡ ltb y t) → NewDeath o m a
+  by_trap : ((t : ℕ) → dead_below t a ≡ ltb 0 t) → NewDeath o m a
 
 module _ {S : Type 0} (o : Ops S) where
   -- a throw leaves a death where the label is below the base, and no fork
@@ -33,18 +33,18 @@ module _ {S : Type 0} (o : Ops S) where
   parted_dead (Parted l ks) t = none_dead t ks
   parted_dead (Trapped l) t = refl
 
-  throwing_leaves : (l : S) (x : ℕ) (r : Option ℤ) → o.stop l ≡ AtThrow x → o.number l ≡ r → Leaves o (Live l) (throwing o l x r).node
-  throwing_leaves l x None at is = no_other (λ t h. refl)
-  throwing_leaves l x (Some v) at is = by_throw l x v refl at is refl (λ t h. thrown_dead l (death_with x v) t h)
+  throwing_new_death : (l : S) (x : ℕ) (r : Option ℤ) → o.stop l ≡ AtThrow x → o.number l ≡ r → NewDeath o (Live l) (throwing o l x r).node
+  throwing_new_death l x None at is = no_other (λ t h. refl)
+  throwing_new_death l x (Some v) at is = by_throw l x v refl at is refl (λ t h. thrown_dead l (death_with x v) t h)
 
-  live_leaves : (l : S) (v : StopView) (a : Acted S) → o.stop l ≡ v → act_live o l v ≡ Some a → Leaves o (Live l) a.node
-  live_leaves l AtQuiet a at e = subst (λ z. Leaves o (Live l) z.node) (some_same _ a e) (no_other (λ t h. refl))
-  live_leaves l AtPut a at e = subst (λ z. Leaves o (Live l) z.node) (some_same _ a e) (no_other (λ t h. refl))
-  live_leaves l AtFork a at e = subst (λ z. Leaves o (Live l) z.node) (some_same _ a e) (no_other (λ t h. parted_dead (o.fork l) t))
-  live_leaves l AtFinish a at e = subst (λ z. Leaves o (Live l) z.node) (some_same _ a e) (no_other (λ t h. refl))
-  live_leaves l (AtNext c) a at e = none_some a e
-  live_leaves l (AtThrow x) a at e = subst (λ z. Leaves o (Live l) z.node) (some_same _ a e) (throwing_leaves l x (o.number l) at refl)
-  live_leaves l (AtTrap kind line) a at e = subst (λ z. Leaves o (Live l) z.node) (some_same _ a e) (by_trap (λ t. refl))
+  live_new_death : (l : S) (v : StopView) (a : Acted S) → o.stop l ≡ v → act_live o l v ≡ Some a → NewDeath o (Live l) a.node
+  live_new_death l AtQuiet a at e = subst (λ z. NewDeath o (Live l) z.node) (some_same _ a e) (no_other (λ t h. refl))
+  live_new_death l AtPut a at e = subst (λ z. NewDeath o (Live l) z.node) (some_same _ a e) (no_other (λ t h. refl))
+  live_new_death l AtFork a at e = subst (λ z. NewDeath o (Live l) z.node) (some_same _ a e) (no_other (λ t h. parted_dead (o.fork l) t))
+  live_new_death l AtFinish a at e = subst (λ z. NewDeath o (Live l) z.node) (some_same _ a e) (no_other (λ t h. refl))
+  live_new_death l (AtNext c) a at e = none_some a e
+  live_new_death l (AtThrow x) a at e = subst (λ z. NewDeath o (Live l) z.node) (some_same _ a e) (throwing_new_death l x (o.number l) at refl)
+  live_new_death l (AtTrap kind line) a at e = subst (λ z. NewDeath o (Live l) z.node) (some_same _ a e) (by_trap (λ t. refl))
 
   -- at the close of a fork the prevailing death stays, unless it is caught
   pub joined_base : LocalLaws o → (l : S) (ks : Nodes S) → SoundBelow o (Forked l ks) → o.base (o.join l (states ks) false) ≡ o.base l
@@ -58,13 +58,13 @@ module _ {S : Type 0} (o : Ops S) where
   closed_dead law l ks (Some x) t s d e h =
       thrown_dead (o.join l (states ks) false) x t (same_bound t (o.base l) (o.base (o.join l (states ks) false)) h (joined_base law l ks s)) ∙ sym (done_some t x ks d e)
 
-  pub leaves : LocalLaws o → (m : Node S) (a : Acted S) → SoundBelow o m → act_here o m ≡ Some a → Leaves o m a.node
-  leaves law (Live l) a s e = live_leaves l (o.stop l) a refl e
-  leaves law (Ended l) a s e = none_some a e
-  leaves law (Dead l x) a s e = none_some a e
-  leaves law (Forked l ks) a s e =
+  pub new_death : LocalLaws o → (m : Node S) (a : Acted S) → SoundBelow o m → act_here o m ≡ Some a → NewDeath o m a.node
+  new_death law (Live l) a s e = live_new_death l (o.stop l) a refl e
+  new_death law (Ended l) a s e = none_some a e
+  new_death law (Dead l x) a s e = none_some a e
+  new_death law (Forked l ks) a s e =
       let w = closing o l ks a e in
-      subst (λ z. Leaves o (Forked l ks) z.node) w.1 (no_other (λ t h. closed_dead law l ks (prevailing_death ks) t s w.0 refl h))
+      subst (λ z. NewDeath o (Forked l ks) z.node) w.1 (no_other (λ t h. closed_dead law l ks (prevailing_death ks) t s w.0 refl h))
 
   -- a fork in what it leaves has children of which none is dead
   none_in_live : (i : ℕ) (r : List ℕ) (ls : List S) (l : S) (ks : Nodes S) → child_at i r (all_live ls) ≡ Some (Forked l ks) → ⊥

@@ -1,10 +1,10 @@
 use Rattle.std.proofs.Common.{◌≡◌, ◌≤◌, ℤ, ◌∷◌, List, length, map}
 use Rattle.shim_units.specs.declared.unit.Unit.{Unit as UnitOf}
 use Rattle.shim_walk_frames.specs.Depths.{shown}
-use Rattle.shim_walk_frames.specs.Leaving.{handler_in, unwound_in}
+use Rattle.shim_walk_frames.specs.Unwinding.{handler_in, unwound_in}
 use Rattle.shim_walk_frames.specs.Variables.{variables_in}
 use Rattle.shim_walk_frames.specs.Cursors.{AllStand}
-use Rattle.shim_walk.proofs.depth.leave.Given as goal
+use Rattle.shim_walk.proofs.depth.exit_frames.Given as goal
 
 abbrev pub invariant-loop-callers : goal.invariant-loop-callers
 invariant-loop-callers l = record {
