@@ -15,31 +15,31 @@ const MOST_BYTES: usize = 1_048_576;
 // Adds a line with what `{:?}` prints of a value, but with each list as a slice is printed.
 fn add_shown<T: Debug>(
     alloc: Global,
-    told: &mut List<u8>,
+    reply: &mut List<u8>,
     before: &[u8],
     value: &T,
 ) -> Result<(), NoMemory> {
     let shown = format!(in alloc; "{value:?}")?;
     let shown = shown.replace(alloc, "List { items: [", "[")?;
     let shown = shown.replace(alloc, "] }", "]")?;
-    told.extend_from_slice(before)?;
-    told.extend_from_slice(shown.as_bytes())?;
-    told.push(b'\n')
+    reply.extend_from_slice(before)?;
+    reply.extend_from_slice(shown.as_bytes())?;
+    reply.push(b'\n')
 }
 
-fn add_number(told: &mut List<u8>, before: &[u8], number: u32) -> Result<(), NoMemory> {
-    told.extend_from_slice(before)?;
-    push_decimal(told, number as u64)
+fn add_number(reply: &mut List<u8>, before: &[u8], number: u32) -> Result<(), NoMemory> {
+    reply.extend_from_slice(before)?;
+    push_decimal(reply, number as u64)
 }
 
 // Adds a line with the names of a source, in their order.
-fn add_names(told: &mut List<u8>, names: &[Name]) -> Result<(), NoMemory> {
-    told.extend_from_slice(b"names")?;
+fn add_names(reply: &mut List<u8>, names: &[Name]) -> Result<(), NoMemory> {
+    reply.extend_from_slice(b"names")?;
     for name in names {
-        told.push(b' ')?;
-        told.extend_from_slice(name.as_bytes())?;
+        reply.push(b' ')?;
+        reply.extend_from_slice(name.as_bytes())?;
     }
-    told.push(b'\n')
+    reply.push(b'\n')
 }
 
 // The resolved form of a text.
@@ -59,28 +59,28 @@ pub fn form_text(alloc: Global, source: &[u8]) -> Result<Option<List<u8>>, NoMem
     let Ok(resolved) = form_of(alloc, source) else {
         return Ok(None);
     };
-    let mut told = List::new(alloc);
-    add_names(&mut told, resolved.names())?;
-    add_number(&mut told, b"main ", resolved.main())?;
-    told.push(b'\n')?;
+    let mut reply = List::new(alloc);
+    add_names(&mut reply, resolved.names())?;
+    add_number(&mut reply, b"main ", resolved.main())?;
+    reply.push(b'\n')?;
     for function in resolved.functions() {
-        add_shown(alloc, &mut told, b"", function)?;
+        add_shown(alloc, &mut reply, b"", function)?;
     }
-    Ok(Some(told))
+    Ok(Some(reply))
 }
 
 // Adds the lines of a unit. Its first one has its title, the number of its function, and how many exceptions it is given.
-fn add_unit(alloc: Global, told: &mut List<u8>, unit: &Unit) -> Result<(), NoMemory> {
-    told.extend_from_slice(b"unit ")?;
-    told.extend_from_slice(unit.title.as_slice())?;
-    add_number(told, b" of ", unit.function)?;
-    add_number(told, b" throws ", unit.throws)?;
-    told.push(b'\n')?;
-    add_shown(alloc, told, b"tries ", &unit.tries)?;
-    add_shown(alloc, told, b"params ", &unit.params)?;
-    add_shown(alloc, told, b"slots ", &unit.slots)?;
-    add_shown(alloc, told, b"names ", &unit.slot_names)?;
-    add_shown(alloc, told, b"body ", &unit.body)
+fn add_unit(alloc: Global, reply: &mut List<u8>, unit: &Unit) -> Result<(), NoMemory> {
+    reply.extend_from_slice(b"unit ")?;
+    reply.extend_from_slice(unit.title.as_slice())?;
+    add_number(reply, b" of ", unit.function)?;
+    add_number(reply, b" throws ", unit.throws)?;
+    reply.push(b'\n')?;
+    add_shown(alloc, reply, b"tries ", &unit.tries)?;
+    add_shown(alloc, reply, b"params ", &unit.params)?;
+    add_shown(alloc, reply, b"slots ", &unit.slots)?;
+    add_shown(alloc, reply, b"names ", &unit.slot_names)?;
+    add_shown(alloc, reply, b"body ", &unit.body)
 }
 
 /// The names of a source, the number of its `main` with the exceptions that that throws, and its units; nothing where
@@ -92,16 +92,16 @@ pub fn units_text(alloc: Global, source: &[u8]) -> Result<Option<List<u8>>, NoMe
     let Ok(accepted) = read_source(alloc, source) else {
         return Ok(None);
     };
-    let mut told = List::new(alloc);
-    add_names(&mut told, accepted.names())?;
-    add_number(&mut told, b"main ", accepted.main())?;
-    told.extend_from_slice(b" throws")?;
+    let mut reply = List::new(alloc);
+    add_names(&mut reply, accepted.names())?;
+    add_number(&mut reply, b"main ", accepted.main())?;
+    reply.extend_from_slice(b" throws")?;
     for name in accepted.main_throws() {
-        add_number(&mut told, b" ", *name)?;
+        add_number(&mut reply, b" ", *name)?;
     }
-    told.push(b'\n')?;
+    reply.push(b'\n')?;
     for unit in accepted.units() {
-        add_unit(alloc, &mut told, unit)?;
+        add_unit(alloc, &mut reply, unit)?;
     }
-    Ok(Some(told))
+    Ok(Some(reply))
 }

@@ -19,7 +19,7 @@ pub struct Report {
     titles: BTreeSet<String>,
     passed: u64,
     failed: u64,
-    told: u64,
+    reply: u64,
 }
 
 // A file of cases, by its name. One that ends in `.faults` shows what fails, and that is wanted there.
@@ -81,7 +81,7 @@ fn answer_to<R: Threads + Wait + Sync>(
 ) -> Result<Answer, NoMemory> {
     match asked {
         Asked::Tool => call_tool(rt, alloc, case, words),
-        Asked::Inside => call_inside(alloc, case, words),
+        Asked::Inside => call_inside(rt, alloc, case, words),
     }
 }
 
@@ -95,7 +95,7 @@ fn run_call<R: Print + Threads + Wait + Sync>(
     tally: Tally,
 ) -> io::Result<Tally> {
     let answer = answer_to(rt, alloc, case, asked, words).map_err(no_memory)?;
-    let is_right = answer.is_as_told(case);
+    let is_right = answer.is_as_wanted(case);
     if !is_right {
         if tally.is_right() {
             print!(rt; "--- wanted of {}", case.title)?;
@@ -130,13 +130,13 @@ impl Report {
             titles: BTreeSet::new(alloc),
             passed: 0,
             failed: 0,
-            told: 0,
+            reply: 0,
         }
     }
 
     fn count_failure(&mut self, file: CaseFile) {
         if file.wants_faults {
-            self.told = self.told.saturating_add(1);
+            self.reply = self.reply.saturating_add(1);
         } else {
             self.failed = self.failed.saturating_add(1);
         }
@@ -240,7 +240,7 @@ impl Report {
 
     /// Prints the counts, and says whether there were cases and all of them passed.
     pub fn end(self, rt: &impl Print) -> io::Result<bool> {
-        println!(rt; "{} told in .faults files", self.told)?;
+        println!(rt; "{} told in .faults files", self.reply)?;
         println!(rt; "{} passed, {} failed", self.passed, self.failed)?;
         Ok(self.failed == 0 && self.passed > 0)
     }

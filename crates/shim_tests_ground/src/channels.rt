@@ -52,12 +52,12 @@ fn a_path_stands_before_those_that_go_on_from_it_and_they_before_the_next(
 }
 
 // A channel, as a test writes it: its home, its serial and the number of its name.
-type Told<'a> = (Pairs<'a>, u32, u32);
+type Reply<'a> = (Pairs<'a>, u32, u32);
 
-fn channels(alloc: Global, told: &[Told]) -> Result<Vec<Chan>, NoMemory> {
+fn channels(alloc: Global, reply: &[Reply]) -> Result<Vec<Chan>, NoMemory> {
     let mut channels = Vec::new(alloc);
-    for told in told {
-        channels.push(chan(alloc, told.0, told.1, told.2)?)?;
+    for reply in reply {
+        channels.push(chan(alloc, reply.0, reply.1, reply.2)?)?;
     }
     Ok(channels)
 }
@@ -84,22 +84,22 @@ fn expect_compared(rt: &impl Abort, channels: &[Chan], wanted: &[(bool, bool)]) 
 
 #[test]
 fn channels_are_told_apart_by_home_and_serial_alone(rt: HostRuntime) -> Result<(), Fail> {
-    let told: [Told; 5] = [
+    let reply: [Reply; 5] = [
         (&[(0, 1)], 3, 7),
         (&[(0, 1)], 3, 8),
         (&[(0, 0)], 3, 7),
         (&[(0, 1)], 4, 0),
         (&[], 9, 9),
     ];
-    let channels = channels(rt.alloc(), &told)?;
+    let channels = channels(rt.alloc(), &reply)?;
     let wanted = [(true, false), (false, false), (false, true), (false, false)];
     expect_compared(&rt, &channels, &wanted);
     Ok(())
 }
 
 // Whether the channel has this home, this serial and this name.
-fn is_told(chan: &Chan, told: Told) -> bool {
-    chan.home().pairs() == told.0 && chan.serial() == told.1 && chan.name() == told.2
+fn is_told(chan: &Chan, reply: Reply) -> bool {
+    chan.home().pairs() == reply.0 && chan.serial() == reply.1 && chan.name() == reply.2
 }
 
 #[test]

@@ -1,4 +1,4 @@
-//! Tests of the ground: values, paths and channels, operators, files and sinks, and one small process.
+//! Tests of the ground: values, paths and channels, the system's files and output, and one small process.
 #![tactic(auto)]
 
 #[cfg(test)]
@@ -7,8 +7,6 @@ mod channels;
 mod files_and_sinks;
 /// Paths and channels from what a test writes of them.
 pub mod made;
-#[cfg(test)]
-mod operators;
 #[cfg(test)]
 mod small_process;
 #[cfg(test)]

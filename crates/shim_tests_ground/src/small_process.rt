@@ -10,65 +10,65 @@ use std::alloc::Global;
 use std::process::Abort;
 use std::test::Fail;
 
-fn tell(told: &mut List<u8>, what: &[u8], number: u32) -> Result<(), NoMemory> {
-    told.extend_from_slice(what)?;
-    push_decimal(told, number as u64)
+fn tell(reply: &mut List<u8>, what: &[u8], number: u32) -> Result<(), NoMemory> {
+    reply.extend_from_slice(what)?;
+    push_decimal(reply, number as u64)
 }
 
 // Tells at what the process stands, and goes on behind it. A meeting gives 5.
-fn go_on<L: Local>(process: &mut L, told: &mut List<u8>) -> Result<(), NoMemory> {
+fn go_on<L: Local>(process: &mut L, reply: &mut List<u8>) -> Result<(), NoMemory> {
     match process.stop() {
         Stop::Quiet => {
             let quiet = process.quiet(2);
-            tell(told, b" quiet ", quiet.taken as u32)
+            tell(reply, b" quiet ", quiet.taken as u32)
         }
         Stop::Next(chan) => {
-            tell(told, b" next ", chan.serial())?;
+            tell(reply, b" next ", chan.serial())?;
             process.receive(5);
             Ok(())
         }
         Stop::Put => match process.put() {
-            Some(byte) => tell(told, b" put ", byte as u32),
-            None => told.extend_from_slice(b" put"),
+            Some(byte) => tell(reply, b" put ", byte as u32),
+            None => reply.extend_from_slice(b" put"),
         },
         Stop::Fork => {
-            told.extend_from_slice(b" fork")?;
-            fork_and_join(process, told)
+            reply.extend_from_slice(b" fork")?;
+            fork_and_join(process, reply)
         }
-        Stop::Finish => told.extend_from_slice(b" finish"),
+        Stop::Finish => reply.extend_from_slice(b" finish"),
         Stop::Throw(label) => {
-            tell(told, b" throw ", label)?;
-            throw(process, label, told)
+            tell(reply, b" throw ", label)?;
+            throw(process, label, reply)
         }
-        Stop::Trapped(_, line) => tell(told, b" trapped ", line),
+        Stop::Trapped(_, line) => tell(reply, b" trapped ", line),
     }
 }
 
 // The throw of this label: goes to its handler, where that is the process's own, and tells it, with the
 // number where this isn't 0.
-fn throw<L: Local>(process: &mut L, label: u32, told: &mut List<u8>) -> Result<(), NoMemory>
+fn throw<L: Local>(process: &mut L, label: u32, reply: &mut List<u8>) -> Result<(), NoMemory>
     requires { L.ops.stop process.old ≡ AtThrow label }
 {
     let Some(number) = process.thrown() else {
-        return told.extend_from_slice(b" with none");
+        return reply.extend_from_slice(b" with none");
     };
     if number != 0 {
-        told.extend_from_slice(b" with ")?;
-        push_decimal(told, number.unsigned_abs())?;
+        reply.extend_from_slice(b" with ")?;
+        push_decimal(reply, number.unsigned_abs())?;
     }
     if process.base() <= label && label < process.handlers() {
         let handler = process.handler(label);
-        tell(told, b" of ", handler.0)?;
-        tell(told, b".", handler.1)?;
+        tell(reply, b" of ", handler.0)?;
+        tell(reply, b".", handler.1)?;
         process.unwind(label, number);
     }
     Ok(())
 }
 
-fn tell_path(path: &Path, told: &mut List<u8>) -> Result<(), NoMemory> {
+fn tell_path(path: &Path, reply: &mut List<u8>) -> Result<(), NoMemory> {
     for pair in path.pairs() {
-        tell(told, b" ", pair.0)?;
-        tell(told, b".", pair.1)?;
+        tell(reply, b" ", pair.0)?;
+        tell(reply, b".", pair.1)?;
     }
     Ok(())
 }
@@ -76,16 +76,16 @@ fn tell_path(path: &Path, told: &mut List<u8>) -> Result<(), NoMemory> {
 // Tells the pairs of the path and of each child's path, and of each child how many exception places are
 // around it and the channels that it was given. It gives the first child 0 where that stands at a
 // meeting, and goes on behind the fork.
-fn fork_and_join<L: Local>(process: &mut L, told: &mut List<u8>) -> Result<(), NoMemory>
+fn fork_and_join<L: Local>(process: &mut L, reply: &mut List<u8>) -> Result<(), NoMemory>
     requires { L.ops.stop process.old ≡ AtFork }
 {
-    tell_path(process.path(), told)?;
+    tell_path(process.path(), reply)?;
     if let Forked::Children(children) = process.fork()? {
         let mut children = children.into_vec();
         for child in children.as_slice() {
-            tell_path(child.path(), told)?;
-            tell(told, b" in ", child.base())?;
-            tell_given(child, told)?;
+            tell_path(child.path(), reply)?;
+            tell(reply, b" in ", child.base())?;
+            tell_given(child, reply)?;
         }
         meet_first(&mut children);
         process.join(children.as_slice(), true);
@@ -94,10 +94,10 @@ fn fork_and_join<L: Local>(process: &mut L, told: &mut List<u8>) -> Result<(), N
 }
 
 // Tells the first three of the channels that the process was given, as many as there are.
-fn tell_given<L: Local>(process: &L, told: &mut List<u8>) -> Result<(), NoMemory> {
+fn tell_given<L: Local>(process: &L, reply: &mut List<u8>) -> Result<(), NoMemory> {
     for at in 0..3 {
         if let Some(chan) = process.given(at) {
-            tell(told, b" with ", chan.serial())?;
+            tell(reply, b" with ", chan.serial())?;
         }
     }
     Ok(())
@@ -130,17 +130,17 @@ fn small(
 // Whether this is told of a root with these steps to do that goes on so often.
 fn is_told(alloc: Global, left: &[Step], times: u32, text: &[u8]) -> Result<bool, NoMemory> {
     let mut process = small(Path::root(alloc), left, 3, 0, alloc)?;
-    let mut told = List::new(alloc);
+    let mut reply = List::new(alloc);
     for _ in 0..times {
-        go_on(&mut process, &mut told)?;
+        go_on(&mut process, &mut reply)?;
     }
-    Ok(told.as_slice() == text)
+    Ok(reply.as_slice() == text)
 }
 
 // What is told of a root, by the steps that it has to do and how often it goes on.
-type Told<'a> = &'a [(&'a [Step], u32, &'a [u8])];
+type Reply<'a> = &'a [(&'a [Step], u32, &'a [u8])];
 
-fn expect_told(rt: &impl Abort, alloc: Global, rows: Told) -> Result<(), Fail> {
+fn expect_told(rt: &impl Abort, alloc: Global, rows: Reply) -> Result<(), Fail> {
     for row in rows {
         assert!(rt; is_told(alloc, row.0, row.1, row.2)?);
     }
@@ -293,8 +293,8 @@ fn a_root_carries_its_channel(rt: HostRuntime) -> Result<(), Fail> {
 // A root that had these steps to do, and went on once.
 fn behind(alloc: Global, left: &[Step]) -> Result<Small, NoMemory> {
     let mut process = small(Path::root(alloc), left, 3, 0, alloc)?;
-    let mut told = List::new(alloc);
-    go_on(&mut process, &mut told)?;
+    let mut reply = List::new(alloc);
+    go_on(&mut process, &mut reply)?;
     Ok(process)
 }
 

@@ -1,6 +1,5 @@
-// That the calls on values succeed on ample memory, each at a type of its own, and what numbers are kept.
-use shim_base::{Boxed, List, Name, Shared, Ty, push_decimal, store};
-use std::process::Abort;
+// That the calls on values succeed on ample memory, each at a type of its own.
+use shim_base::{Boxed, List, Name, Shared, push_decimal};
 use std::sync::Arc;
 use std::test::Fail;
 
@@ -57,41 +56,4 @@ fn a_shared_value_has_many_owners(rt: HostRuntime) -> Result<(), Fail> {
     assert_eq!(rt; *arc, 8);
     assert_eq!(rt; Boxed::new(rt.alloc(), 9u8)?.into_inner(), 9);
     Ok(())
-}
-
-fn expect_kept(rt: &impl Abort, rows: &[(Ty, i64, i64)]) {
-    for row in rows {
-        assert_eq!(rt; store(row.0, row.1), row.2, "{} as {:?}", row.1, row.0);
-    }
-}
-
-#[test]
-fn a_store_keeps_a_number_modulo_the_size_of_its_type(rt: HostRuntime) {
-    let rows = [
-        (Ty::Bool, 0, 0),
-        (Ty::Bool, 256, 1),
-        (Ty::Bool, -1, 1),
-        (Ty::Int8, 127, 127),
-        (Ty::Int8, 128, -128),
-        (Ty::Int8, -129, 127),
-        (Ty::Int16, 32768, -32768),
-        (Ty::Int32, 2147483647, 2147483647),
-        (Ty::Int32, 2147483648, -2147483648),
-        (Ty::Int32, -2147483649, 2147483647),
-        (Ty::Bool, i64::MIN, 1),
-        (Ty::Int8, i64::MAX, -1),
-        (Ty::Int16, i64::MIN, 0),
-        (Ty::Uint16, i64::MAX, 65535),
-        (Ty::Int32, i64::MIN, 0),
-        (Ty::Int32, i64::MAX, -1),
-        (Ty::Uint8, 256, 0),
-        (Ty::Uint8, -1, 255),
-        (Ty::Uint16, -1, 65535),
-        (Ty::Uint32, -1, 4294967295),
-        (Ty::Uint32, i64::MIN, 0),
-        (Ty::Uint32, i64::MAX, 4294967295),
-        (Ty::Int64, i64::MIN, i64::MIN),
-        (Ty::Int64, i64::MAX, i64::MAX),
-    ];
-    expect_kept(&rt, &rows);
 }

@@ -9,56 +9,56 @@ use shim_run_log::Event;
 use shim_tree::Tree;
 use std::alloc::Global;
 
-fn add_path(told: &mut List<u8>, before: &[u8], path: &Path) -> Result<(), NoMemory> {
-    told.extend_from_slice(before)?;
-    told.extend_from_slice(b" main")?;
+fn add_path(reply: &mut List<u8>, before: &[u8], path: &Path) -> Result<(), NoMemory> {
+    reply.extend_from_slice(before)?;
+    reply.extend_from_slice(b" main")?;
     for pair in path.pairs() {
-        told.extend_from_slice(b"/")?;
-        push_decimal(told, pair.0 as u64)?;
-        told.extend_from_slice(b".")?;
-        push_decimal(told, pair.1 as u64)?;
+        reply.extend_from_slice(b"/")?;
+        push_decimal(reply, pair.0 as u64)?;
+        reply.extend_from_slice(b".")?;
+        push_decimal(reply, pair.1 as u64)?;
     }
     Ok(())
 }
 
-fn add_chan(told: &mut List<u8>, before: &[u8], chan: &Chan) -> Result<(), NoMemory> {
-    add_path(told, before, chan.home())?;
-    told.extend_from_slice(b"#")?;
-    push_decimal(told, chan.serial() as u64)
+fn add_chan(reply: &mut List<u8>, before: &[u8], chan: &Chan) -> Result<(), NoMemory> {
+    add_path(reply, before, chan.home())?;
+    reply.extend_from_slice(b"#")?;
+    push_decimal(reply, chan.serial() as u64)
 }
 
-fn add_poison(told: &mut List<u8>, path: &Path, chan: &Chan) -> Result<(), NoMemory> {
-    add_path(told, b" poison", path)?;
-    add_chan(told, b" on", chan)
+fn add_poison(reply: &mut List<u8>, path: &Path, chan: &Chan) -> Result<(), NoMemory> {
+    add_path(reply, b" poison", path)?;
+    add_chan(reply, b" on", chan)
 }
 
-fn add_event(told: &mut List<u8>, event: &Event) -> Result<(), NoMemory> {
+fn add_event(reply: &mut List<u8>, event: &Event) -> Result<(), NoMemory> {
     match event {
-        Event::Own(path) => add_path(told, b" own", path)?,
-        Event::Meet(chan) => add_chan(told, b" meet", chan)?,
-        Event::Poison(path, chan) => add_poison(told, path, chan)?,
-        Event::Close(path) => add_path(told, b" close", path)?,
-        Event::End(path) => add_path(told, b" end", path)?,
+        Event::Own(path) => add_path(reply, b" own", path)?,
+        Event::Meet(chan) => add_chan(reply, b" meet", chan)?,
+        Event::Poison(path, chan) => add_poison(reply, path, chan)?,
+        Event::Close(path) => add_path(reply, b" close", path)?,
+        Event::End(path) => add_path(reply, b" end", path)?,
     }
-    told.extend_from_slice(b";")
+    reply.extend_from_slice(b";")
 }
 
 // The event that the tree says is the first, and all that it says are enabled.
 fn told_events<L: Local>(alloc: Global, tree: &Tree<L>) -> Result<List<u8>, NoMemory> {
-    let mut told = List::new(alloc);
+    let mut reply = List::new(alloc);
     match tree.first()? {
-        Some(event) => add_event(&mut told, &event)?,
-        None => told.extend_from_slice(b" none")?,
+        Some(event) => add_event(&mut reply, &event)?,
+        None => reply.extend_from_slice(b" none")?,
     }
-    told.extend_from_slice(b" of")?;
+    reply.extend_from_slice(b" of")?;
     let events = tree.enabled()?;
     for event in events.as_slice() {
-        add_event(&mut told, event)?;
+        add_event(&mut reply, event)?;
     }
     if tree.quiescent() != events.is_empty() {
-        told.extend_from_slice(b" but quiescent otherwise")?;
+        reply.extend_from_slice(b" but quiescent otherwise")?;
     }
-    Ok(told)
+    Ok(reply)
 }
 
 // Those of the tree of this one process, after so many first events.
@@ -81,6 +81,6 @@ pub fn events_of(alloc: Global, source: &[u8], done: u8) -> Result<Option<List<u
         return Ok(None);
     };
     let root = walk_of(alloc, Shared::new(alloc, units)?, "")?;
-    let told = events_after(alloc, root, done as u64)?;
-    Ok(Some(told))
+    let reply = events_after(alloc, root, done as u64)?;
+    Ok(Some(reply))
 }

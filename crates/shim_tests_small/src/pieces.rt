@@ -27,9 +27,9 @@ fn parcel<L: Local>(start: L, grant: u64) -> Result<Parcel<L>, NoMemory> {
     })
 }
 
-fn tell(told: &mut List<u8>, what: &[u8], number: u64) -> Result<(), NoMemory> {
-    told.extend_from_slice(what)?;
-    push_decimal(told, number)
+fn tell(reply: &mut List<u8>, what: &[u8], number: u64) -> Result<(), NoMemory> {
+    reply.extend_from_slice(what)?;
+    push_decimal(reply, number)
 }
 
 fn stop_word(stop: Stop) -> &'static [u8] {
@@ -46,33 +46,33 @@ fn stop_word(stop: Stop) -> &'static [u8] {
 
 // Tells the piece's numbers, how many steps were taken, whether memory was wanted, and at what the process
 // stood and stands.
-fn tell_finished<L: Local>(told: &mut List<u8>, finished: &Finished<L>) -> Result<(), NoMemory> {
-    tell(told, b"piece ", finished.slot)?;
-    tell(told, b".", finished.round)?;
-    tell(told, b" of ", finished.pid)?;
-    tell(told, b": used ", finished.used)?;
-    tell(told, b" of ", finished.grant)?;
+fn tell_finished<L: Local>(reply: &mut List<u8>, finished: &Finished<L>) -> Result<(), NoMemory> {
+    tell(reply, b"piece ", finished.slot)?;
+    tell(reply, b".", finished.round)?;
+    tell(reply, b" of ", finished.pid)?;
+    tell(reply, b": used ", finished.used)?;
+    tell(reply, b" of ", finished.grant)?;
     if finished.short {
-        told.extend_from_slice(b" short")?;
+        reply.extend_from_slice(b" short")?;
     }
-    told.extend_from_slice(b", from")?;
-    told.extend_from_slice(stop_word(finished.start.stop()))?;
-    told.extend_from_slice(b" to")?;
-    told.extend_from_slice(stop_word(finished.last.stop()))
+    reply.extend_from_slice(b", from")?;
+    reply.extend_from_slice(stop_word(finished.start.stop()))?;
+    reply.extend_from_slice(b" to")?;
+    reply.extend_from_slice(stop_word(finished.last.stop()))
 }
 
 // Whether this is told of a piece of so many steps of a root with these steps to do.
 fn is_told(alloc: Global, left: &[Step], grant: u64, text: &[u8]) -> Result<bool, NoMemory> {
     let finished = work(parcel(root(alloc, left)?, grant)?);
-    let mut told = List::new(alloc);
-    tell_finished(&mut told, &finished)?;
-    Ok(told.as_slice() == text)
+    let mut reply = List::new(alloc);
+    tell_finished(&mut reply, &finished)?;
+    Ok(reply.as_slice() == text)
 }
 
 // What is told of a piece, by the steps that its process has to do and the most that are granted.
-type Told<'a> = &'a [(&'a [Step], u64, &'a [u8])];
+type Reply<'a> = &'a [(&'a [Step], u64, &'a [u8])];
 
-fn expect_told(rt: &impl Abort, alloc: Global, rows: Told) -> Result<(), Fail> {
+fn expect_told(rt: &impl Abort, alloc: Global, rows: Reply) -> Result<(), Fail> {
     for row in rows {
         assert!(rt; is_told(alloc, row.0, row.1, row.2)?);
     }

@@ -75,7 +75,7 @@ fn path_of(alloc: Global, pairs: &[(u32, u32)]) -> Result<Path, NoMemory> {
 }
 
 fn tell_steps<L: Local>(
-    told: &mut List<u8>,
+    reply: &mut List<u8>,
     tree: &mut Tree<L>,
     path: &Path,
     count: u8,
@@ -83,23 +83,23 @@ fn tell_steps<L: Local>(
     requires { steps tree.old ≤ 255 }
 {
     match tree.step_on(path, count as u64) {
-        Ok(true) => told.extend_from_slice(b" true")?,
-        Ok(false) => told.extend_from_slice(b" false")?,
-        Err(NoMemory) => told.extend_from_slice(b" no memory")?,
+        Ok(true) => reply.extend_from_slice(b" true")?,
+        Ok(false) => reply.extend_from_slice(b" false")?,
+        Err(NoMemory) => reply.extend_from_slice(b" no memory")?,
     }
-    add_enabled(told, tree)
+    add_enabled(reply, tree)
 }
 
-fn tell<L: Local>(told: &mut List<u8>, tree: &mut Tree<L>, ask: Ask<'_>) -> Result<(), NoMemory>
+fn tell<L: Local>(reply: &mut List<u8>, tree: &mut Tree<L>, ask: Ask<'_>) -> Result<(), NoMemory>
     requires { steps tree.old ≤ 255 }
 {
-    let alloc = told.allocator();
+    let alloc = reply.allocator();
     match ask {
-        Ask::View(pairs) => add_view(told, tree, &path_of(alloc, pairs)?),
-        Ask::BeforeQuiet(pairs) => add_before_quiet(told, tree, &path_of(alloc, pairs)?),
-        Ask::Children => add_children(told, tree),
-        Ask::Met(serial) => add_met(told, tree, serial),
-        Ask::Steps(pairs, count) => tell_steps(told, tree, &path_of(alloc, pairs)?, count),
+        Ask::View(pairs) => add_view(reply, tree, &path_of(alloc, pairs)?),
+        Ask::BeforeQuiet(pairs) => add_before_quiet(reply, tree, &path_of(alloc, pairs)?),
+        Ask::Children => add_children(reply, tree),
+        Ask::Met(serial) => add_met(reply, tree, serial),
+        Ask::Steps(pairs, count) => tell_steps(reply, tree, &path_of(alloc, pairs)?, count),
     }
 }
 
@@ -113,9 +113,9 @@ fn told_behind<L: Local>(
     requires { steps tree.old ≡ 0 }
 {
     do_events(tree, most as u64)?;
-    let mut told = List::new(alloc);
-    tell(&mut told, tree, ask)?;
-    Ok(told)
+    let mut reply = List::new(alloc);
+    tell(&mut reply, tree, ask)?;
+    Ok(reply)
 }
 
 fn answer(alloc: Global, left: &[Step], most: u8, ask: Ask<'_>) -> Result<List<u8>, NoMemory> {
@@ -129,8 +129,8 @@ type Row<'a> = (u8, Ask<'a>, &'a str);
 // Expects these answers of the tree of a root with these steps to do.
 fn expect(rt: &impl Abort, alloc: Global, left: &[Step], rows: &[Row<'_>]) -> Result<(), Fail> {
     for row in rows {
-        let told = answer(alloc, left, row.0, row.1)?;
-        assert_eq!(rt; str::from_utf8(told.as_slice())?, row.2);
+        let reply = answer(alloc, left, row.0, row.1)?;
+        assert_eq!(rt; str::from_utf8(reply.as_slice())?, row.2);
     }
     Ok(())
 }
@@ -300,22 +300,22 @@ fn steps_on_a_path_may_want_memory(rt: HostRuntime) -> Result<(), Fail> {
 
 // ---- the end, and quiet steps at once
 
-fn add_ended(told: &mut List<u8>, ended: &Ended) -> Result<(), NoMemory> {
-    add_own(told, ended.own.as_slice())?;
-    add_number(told, b" others ", ended.events)?;
-    add_number(told, b"; logs ", ended.logs.len() as u64)?;
-    add_number(told, b"; steps ", ended.steps)?;
-    told.extend_from_slice(b"; ")?;
-    told.extend_from_slice(outcome_word(ended.outcome))
+fn add_ended(reply: &mut List<u8>, ended: &Ended) -> Result<(), NoMemory> {
+    add_own(reply, ended.own.as_slice())?;
+    add_number(reply, b" others ", ended.events)?;
+    add_number(reply, b"; logs ", ended.logs.len() as u64)?;
+    add_number(reply, b"; steps ", ended.steps)?;
+    reply.extend_from_slice(b"; ")?;
+    reply.extend_from_slice(outcome_word(ended.outcome))
 }
 
 // Tells what can happen to a tree, which processes stand before a quiet step, and what is read off it.
-fn tell_end<L: Local>(told: &mut List<u8>, tree: &Tree<L>, budget: u64) -> Result<(), NoMemory>
+fn tell_end<L: Local>(reply: &mut List<u8>, tree: &Tree<L>, budget: u64) -> Result<(), NoMemory>
     requires { ((steps tree.now ≤ budget) × IsQuiescent L.ops tree.now) ⊎ (steps tree.now ≡ budget) }
 {
-    add_enabled(told, tree)?;
-    add_quiet(told, tree)?;
-    add_ended(told, &tree.ended(budget)?)
+    add_enabled(reply, tree)?;
+    add_quiet(reply, tree)?;
+    add_ended(reply, &tree.ended(budget)?)
 }
 
 // Takes up to so many quiet steps at once of the process that has this number among those before one,
@@ -345,26 +345,26 @@ enum Way {
 }
 
 // Lets that happen to a tree of no events, and tells its end.
-fn tell_way<L: Local>(told: &mut List<u8>, tree: &mut Tree<L>, way: Way) -> Result<(), NoMemory>
+fn tell_way<L: Local>(reply: &mut List<u8>, tree: &mut Tree<L>, way: Way) -> Result<(), NoMemory>
     requires { steps tree.old ≡ 0 }
 {
     match way {
         Way::Events(most) => {
             do_events(tree, most as u64)?;
-            tell_end(told, tree, most as u64)
+            tell_end(reply, tree, most as u64)
         }
         Way::AtOnce(at, most) => {
             let taken = advance_one(tree, at, most as u64)?;
-            tell_end(told, tree, taken)
+            tell_end(reply, tree, taken)
         }
     }
 }
 
 fn end_by(alloc: Global, left: &[Step], way: Way) -> Result<List<u8>, NoMemory> {
-    let mut told = List::new(alloc);
+    let mut reply = List::new(alloc);
     let mut tree = start(alloc, left)?;
-    tell_way(&mut told, &mut tree, way)?;
-    Ok(told)
+    tell_way(&mut reply, &mut tree, way)?;
+    Ok(reply)
 }
 
 // The steps of a root, ways, and what is told behind each of them.
@@ -378,8 +378,8 @@ fn expect_told(
     text: &str,
 ) -> Result<(), Fail> {
     for way in ways {
-        let told = end_by(alloc, left, *way)?;
-        assert_eq!(rt; str::from_utf8(told.as_slice())?, text);
+        let reply = end_by(alloc, left, *way)?;
+        assert_eq!(rt; str::from_utf8(reply.as_slice())?, text);
     }
     Ok(())
 }

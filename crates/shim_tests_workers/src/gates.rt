@@ -1,7 +1,49 @@
-// A gate that counts, and one that holds the first who comes.
+// A gate that counts who enters, and holds one of them.
 use shim_net::Gate;
 use std::sync::atomic::{AtomicU64, Ordering};
 use std::thread;
+
+// How often a held worker looks whether it may go on, before that is a failure.
+const MOST_LOOKS: u64 = 50_000_000;
+
+// The same where a failure is what is wanted.
+const FEW_LOOKS: u64 = 10_000;
+
+/// Which entry a gate holds, and until when.
+#[derive(Clone, Copy, PartialEq, Eq)]
+pub enum Hold {
+    Nobody,
+    /// The first process that isn't a root, until any such process has entered once more.
+    UntilChild,
+    /// The first process that isn't a root, until its siblings have entered so many times.
+    UntilSiblings(u64),
+    /// The first of several runs, until there has been an entry of another one.
+    UntilRun,
+}
+
+impl Hold {
+    // Whether a process of this number is held, or counts for the one that is.
+    fn regards(self, pid: u64) -> bool {
+        match self {
+            Hold::Nobody => false,
+            Hold::UntilRun => true,
+            Hold::UntilChild | Hold::UntilSiblings(_) => pid != 0,
+        }
+    }
+
+    // How many others have to come.
+    fn wanted(self) -> u64 {
+        match self {
+            Hold::UntilSiblings(times) => times,
+            Hold::Nobody | Hold::UntilChild | Hold::UntilRun => 1,
+        }
+    }
+
+    // Whether an entry of the held process lets it go, too.
+    fn counts_itself(self) -> bool {
+        !matches!(self, Hold::UntilSiblings(_))
+    }
+}
 
 fn add_one(count: &AtomicU64) -> u64 {
     count.fetch_add(1, Ordering::SeqCst)
@@ -11,53 +53,33 @@ fn get(count: &AtomicU64) -> u64 {
     count.load(Ordering::SeqCst)
 }
 
-/// Counts the entries, and those of them that aren't of a root which is no compiled code.
+/// Counts the entries, and holds the first one of those that it regards. The counts wrap.
 #[derive(Drop)]
-pub struct CountingGate {
-    entries: AtomicU64,
-    others: AtomicU64,
-}
-
-impl CountingGate {
-    pub fn new() -> CountingGate {
-        CountingGate {
-            entries: AtomicU64::new(0),
-            others: AtomicU64::new(0),
-        }
-    }
-
-    pub fn entries(&self) -> u64 {
-        get(&self.entries)
-    }
-
-    pub fn others(&self) -> u64 {
-        get(&self.others)
-    }
-}
-
-impl Gate for CountingGate {
-    fn enter(&self, pid: u64, compiled: bool) {
-        let _before = add_one(&self.entries);
-        if compiled || pid != 0 {
-            let _before = add_one(&self.others);
-        }
-    }
-}
-
-/// Holds the first entry until there has been another one, and lets it go after so many looks, which is a
-/// failure.
-#[derive(Drop)]
-pub struct HoldingGate {
+pub struct WatchingGate {
+    hold: Hold,
     most_looks: u64,
     entries: AtomicU64,
+    children: AtomicU64,
+    not_compiled: AtomicU64,
+    // the number of the held process, and 1; 0 before one is held
+    held: AtomicU64,
+    came: AtomicU64,
+    holds: AtomicU64,
     failures: AtomicU64,
 }
 
-impl HoldingGate {
-    pub fn new(most_looks: u64) -> HoldingGate {
-        HoldingGate {
-            most_looks,
+impl WatchingGate {
+    /// A gate that holds so. Where a failure is wanted, it is soon there.
+    pub fn new(hold: Hold, soon: bool) -> WatchingGate {
+        WatchingGate {
+            hold,
+            most_looks: if soon { FEW_LOOKS } else { MOST_LOOKS },
             entries: AtomicU64::new(0),
+            children: AtomicU64::new(0),
+            not_compiled: AtomicU64::new(0),
+            held: AtomicU64::new(0),
+            came: AtomicU64::new(0),
+            holds: AtomicU64::new(0),
             failures: AtomicU64::new(0),
         }
     }
@@ -66,25 +88,70 @@ impl HoldingGate {
         get(&self.entries)
     }
 
+    /// How many entries weren't of a root.
+    pub fn children(&self) -> u64 {
+        get(&self.children)
+    }
+
+    /// How many entries weren't compiled.
+    pub fn not_compiled(&self) -> u64 {
+        get(&self.not_compiled)
+    }
+
+    /// How many entries were held.
+    pub fn holds(&self) -> u64 {
+        get(&self.holds)
+    }
+
+    /// How many of them were let go by the limit.
     pub fn failures(&self) -> u64 {
         get(&self.failures)
     }
 
-    fn hold(&self) {
+    fn count(&self, pid: u64, compiled: bool) {
+        let _before = add_one(&self.entries);
+        if pid != 0 {
+            let _before = add_one(&self.children);
+        }
+        if !compiled {
+            let _before = add_one(&self.not_compiled);
+        }
+    }
+
+    // Waits until the others have come.
+    fn wait(&self) {
+        let _before = add_one(&self.holds);
         for _ in 0..self.most_looks {
-            if self.entries() > 1 {
+            if get(&self.came) >= self.hold.wanted() {
                 return;
             }
             thread::yield_now();
         }
         let _before = add_one(&self.failures);
     }
+
+    // Holds the first process that is regarded, and counts the others for it.
+    fn regard(&self, pid: u64) {
+        let number = pid.saturating_add(1);
+        let found = self
+            .held
+            .compare_exchange(0, number, Ordering::SeqCst, Ordering::SeqCst);
+        match found {
+            Ok(_) => self.wait(),
+            Err(held) => {
+                if held != number || self.hold.counts_itself() {
+                    let _before = add_one(&self.came);
+                }
+            }
+        }
+    }
 }
 
-impl Gate for HoldingGate {
-    fn enter(&self, _pid: u64, _compiled: bool) {
-        if add_one(&self.entries) == 0 {
-            self.hold();
+impl Gate for WatchingGate {
+    fn enter(&self, pid: u64, compiled: bool) {
+        self.count(pid, compiled);
+        if self.hold.regards(pid) {
+            self.regard(pid);
         }
     }
 }

@@ -62,7 +62,7 @@ module _ {S : Type 0} (o : Ops S) where
       let w = stands t.root l sound (got_among (quiets o t.root) i l got) in
       let same : o.path l ≡ o.path last = sym (quiet_path laws n l last w.2 quiet) in record {
         start = l;
-        stands = record { there = ap (at_route t.root) (route_of o t.root (Live l) w.0 (o.path last) sound w.1 same) ∙ w.1; is_its = same };
+        in_tree = record { there = ap (at_route t.root) (route_of o t.root (Live l) w.0 (o.path last) sound w.1 same) ∙ w.1; is_its = same };
         steps = quiet;
       }
 

@@ -1,2 +1,0 @@
--- The lemmas of this crate, one module for each subject.
-pub mod Keeping

@@ -1,0 +1,3 @@
+-- The lemmas of this crate, one module for each subject.
+pub mod Keeping
+pub mod Options

@@ -1,0 +1,25 @@
+// Whether two states are the same behind a meeting, written down.
+use crate::source::told_same;
+use crate::tell::word;
+use shim_base::{List, NoMemory};
+use shim_local::{Local, Stop};
+
+// Gives the process this value at the meeting at which it stands.
+fn meet<L: Local>(process: &mut L, value: i64) {
+    if let Stop::Next(_) = process.stop() {
+        process.receive(value);
+    }
+}
+
+/// Tells whether a state and its copy are the same that get these values at the meeting at which it stands.
+pub fn tell_met<L: Local>(
+    process: &mut L,
+    value: i64,
+    other: i64,
+    reply: &mut List<u8>,
+) -> Result<(), NoMemory> {
+    let mut copy = process.copy()?;
+    meet(process, value);
+    meet(&mut copy, other);
+    word(reply, told_same(process, &copy))
+}
