@@ -1,5 +1,5 @@
 #!/usr/bin/env python3
-"""Measures what ./shim costs. Each subcommand is a question: `bench.py --help` lists them, `bench.py QUESTION --help`
+"""Measures what shim costs. Each subcommand is a question: `bench.py --help` lists them, `bench.py QUESTION --help`
 its words.
 
 Commands that belong together run in turn, for some rounds. A line tells of one command the least time, the least
@@ -22,13 +22,14 @@ import resource
 import shutil
 import subprocess
 import sys
-import tempfile
 import time
 
-import shapes
-
 BENCH = os.path.dirname(os.path.realpath(__file__))
-TOP = os.path.dirname(BENCH)
+sys.path.append(os.path.join(BENCH, "robust"))
+import common  # noqa: E402
+import shapes  # noqa: E402
+from common import TOP, write  # noqa: E402
+
 MIB = shapes.MIB
 MOST = ["--budget", "4000000"]
 ONE = ["--workers", "1"]
@@ -48,12 +49,6 @@ def question(names=(), rounds=5, **numbers):
         QUESTIONS[function.__name__.rstrip("_")] = (function, list(names), rounds, numbers)
         return function
     return enter
-
-
-def file(name, text):
-    with open(name, "wb") as out:
-        out.write(text if isinstance(text, bytes) else text.encode())
-    return name
 
 
 class Run:
@@ -85,8 +80,7 @@ class Run:
         return [one for run in (self, self.before) if run for one in (run.idle, run) if one]
 
     def text(self):
-        with open(self.to, "rb") as out:
-            return out.read()
+        return common.read(self.to)
 
     def last_line(self):
         with open(self.to, "rb") as out:
@@ -134,7 +128,7 @@ class Bench:
 
     def __init__(self, given):
         self.given = given
-        self.builds = [os.path.abspath(path) for path in (given.shim, given.before) if path]
+        self.builds = [path for path in (given.shim, given.before) if path]
 
     def shim(self, *words, idle=None, limit=(), **more):
         """A run of shim, started by the words of a limit, and the same by the other build behind it."""
@@ -177,7 +171,7 @@ class Bench:
 def in_both(texts, *words):
     """Writes a text for shim and one for C, and gives a run of gcc over that."""
     for path, text in zip(("source.shim", "source.c"), texts):
-        file(path, text)
+        write(path, text)
     return peer(" ".join(["gcc", *words]), "gcc", "-w", *words, "-o", "/dev/null", "source.c")
 
 
@@ -194,10 +188,10 @@ def reading(bench, name):
 def tokens(bench):
     """Cut texts into tokens, whose last byte begins none, beside a loop of C over the same bytes; less an empty
     text."""
-    file("empty", "@")
+    write("empty", "@")
     idle, (_, idle_loop) = bench.shim("run", "empty", ends=(5,)), peer("", "./peers", "words", "empty")
     for size in (MIB // 4, MIB // 2, MIB):
-        file("text", shapes.filled("", shapes.TOKENS, "@", size))
+        write("text", shapes.filled("", shapes.TOKENS, "@", size))
         loop = peer("a C loop", "./peers", "words", "text", idle=idle_loop)
         yield [Row("%d bytes" % size, bench.shim("run", "text", ends=(5,), idle=idle), [loop], size, "byte")]
 
@@ -214,7 +208,7 @@ def code(bench):
 def texts(bench, name):
     """Check texts of 1 MiB, shape by shape, and run one step of each, in at most so many seconds of processor time.
     The MiB of memory are how often as much as the text it takes."""
-    file("p", shapes.filled(*shapes.TEXTS[name]))
+    write("p", shapes.filled(*shapes.TEXTS[name]))
     limit = ["prlimit", "--cpu=%d:%d" % (bench.given.seconds, bench.given.seconds + 1)]
     yield [Row("%s: %s" % (name, words[0]), bench.shim(*words, ends=(), limit=limit))
            for words in (["check", "p"], ["run", "p", "--budget", "1", *ONE])]
@@ -225,8 +219,8 @@ def steps(bench, name):
     """A step of compiled programs, and of one over syntax, beside Lua and Python, with the instructions that a step
     takes."""
     text, *others = shapes.MACHINE[name]
-    words = [file("p.shim", text), *MOST, *ONE, "--input", file("input", os.urandom(100000))]
-    peers = [peer(tool, tool, file("p." + tool, other), given="input")
+    words = [write("p.shim", text), *MOST, *ONE, "--input", write("input", os.urandom(100000))]
+    peers = [peer(tool, tool, write("p." + tool, other), given="input")
              for tool, other in zip(("lua5.4", "python3"), others)]
     rows = [Row(name, bench.shim("run", *words), peers, 0, is_counted=True)]
     if name == "xor":
@@ -242,10 +236,10 @@ def steps(bench, name):
 @question(rounds=3)
 def input_(bench):
     """Read an input of 16 MiB, and sum up a part of it byte by byte, which takes 4,000,000 steps, beside C."""
-    file("input", os.urandom(16 * MIB))
-    none = bench.shim("run", file("none.shim", shapes.WITH_INPUT), "--input", "input")
+    write("input", os.urandom(16 * MIB))
+    none = bench.shim("run", write("none.shim", shapes.WITH_INPUT), "--input", "input")
     count = 4000000 // 3  # a byte takes three steps
-    total = bench.shim("run", file("sum.shim", shapes.SUM_OF_INPUT), "--input", "input", *MOST, ends=(4,), idle=none)
+    total = bench.shim("run", write("sum.shim", shapes.SUM_OF_INPUT), "--input", "input", *MOST, ends=(4,), idle=none)
     yield [Row("an input that nothing reads", none),
            Row("%d bytes" % count, total, [peer("C", "./peers", "sum", "input", count)], count, "byte")]
 
@@ -264,8 +258,8 @@ def batch(bench):
     and four at a time. All have to write the same reports."""
     os.mkdir("inputs")
     os.mkdir("reports")
-    inputs = [file("inputs/%02d" % number, os.urandom(bench.given.bytes)) for number in range(bench.given.inputs)]
-    words = [file("p.shim", shapes.READ_TO_THE_END), *MOST]
+    inputs = [write("inputs/%02d" % number, os.urandom(bench.given.bytes)) for number in range(bench.given.inputs)]
+    words = [write("p.shim", shapes.READ_TO_THE_END), *MOST]
     one = bench.shim("run", *words, *ONE, "--input", inputs[0])
     each, four = (Run(["sh", "-ec", text, bench.builds[0]]) for text in RUN_EACH)
     peers = [("one run", one), ("one after the other", each)]
@@ -300,14 +294,14 @@ def net(bench, name):
             peers.append(peer("Go's channels", "./go_pipe", size, last=told))
         yield [generated(bench, "pipe", size, by, peers) for by in WORKERS]
     if name == "sizes":
-        file("idle.shim", shapes.IDLE)
+        write("idle.shim", shapes.IDLE)
         for by, words in WORKERS.items():
             idle = bench.shim("run", "idle.shim", *MOST, *words)
             for size in (1000, 10000, 100000):
                 is_counted = size == 1000 and by == "1 worker" and bench.given.before
                 yield [generated(bench, kind, size, by, idle=idle, is_counted=is_counted) for kind in STEPS]
     if name == "deep":
-        file("deep.shim", shapes.DEEP_FORKS)
+        write("deep.shim", shapes.DEEP_FORKS)
         bench.given.rounds = 1
         spent = {"ends": (4,), "last": "end spent 4000000", "to": "a large report"}
         yield [Row("deep forks, " + by, bench.shim("run", "deep.shim", *MOST, *words, **spent))
@@ -340,9 +334,9 @@ def workers(bench, name):
     """What more workers bring, and what --steal does: four branches that count, beside threads of C that work as long,
     and trees, pipes and storms. All have to write the same."""
     counting = shapes.ENDLESS.replace("true", "k < 300000")
-    file("counts.shim", counting)
-    file("large.shim", shapes.in_shim(shapes.ORDINARY, MIB, counting))
-    file("input", bytes(4 * MIB))
+    write("counts.shim", counting)
+    write("large.shim", shapes.in_shim(shapes.ORDINARY, MIB, counting))
+    write("input", bytes(4 * MIB))
     words = [*WORK[name].split(), *MOST]
     runs = {by: bench.shim(*words, *options) for by, options in WORKERS.items()}
     stealing = {by: bench.shim(*words, *WORKERS[by], "--steal") for by in ("1 worker", "2 workers", "4 workers")}
@@ -358,13 +352,13 @@ def board(bench):
     """A piece of work over the board, through lanes, and by two queues of C with a lock, on 1, 2 and 4 threads; less
     none."""
     if not shutil.which("rt"):
-        sys.exit("no rt here: the programs of shim_tests_board and shim_tests_steal can't be proved and built")
+        sys.exit("no rt here: the program of shim_tests_board can't be proved and built")
     programs, pieces = {"two queues": ["./peers", "queues"]}, bench.given.pieces
     ends = {"two queues": "", "board": "each claimed and collected once", "lanes": "each taken once and in order"}
-    for name, crate in (("board", "shim_tests_board"), ("lanes", "shim_tests_steal")):
-        folder = os.path.join(TOP, "crates", crate)
-        subprocess.run(["rt", "run"], cwd=folder, check=True, stdout=subprocess.DEVNULL)
-        programs[name] = [os.path.join(folder, "out", crate)]
+    folder = os.path.join(TOP, "crates", "shim_tests_board")
+    subprocess.run(["rt", "run"], cwd=folder, check=True, stdout=subprocess.DEVNULL)
+    for name in ("board", "lanes"):
+        programs[name] = [os.path.join(folder, "out", "shim_tests_board"), name]
     for count in ("1", "2", "4"):
         runs = {name: Run([*program, count, str(pieces)], idle=Run([*program, count, "0"]))
                 for name, program in programs.items()}
@@ -379,7 +373,7 @@ def climb(bench, what, sizes, make, *words, units=None):
     """Rows of texts of some sizes, and the memory that each more of them takes."""
     before = None
     for size in sizes:
-        file("source.shim", make(size))
+        write("source.shim", make(size))
         run = bench.shim(*words, ends=(0, 3, 4))
         yield [Row("%d %s" % (size, what), run, units=units)]
         if before:
@@ -412,7 +406,7 @@ def memory(bench, name):
 def journals(bench, name):
     """Record a run and replay it, beside `run`. A replay has to write what `run` does, but where the budget stops
     that."""
-    file("source.shim", {"loops": shapes.ENDLESS, "pipe": shapes.PIPE, "tree": shapes.TREE}[name])
+    write("source.shim", {"loops": shapes.ENDLESS, "pipe": shapes.PIPE, "tree": shapes.TREE}[name])
     words, ends = ["source.shim", *MOST, "--quantum", "1", *ONE], (0, 4)
     run, trace = (bench.shim(mode, *words, ends=ends, to=mode) for mode in ("run", "trace"))
     replay = bench.shim("replay", "source.shim", "--journal", "trace", ends=ends)
@@ -423,10 +417,10 @@ def journals(bench, name):
     same(run, replay)
 
 
-@question(shapes.BLOCKED, count=128)
+@question(shapes.BLOCKED, processes=128)
 def why(bench, name):
     """Explain a blocked run, beside `ref`, whose report `why` has to begin with."""
-    file("source.shim", shapes.BLOCKED[name](bench.given.count))
+    write("source.shim", shapes.BLOCKED[name](bench.given.processes))
     by_ref, told = (bench.shim(mode, "source.shim", *MOST, ends=(3,)) for mode in ("ref", "why"))
     yield [Row("%s: why" % name, told, [("ref", by_ref)])]
     if not told.text().startswith(by_ref.text()):
@@ -437,7 +431,7 @@ def why(bench, name):
 def ref(bench, name):
     """Programs that take `ref` long or that are large, by the modes that their figures are of."""
     text, modes = shapes.SLOW[name]
-    file("source.shim", text)
+    write("source.shim", text)
     for mode in modes:
         word, _, count = mode.partition(" ")
         more = [] if word == "check" else [*MOST, "--workers", count or "1"]
@@ -448,19 +442,14 @@ def gate(command):
     """What a gate or another COMMAND costs: its time, the processor time of all its processes, and the memory of the
     greatest of them, or of this script where it has more."""
     begin = time.monotonic()
-    status = subprocess.run(command, cwd=TOP).returncode
+    try:
+        status = subprocess.run(command, cwd=TOP).returncode
+    except OSError as why:
+        sys.exit("%s: %s" % (command[0], why.strerror))
     took, usage = time.monotonic() - begin, resource.getrusage(resource.RUSAGE_CHILDREN)
     print("status %d, %.0f s, %.0f of processor time, %.1f MiB"
           % (status, took, usage.ru_utime + usage.ru_stime, usage.ru_maxrss / 1024))
     return status
-
-
-def positive(word):
-    """The number that a word is, of 1 at least."""
-    number = int(word)
-    if number < 1:
-        raise ValueError
-    return number
 
 
 def main():
@@ -469,10 +458,10 @@ def main():
     for name, (function, names, rounds, numbers) in QUESTIONS.items():
         about = " ".join(function.__doc__.split())
         one = subcommands.add_parser(name, help=about, description=about)
-        one.add_argument("--shim", default=os.path.join(TOP, "shim"), help="the build that is measured, or ./shim")
-        one.add_argument("--before", help="another build, measured in turn with it")
+        common.add_program(one)
+        one.add_argument("--before", type=common.program, metavar="PATH", help="another build, measured in turn with it")
         for option, number in {"rounds": rounds, **numbers}.items():
-            one.add_argument("--" + option, type=positive, default=number, help="%(default)s where nothing is said")
+            common.add_number(one, option, number, "how many " + option)
         if names:
             one.add_argument("names", nargs="*", metavar="NAME", help="all where nothing is said: " + "; ".join(names))
     about = " ".join(gate.__doc__.split())
@@ -487,15 +476,13 @@ def main():
         words.error("%s has the names %s" % (given.question, "; ".join(names)))
     if not shutil.which("gcc"):
         words.error("there is no gcc here: apt install gcc")
-    bench = Bench(given)
-    with tempfile.TemporaryDirectory() as room:
-        os.chdir(room)
+
+    def measure(given):
         print("%s: %d processors, load %.1f" % (given.question, os.cpu_count(), os.getloadavg()[0]), flush=True)
         subprocess.run(["gcc", "-O2", "-pthread", "-o", "peers", os.path.join(BENCH, "peers.c")], check=True)
         for one in asked:
-            bench.answer(function, *one)
-        os.chdir(TOP)
-    return 0
+            Bench(given).answer(function, *one)
+    return common.start(measure, given)
 
 
 if __name__ == "__main__":

@@ -18,7 +18,7 @@ def filled(head, parts, tail, size=MIB, most=MIB):
     return "".join(texts) + " " * left + tail
 
 
-# Bodies of functions in both languages: of a shape the one of shim, and the one of C. An @ is the function's number.
+# Bodies of functions in shim; C takes an & where one calls another. An @ is the function's number.
 ORDINARY = """
   while (n > 0) {
     if (n % 2 == 0) { a = a + n; } else { b = (b << 1) | n; }
@@ -30,14 +30,9 @@ SUMS = "a = n" + " + 12" * 250 + "; }\n"
 # Sixty names a function that no other function has, each used twice.
 NAMES = "".join("int v@%d; " % k for k in range(10, 70)) + "".join("v@%d = n + v@%d; " % (k, k) for k in range(10, 70))
 NAMES += "}\n"
-READ = {
-    "ordinary": (ORDINARY, ORDINARY),
-    "deep": (DEEP, DEEP),
-    "sums": (SUMS, SUMS),
-    "names": (NAMES, NAMES),
-    # A function that calls itself over and over: one of a thousand.
-    "calls": ("f@(n, a); " * 80 + "}\n", "f@(n,&a); " * 80 + "}\n"),
-}
+# Of calls a function calls itself over and over: one of a thousand.
+CALLS = "f@(n, a); " * 80 + "}\n"
+READ = {"ordinary": ORDINARY, "deep": DEEP, "sums": SUMS, "names": NAMES, "calls": CALLS}
 CODE = ["while (x < y && x != 9) { x = x + y * 3; }\n", "if (x || y) { y = x - 1; } else { x = y; }\n"]
 TOKENS = "  level = level + (step << 3) * 0x1F; // a ramp\n  next level; /* all meet */ put wire, level >> 8;\n"
 
@@ -51,9 +46,9 @@ def read_in_both(name, size):
     """A text of that shape for shim, and one for C. `statements` is run, too; the `main` of the others does nothing."""
     if name == "statements":
         return listed(size, ["x = x + y + 123;\n"])
-    here, there = READ[name]
-    in_c = filled("", "void f@(int n, int *r) { int a, b = 0; " + there, "void main() { }", size, 1000)
-    return in_shim(here, size), in_c
+    in_c = READ[name].replace("(n, a)", "(n,&a)")
+    in_c = filled("", "void f@(int n, int *r) { int a, b = 0; " + in_c, "void main() { }", size, 1000)
+    return in_shim(READ[name], size), in_c
 
 
 def listed(size, parts):

@@ -1,19 +1,21 @@
-"""What the scripts of this folder share: their words, calls of ./shim with limits, and how answers are compared.
+"""What the scripts of bench/ share: their words, and those of this folder: calls of shim with limits, and how answers
+are compared.
 
-SHIM names the program, ./shim where nothing is said. A script ends with 1 where something differs, and with 2 where
-its words are none or there is no program.
+The program is that of --shim; where nothing is said, what SHIM names, or ./shim. A script of this folder ends with 1
+where something differs, and with 2 where its words are none or there is no program.
 """
 import argparse
 import collections
 import glob
 import os
 import shutil
+import signal
 import subprocess
 import sys
 import tempfile
 
 TOP = os.path.dirname(os.path.dirname(os.path.dirname(os.path.realpath(__file__))))
-SHIM = os.path.realpath(os.environ.get("SHIM", os.path.join(TOP, "shim")))
+SHIM = None  # once `start` is called
 sys.path[:0] = [os.path.join(TOP, folder) for folder in ("bench", "tools", "tools/tests")]
 NOBODY = ["setpriv", "--reuid=65534", "--regid=65534", "--clear-groups"]
 COPY = "void main(istream &i, ostream &o) { int c; c = get i; while (c != -1) { put o, c; c = get i; } }\n"
@@ -21,20 +23,45 @@ COPY = "void main(istream &i, ostream &o) { int c; c = get i; while (c != -1) { 
 Answer = collections.namedtuple("Answer", "words status text error")
 
 
-def words_of(**numbers):
-    """A parser of the words of the script, whose own text is its help, with an option for each of these numbers."""
+def number(least=1, most=1 << 32):
+    """What reads a word that has to be a number from `least` to `most`."""
+    def number(word):
+        if not least <= int(word) <= most:
+            raise argparse.ArgumentTypeError("%s: a number from %d to %d" % (word, least, most))
+        return int(word)
+    return number
+
+
+def program(path):
+    """The whole path of a program."""
+    if not os.path.isfile(path) or not os.access(path, os.X_OK):
+        raise argparse.ArgumentTypeError("there is no program %s: make shim" % path)
+    return os.path.realpath(path)
+
+
+def add_program(words):
+    words.add_argument("--shim", type=program, default=os.environ.get("SHIM") or os.path.join(TOP, "shim"),
+                       metavar="PATH", help="the program; what SHIM names, or ./shim, where nothing is said")
+
+
+def add_number(words, name, default, about, **limits):
+    words.add_argument("--" + name, type=number(**limits), default=default, metavar="N",
+                       help="%s; %d where nothing is said" % (about, default))
+
+
+def words_of():
+    """A parser of the words of the script, whose own text is its help."""
     words = argparse.ArgumentParser(
         description=sys.modules["__main__"].__doc__, formatter_class=argparse.RawDescriptionHelpFormatter)
-    for name, number in numbers.items():
-        words.add_argument("--" + name, type=int, default=number, help="%(default)s where nothing is said")
+    add_program(words)
     return words
 
 
-def start(main, words):
-    """Calls `main` with the words that are given, in a folder of its own, which stays where something differs."""
-    given = words.parse_args()
-    if not os.access(SHIM, os.X_OK):
-        words.error("there is no %s yet: make shim" % SHIM)
+def start(main, given):
+    """Calls `main` with the words that were given, in a folder of its own, which stays where something differs."""
+    global SHIM
+    SHIM = given.shim
+    signal.signal(signal.SIGTERM, lambda *_: sys.exit(128 + signal.SIGTERM))
     room = tempfile.mkdtemp()
     os.chdir(room)
     try:
@@ -52,6 +79,7 @@ def read(name):
 
 
 def write(name, text):
+    """Writes a file, and gives its name."""
     with open(name, "wb") as out:
         out.write(text if isinstance(text, bytes) else text.encode())
     return name
@@ -65,6 +93,8 @@ def ask(*words, before=(), seconds=60, **more):
     try:
         child.wait(seconds)
     except subprocess.TimeoutExpired:
+        pass
+    finally:
         child.kill()
         child.wait()
     return Answer(words, child.returncode, read("out"), read("err"))

@@ -1,12 +1,12 @@
 #!/usr/bin/env python3
-"""What ./shim answers where the files and the output of the system are odd: pipes, devices, folders, files that can't
+"""What shim answers where the files and the output of the system are odd: pipes, devices, folders, files that can't
 be read, that are changed or cut while they are read; names with any bytes; output that is full, closed or slow; a
 failed read with a failed write; and inputs of a batch that are odd. Each answer is compared with what docs/FORMATS.md
 says of it. Ends with 1 at the first one that differs, and names it. Wants bash, and setpriv as root.
 
 The cases of the tool have the rest: files that are missing or too long, in any order, and names like options or with
 no sign (tools/tests/cases.py).
-Use: make shim && bench/robust/edges.py [--times N], the number of runs over a file that is changed
+Use: make shim && bench/robust/edges.py [--times N] [--shim PATH]
 """
 import collections
 import itertools
@@ -235,4 +235,6 @@ def main(given):
 
 
 if __name__ == "__main__":
-    common.start(main, common.words_of(times=200))
+    words = common.words_of()
+    common.add_number(words, "times", 200, "the number of runs over a file that is changed")
+    common.start(main, words.parse_args())

@@ -1,5 +1,5 @@
 #!/usr/bin/env python3
-"""Whether ./shim answers as ever, or writes `no memory` and ends with 8, where the system refuses what it asks for.
+"""Whether shim answers as ever, or writes `no memory` and ends with 8, where the system refuses what it asks for.
 
 `alloc` lets the first, second, .. allocation fail, until runs make no more of them; then that allocation and each
 behind it. Runs by several workers make more or fewer allocations by chance, so ten numbers in a row have to come to
@@ -15,8 +15,8 @@ operators as an expression may, ends as it does with 8 MiB, in each of ten tries
 `threads` runs each example with 16 workers as a user who may have one process, and compares with `ref`. Wants root,
 setpriv and prlimit.
 
-Use: make shim && bench/robust/faults.py [--step KIB] [--most N] alloc|memory [WORDS..], of so many calls at most
-     bench/robust/faults.py stack|threads
+Use: make shim && bench/robust/faults.py [--step KIB] [--most N] [--shim PATH] alloc|memory [WORDS..]
+     bench/robust/faults.py [--shim PATH] stack|threads
 """
 import argparse
 import itertools
@@ -206,7 +206,14 @@ def main(given):
 
 START = os.getcwd()
 if __name__ == "__main__":
-    words = common.words_of(step=64, most=1000)
+    words = common.words_of()
+    common.add_number(words, "step", 64, "KiB from limit to limit of memory")
+    common.add_number(words, "most", 1000, "of the calls that are built in, the first N")
     words.add_argument("fault", choices=FAULTS)
-    words.add_argument("words", nargs=argparse.REMAINDER, help="a call of shim, in place of all")
-    common.start(main, words)
+    words.add_argument("words", nargs=argparse.REMAINDER, help="a call of shim, in place of those that are built in")
+    given = words.parse_args()
+    if given.words and given.fault in ("stack", "threads"):
+        words.error("%s takes no call: %s" % (given.fault, " ".join(given.words)))
+    if given.words and given.words[0].startswith("-"):
+        words.error("%s has to stand before %s: behind that stands a call of shim" % (given.words[0], given.fault))
+    common.start(main, given)

@@ -1,5 +1,5 @@
 #!/usr/bin/env python3
-"""Gives ./shim texts that were changed at random, and looks whether each answer is the one that it has to give.
+"""Gives shim texts that were changed at random, and looks whether each answer is the one that it has to give.
 
 The texts are those of crates/shim_conformance and of examples/, and programs of bench/made.py, with bytes, tokens and
 statements changed, and some as they are. Each goes through every mode, by some number of workers and pieces, half of
@@ -14,7 +14,7 @@ grammar its own, the same in each mode. Behind `up` all is the same, but for lin
 
 The same numbers make the same texts and words. Prints how many calls had each status. Keeps a text whose answers are
 wrong in the folder `found`, says what is wrong, and ends with 1.
-Use: make shim && bench/robust/fuzz.py [--texts N] [--first N] [--seed S] [--show NUMBER]
+Use: make shim && bench/robust/fuzz.py [--texts N] [--first N] [--seed S] [--show NUMBER] [--shim PATH]
 """
 import collections
 import itertools
@@ -44,7 +44,7 @@ AT_LIMITS = [b"n" * length for length in (63, 64, 65, 300)] + (
 JOURNAL_NUMBERS = b"0 1 01 2 4000000 4000001 4294967295 4294967296 18446744073709551616 -1 +1".split() + [b"9" * 9999]
 JOURNAL_LINES = (b"own main|end main|close main|quiet main 1|meet main#0|poison main main#0|stop 1|journal 1|journal 9|"
                  b"journal 4000000|x|").split(b"|")
-SIGNS = [sign.encode() for sign in grammar.TIGHTNESS]
+SIGNS = [sign.encode() for sign in syntax.TIGHTNESS]
 TYPES = [name.encode() for name in (*syntax.TYPES, grammar.NEW_TYPE)]
 KEYWORDS = sorted(word.encode() for word in syntax.RESERVED)
 WORDS = KEYWORDS + SIGNS + b"( ) { } , ; = ! ~ a b c o T main f int64 shim 2".split()
@@ -325,6 +325,9 @@ def main(given):
 
 
 if __name__ == "__main__":
-    words = common.words_of(texts=10000, first=0, seed=1)
-    words.add_argument("--show", type=int, help="print the text of this number, and its calls")
-    common.start(main, words)
+    words = common.words_of()
+    common.add_number(words, "texts", 10000, "how many texts")
+    common.add_number(words, "first", 0, "the number of the first one", least=0)
+    common.add_number(words, "seed", 1, "makes other texts of the same numbers", least=0)
+    words.add_argument("--show", type=common.number(0), metavar="N", help="print the text of this number, and its calls")
+    common.start(main, words.parse_args())

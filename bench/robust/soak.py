@@ -3,10 +3,10 @@
 
 `run` does it by 1, 2, 3, 4 and 16 workers with pieces of 1, 7, 64 and 10,000 steps, again and again, the first,
 third, .. time with --steal. Each answer, status too, is compared with that of `ref`. Where the budget stops that only
-the status is, since the text then hangs on the schedule. Loops keep the processors busy beside it, as many as there
-are processors or as --busy says.
+the status is, since the text then hangs on the schedule. Loops keep the processors busy beside it.
 
-Use: make shim && bench/robust/soak.py [--times N] [--programs N] [--busy N]
+A time takes 20 runs of each program, so without words there are 26,000.
+Use: make shim && bench/robust/soak.py [--times N] [--programs N] [--busy N] [--shim PATH]
 """
 import collections
 import itertools
@@ -18,13 +18,20 @@ import common
 import made
 
 BUDGET = ["--budget", "100000"]
+BUSY = "import os\nwhile os.getppid() == %d: pass"
 
 
-def made_programs():
-    """The words of each program of bench/made.py that is accepted, each in the same file."""
-    for number in itertools.count(1):
-        if common.ask("check", common.write("made.shim", made.Maker(number).program())).status == 0:
-            yield ["made.shim"]
+def made_programs(count):
+    """The words of so many programs of bench/made.py that are accepted, each in the same file."""
+    number = 0
+    for _ in range(count):
+        for number in range(number + 1, number + 101):
+            answer = common.ask("check", common.write("made.shim", made.Maker(number).program()))
+            if answer.status == 0:
+                break
+        else:
+            common.differs("none of 100 made programs in a row is accepted", answer)
+        yield ["made.shim"]
 
 
 def compare(what, programs, times):
@@ -32,6 +39,8 @@ def compare(what, programs, times):
     runs, ends = 0, collections.Counter()
     for words in programs:
         wanted = common.ask("ref", *words, *BUDGET)
+        if wanted.status not in (0, 1, 3, 4) or wanted.error:
+            common.differs("by ref", wanted)
         ends[wanted.status] += 1
         for turn, workers, quantum in itertools.product(range(times), (1, 2, 3, 4, 16), (1, 7, 64, 10000)):
             by = ["--workers", str(workers), "--quantum", str(quantum), *(["--steal"] if turn % 2 == 0 else [])]
@@ -44,10 +53,10 @@ def compare(what, programs, times):
 
 
 def main(given):
-    busy = [subprocess.Popen([sys.executable, "-c", "while True: pass"]) for _ in range(given.busy)]
+    busy = [subprocess.Popen([sys.executable, "-c", BUSY % os.getpid()]) for _ in range(given.busy)]
     try:
         compare("examples", common.examples(), given.times)
-        compare("made programs", itertools.islice(made_programs(), given.programs), given.times)
+        compare("made programs", made_programs(given.programs), given.times)
     finally:
         for child in busy:
             child.kill()
@@ -55,4 +64,8 @@ def main(given):
 
 
 if __name__ == "__main__":
-    common.start(main, common.words_of(times=1000, programs=50, busy=os.cpu_count()))
+    words = common.words_of()
+    common.add_number(words, "times", 20, "how often each program runs by each number of workers and pieces")
+    common.add_number(words, "programs", 50, "how many made programs run", least=0)
+    common.add_number(words, "busy", os.cpu_count(), "how many loops run beside it", least=0, most=64)
+    common.start(main, words.parse_args())

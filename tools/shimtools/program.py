@@ -1,13 +1,14 @@
 """The program `shim`, as the tools beside it call it."""
 import os
+import re
 import subprocess
 
 
-class NotStarted(Exception):
-    """The program can't be started."""
+class NoShim(Exception):
+    """There is no program, or it isn't `shim`."""
 
-    def __init__(self, name, why):
-        super().__init__("%s can't be started: %s. Set SHIM to the path of the program." % (name, why))
+    def __init__(self, why):
+        super().__init__("%s %s. Set SHIM to the path of the program." % (command(), why))
 
 
 def command():
@@ -28,5 +29,24 @@ def call(*words):
     try:
         told = subprocess.run([command(), *words], stdout=subprocess.PIPE)
     except OSError as why:
-        raise NotStarted(command(), why.strerror) from None
+        raise NoShim("can't be started: %s" % why.strerror) from None
     return told.stdout, told.returncode
+
+
+REPORT = rb"output .*\nend \w.* \d+\n"
+# What answers look like, by mode of a run that took place, or by another status.
+ANSWERS = {
+    "run": REPORT, "ref": REPORT, "replay": REPORT, "why": REPORT + rb"(because .*)?", "batch": rb"input .*\n" + REPORT,
+    "check": rb"accepted \d+\n", "code": rb"unit .*", "up": rb"shim 2 ;\n.*", "trace": rb"journal .*", "gen": rb"gen .*",
+    2: rb"usage: .*", 5: rb"refused \d+ .*\n", 6: rb"file (failed|too long) .*\n", 8: rb"no memory\n",
+    9: rb"journal \d+ .*\n",
+}
+
+
+def ask(mode, *words):
+    """What `shim` answers in this mode, and its status, which is negative where a signal ended it."""
+    told, status = call(mode, *words)
+    form = ANSWERS.get(mode if status in (0, 1, 3, 4) else status)
+    if status >= 0 and not (form and re.fullmatch(form, told, re.DOTALL)):
+        raise NoShim("isn't shim: no answer of shim is like its answer")
+    return told, status

@@ -1,4 +1,5 @@
-"""Sources: their tokens, and the functions of a source in which nothing is refused."""
+"""Sources: their tokens, their first fault by the grammar, and the functions of one in which nothing is refused."""
+import re
 
 SIGNS = ("<<", ">>", "<=", ">=", "==", "!=", "&&", "||", *"(){},;=+-*/%&|^~!<>")
 TYPES = ("bool", "int", "int8", "int16", "int32", "uint8", "uint16", "uint32")
@@ -13,7 +14,8 @@ FOREIGN = frozenset(
     string struct switch typedef uint uint64 union unsigned var volatile yield""".split()
 )
 
-ROWS = [row.split() for row in ("* / %", "+ -", "<< >>", "< <= > >=", "== !=", "&", "^", "|", "&&", "||")]
+ROWS = [row.split() for row in ("||", "&&", "|", "^", "&", "== !=", "< <= > >=", "<< >>", "+ -", "* / %")]
+TIGHTNESS = {sign: row for row, signs in enumerate(ROWS) for sign in signs}
 LEAST, GREATEST = -(2**63), 2**63 - 1
 
 
@@ -28,7 +30,9 @@ class Token:
     def value(self):
         if self.kind == "constant":
             return int(self.text == "true")
-        return int(self.text, 16 if self.text[:2] in ("0x", "0X") else 10)
+        base = 16 if self.text[:2] in ("0x", "0X") else 10
+        digits = (self.text[2:] if base == 16 else self.text).lstrip("0")
+        return int(digits[:20] or "0", base)  # twenty digits are too great already
 
 
 class NoToken(Exception):
@@ -39,64 +43,29 @@ class NoToken(Exception):
         self.at = at
 
 
+PIECE = re.compile(
+    rb"(?P<space>[ \t\n\r\v\f]+)|(?P<comment>//[^\n]*|/\*.*?\*/)|(?P<word>[A-Za-z_][A-Za-z0-9_]*)"
+    rb"|(?P<number>0[xX][0-9a-fA-F]+|[0-9]+)|(?!/\*)(?P<sign>%s)" % b"|".join(re.escape(sign.encode()) for sign in SIGNS),
+    re.DOTALL)
+WORDS = {"stream": STREAMS, "constant": CONSTANTS, "keyword": KEYWORDS}
+
+
 def pieces(source):
     """Each token, comment and space of a source as (KIND, FROM, TO), up to a byte at which none begins."""
-    at, end = 0, len(source)
-    version_2 = None  # known behind three tokens
-    front = []
-    while at < end:
-        byte = source[at : at + 1]
-        start = at
-        if byte in b" \t\n\r\v\f":
-            while at < end and source[at : at + 1] in b" \t\n\r\v\f" and at < end:
-                at += 1
-            yield "space", start, at
-            continue
-        if source[at : at + 2] == b"//":
-            line_end = source.find(b"\n", at)
-            at = end if line_end < 0 else line_end
-            yield "comment", start, at
-            continue
-        if source[at : at + 2] == b"/*":
-            closed = source.find(b"*/", at + 2)
-            if closed < 0:
-                raise NoToken(start)
-            at = closed + 2
-            yield "comment", start, at
-            continue
-        if byte.isalpha() or byte == b"_":
-            while at < end and (source[at : at + 1].isalnum() or source[at : at + 1] == b"_"):
-                at += 1
-            word = source[start:at].decode()
-            if word in TYPES or (word == "int64" and version_2):
-                kind = "type"
-            elif word in STREAMS:
-                kind = "stream"
-            elif word in CONSTANTS:
-                kind = "constant"
-            elif word in KEYWORDS:
-                kind = "keyword"
-            else:
-                kind = "name"
-        elif byte.isdigit():
-            kind = "number"
-            digits, hexadecimal = b"0123456789", b"0123456789abcdefABCDEF"
-            if source[at : at + 2] in (b"0x", b"0X") and at + 2 < end and source[at + 2] in hexadecimal:
-                at, digits = at + 2, hexadecimal
-            while at < end and source[at] in digits:
-                at += 1
-        else:
-            kind = "sign"
-            sign = next((s for s in SIGNS if source.startswith(s.encode(), at)), None)
-            if sign is None:
-                raise NoToken(at)
-            at += len(sign)
-        if len(front) < 3:
-            front.append((kind, source[start:at].decode()))
-            if len(front) == 3:
-                version_2 = front[0] == ("name", "shim") and front[1][0] == "number" and front[2] == ("sign", ";")
-                version_2 = version_2 and Token("number", front[1][1], 0, 1).value() == 2
-        yield kind, start, at
+    at, front, types = 0, [], TYPES
+    while at < len(source):
+        found = PIECE.match(source, at)
+        if not found:
+            raise NoToken(at)
+        kind, text = found.lastgroup, found[0].decode("latin-1")
+        if kind == "word":
+            kind = "type" if text in types else next((kind for kind, words in WORDS.items() if text in words), "name")
+        if len(front) < 3 and kind not in ("space", "comment"):
+            front.append(Token(kind, text, at, 1))
+            if [token.text for token in front[::2]] == ["shim", ";"] and front[1].kind == "number":
+                types = TYPES + (("int64",) if front[1].value() == 2 else ())
+        yield kind, at, found.end()
+        at = found.end()
 
 
 def tokens(source):
@@ -161,12 +130,13 @@ UNARY = {"-": lambda a: within(-a), "!": lambda a: int(a == 0), "~": lambda a: ~
 
 
 class Expression:
-    """An expression: its value over a frame, the slots that it reads, and its slot where it is a name alone."""
+    """An expression: its value over a frame, the slots that it reads, and its slot where it is a name alone. `parts`
+    are its operands and its operator in their order, or, of a name or a number, its text."""
 
-    __slots__ = ("value", "slots", "bare")
+    __slots__ = ("value", "slots", "bare", "parts")
 
-    def __init__(self, value, slots, bare=None):
-        self.value, self.slots, self.bare = value, slots, bare
+    def __init__(self, value, slots, parts, bare=None):
+        self.value, self.slots, self.parts, self.bare = value, slots, parts, bare
 
 
 def joined(sign, left, right):
@@ -178,7 +148,12 @@ def joined(sign, left, right):
     else:
         operator = BINARY[sign]
         value = lambda frame: operator(a(frame), b(frame))
-    return Expression(value, left.slots | right.slots)
+    return Expression(value, left.slots | right.slots, (left, sign, right))
+
+
+def applied(sign, inner):
+    operator, value = UNARY[sign], inner.value
+    return Expression(lambda frame: operator(value(frame)), inner.slots, (sign, inner))
 
 
 class Function:
@@ -201,268 +176,348 @@ class NotAccepted(Exception):
     """This source isn't read; `shim check` says why."""
 
 
+class Refused(NotAccepted):
+    """The first fault of a source by the grammar or its limits, in the words of `shim`."""
+
+
+MOST = {"level": 64, "functions": 1024, "parameters": 32, "throws": 16, "locals": 64, "branches": 64,
+        "operators": 256, "arguments": 32}
+LONGEST = 64  # bytes of a name
+
+
 class Parser:
-    """Reads a source of which the program accepts everything. Of another it may raise NotAccepted."""
+    """Reads a source and refuses its first fault, by docs/GRAMMAR.md. Nobody looks at the names here: one that nothing
+    declares has no slot, and then `is_bound` is false.
+
+    `token` is the next one and `kind` its word or sign, or `type`, `stream`, `name`, `number` or `end`. `due` is what
+    is judged when it is taken, pairs of a limit's name and a count of what it begins. `deepest` is the deepest level
+    in the block that `body` reads. A method with a level reads what stands there."""
 
     def __init__(self, source):
-        self.tokens = list(tokens(source))
-        self.tokens.append(Token("end", "", len(source), 0))
-        self.place = 0
-        self.functions = {}
+        self.source, self.tokens = source, tokens(source)
+        self.functions, self.names, self.is_bound = [], set(), True
+        self.due, self.deepest, self.locals, self.operators = [], 0, 0, 0
         self.function, self.scopes = None, []
+        self.readers = {
+            "{": self.block_or_fork, ";": self.nothing, "type": self.declarations, "name": self.named,
+            "next": self.next, "put": self.put, "throw": self.throw, "if": self.if_or_else, "while": self.loop,
+            "for": self.for_loop, "try": self.handled}
+        self.version = 1
+        self.go_on()
+        if self.kind == "name" and self.token.text == "shim":
+            self.header()
+        while self.kind != "end":
+            self.one_function()
 
-    def program(self):
-        try:
-            if self.text() == "shim" and self.tokens[0].kind == "name":
-                self.place = 3
-            while self.tokens[self.place].kind != "end":
-                self.one_function()
-        except (IndexError, KeyError, NotAccepted, NoToken, StopIteration) as why:
-            raise NotAccepted() from why
-        return self.functions
+    def header(self):
+        self.go_on()
+        if self.kind != "number" or self.token.value() != 2:
+            self.unexpected()
+        self.go_on()
+        self.version = 2
+        self.take(";")
 
     # Tokens
 
-    def text(self):
-        return self.tokens[self.place].text
+    def refuse(self, cause, at):
+        raise Refused("refused %d %s" % (1 + self.source.count(b"\n", 0, at), cause))
 
-    def line(self):
-        return self.tokens[self.place].line
+    def unexpected(self):
+        self.refuse("unexpected %d" % self.token.at, self.token.at)
 
-    def take(self, *wanted):
-        token = self.tokens[self.place]
-        if wanted and token.text not in wanted or token.kind == "end":
-            raise NotAccepted()
-        self.place += 1
+    def go_on(self):
+        try:
+            token = next(self.tokens, None) or Token("end", "", len(self.source), 0)
+        except NoToken as fault:
+            cause = "open comment" if self.source.startswith(b"/*", fault.at) else "bad byte"
+            self.refuse("%s %d" % (cause, fault.at), fault.at)
+        self.token, self.kind = token, token.kind
+        if token.kind in ("keyword", "sign"):
+            self.kind = token.text
+        elif token.kind in ("number", "constant"):
+            self.kind = "number"
+            if token.value() > GREATEST:
+                self.refuse("big number %d" % token.at, token.at)
+        elif token.kind == "name" and len(token.text) > LONGEST:
+            self.refuse("long name %d" % token.at, token.at)
+
+    def take(self, *kinds):
+        """Takes a token of one of these kinds."""
+        if self.kind not in kinds:
+            self.unexpected()
+        token = self.token
+        for what, number in sorted(self.due, key=lambda one: one[0] != "level"):
+            if number > MOST[what]:
+                self.refuse("too deep" if what == "level" else "too many " + what, token.at)
+            if what == "level":
+                self.deepest = max(self.deepest, number)
+        self.due = []
+        if token.kind == "name":
+            self.names.add(token.text)
+        self.go_on()
         return token
 
-    def took(self, wanted):
-        if self.text() == wanted and self.tokens[self.place].kind != "end":
-            self.place += 1
-            return True
-        return False
+    def took(self, kind):
+        return self.kind == kind and self.take(kind)
+
+    def listed(self, read, counted=None):
+        """What is read once or more, with commas between, and counted if there is a limit."""
+        found = []
+        while not found or self.took(","):
+            if counted:
+                self.due.append((counted, len(found) + 1))
+            found.append(read())
+        return found
 
     # Names
 
-    def declare(self, name, type):
+    def name(self):
+        return self.take("name").text
+
+    def declare(self, name):
         slot = self.function.size
         self.function.size += 1
         self.scopes[-1][name] = slot
-        self.types[slot] = type
         return slot
+
+    def declared_name(self):
+        """A name that counts with the declarations of its function."""
+        self.locals += 1
+        self.due.append(("locals", self.locals))
+        return self.name()
 
     def slot(self, name):
         for scope in reversed(self.scopes):
             if name in scope:
                 return scope[name]
-        raise NotAccepted()
+        self.is_bound = False
+        return None
+
+    def inner(self, read, level):
+        self.scopes.append({})
+        what = read(level)
+        self.scopes.pop()
+        return what
 
     # Functions
 
     def one_function(self):
+        self.due.append(("functions", len(self.functions) + 1))
         self.take("void")
-        name = self.take()
+        name = self.take("name")
         function = self.function = Function(name.text, name.line)
-        self.scopes, self.types = [{}], {}
+        self.scopes, self.locals = [{}], 0
         self.take("(")
-        if self.text() == "void":
-            self.take()
-        while not self.took(")"):
-            self.took(",")
-            type = self.take()
-            reference = self.took("&") or type.kind == "stream"
-            param = self.take().text
-            function.params.append((type.text, reference, param, self.declare(param, type.text)))
+        if not self.took("void") and self.kind != ")":
+            function.params = self.listed(self.parameter, "parameters")
+        self.take(")")
         if self.took("throws"):
-            function.throws.append(self.take().text)
-            while self.took(","):
-                function.throws.append(self.take().text)
-        self.take("{")
-        function.body = self.block_rest()
-        function.types = self.types
-        self.functions[function.name] = function
+            function.throws = self.listed(self.name, "throws")
+        function.body = self.block(1)
+        self.functions.append(function)
 
-    def block_rest(self):
+    def parameter(self):
+        type = self.take("type", "stream")
+        reference = bool(self.took("&")) or type.kind == "stream"
+        name = self.name()
+        return type.text, reference, name, self.declare(name)
+
+    def block(self, level):
+        self.take("{")
         statements = []
         while not self.took("}"):
-            statements += self.statement()
+            statements += self.statement(level)
         return statements
-
-    def inner(self, read):
-        self.scopes.append({})
-        what = read()
-        self.scopes.pop()
-        return what
 
     # Statements; each reader gives a list, since one declaration may be several.
 
-    def body(self):
-        return self.inner(self.statement)
+    def statement(self, level):
+        self.due.append(("level", level))
+        if self.kind not in self.readers:
+            self.unexpected()
+        return self.readers[self.kind](self.token.line, level)
 
-    def statement(self):
-        line = self.line()
-        token = self.tokens[self.place]
-        word = token.text
-        first = self.place
-        if token.kind == "type":
-            return self.declarations()
-        if token.kind == "name":
-            return self.named(first, line)
-        self.place += 1
-        if word == "{":
-            block = self.inner(self.block_rest)
-            branch = Statement("block", line, body=block)
-            return self.fork_of(branch, line) if self.text() == "par" else [branch]
-        if word == ";":
-            return []
-        if word == "next":
-            name = self.take().text
-            slot = self.slot(name)
-            result = []
-            if self.took("="):
-                result.append(Statement("assign", line, slot=slot, value=self.whole()))
-            self.take(";")
-            return result + [Statement("next", line, slot=slot)]
-        if word == "put":
-            slot = self.slot(self.take().text)
-            self.take(",")
-            value = self.whole()
-            self.take(";")
-            return [Statement("put", line, slot=slot, value=value)]
-        if word == "if":
-            test = self.test()
-            then = self.body()
-            return [Statement("if", line, test=test, then=then, other=self.body() if self.took("else") else [])]
-        if word == "while":
-            test = self.test()
-            return [Statement("while", line, test=test, body=self.body())]
-        if word == "for":
-            return self.inner(lambda: self.for_loop(line))
-        if word == "try":
-            self.take("{")
-            body = self.inner(self.block_rest)
-            self.take("catch")
-            self.take("(")
-            name = self.take().text
-            return [Statement("try", line, body=body, name=name, **self.inner(self.handler))]
-        if word == "throw":
-            name = self.take().text
-            number = self.test() if self.text() == "(" else None
-            self.take(";")
-            return [Statement("throw", line, name=name, value=number)]
-        raise NotAccepted()
+    def body(self, level):
+        """A body: its braces are no statement of their own, unless they turn out to be a branch."""
+        if self.kind != "{":
+            return self.inner(self.statement, level)
+        around, self.deepest = self.deepest, 0
+        first = Statement("block", self.token.line, body=self.inner(self.block, level))
+        statements = first.body
+        if self.kind == "par":
+            self.due.append(("level", max(self.deepest + 1 if self.deepest else 0, level)))
+            statements = self.fork_of(first, level)
+        self.deepest = max(self.deepest, around)
+        return statements
 
-    def handler(self):
-        variable = slot = None
-        if self.text() != ")":
-            variable = self.take().text
-            slot = self.declare(variable, "int32")
-        self.take(")")
-        self.take("{")
-        return {"variable": variable, "slot": slot, "handler": self.block_rest()}
+    def block_or_fork(self, line, level):
+        return self.fork_of(Statement("block", line, body=self.inner(self.block, level + 1)), level)
 
-    def test(self):
+    def fork_of(self, first, level):
+        """This statement, or the fork whose first branch it is."""
+        branches = [first]
+        while self.took("par"):
+            self.due.append(("branches", len(branches) + 1))
+            line = self.token.line
+            if self.kind == "{":
+                branches.append(Statement("block", line, body=self.inner(self.block, level + 1)))
+            else:
+                branches.append(self.call_of(self.name(), line, level))
+        return branches if len(branches) == 1 else [Statement("fork", first.line, branches=branches)]
+
+    def call_of(self, name, line, level):
         self.take("(")
-        test = self.whole()
+        arguments = [] if self.kind == ")" else self.listed(lambda: self.whole(level), "arguments")
         self.take(")")
-        return test
-
-    def declarations(self):
-        line = self.line()
-        type = self.take().text
-        result = []
-        while True:
-            name = self.take().text
-            value = self.whole() if self.took("=") else None
-            result.append(Statement("declare", line, type=type, name=name, value=value, slot=self.declare(name, type)))
-            if not self.took(","):
-                self.take(";")
-                return result
-
-    def for_loop(self, line):
-        self.take("(")
-        first = []
-        if self.tokens[self.place].kind == "type":
-            first = self.declarations()
-        elif not self.took(";"):
-            first = self.assignment(";")
-        test = None if self.text() == ";" else self.whole()
-        self.take(";")
-        step = [] if self.took(")") else self.assignment(")")
-        return [Statement("for", line, first=first, test=test, step=step, body=self.body())]
-
-    def assignment(self, end):
-        name = self.take()
-        self.take("=")
-        value = self.whole()
-        self.take(end)
-        return [Statement("assign", name.line, slot=self.slot(name.text), value=value)]
-
-    def named(self, first, line):
-        name = self.take().text
-        if self.took("("):
-            call = self.call_rest(name, line)
-            return self.fork_of(call, line) if self.text() == "par" else [call]
-        self.take("=")
-        slot = self.slot(name)
-        if self.took("next"):
-            other = self.slot(self.take().text)
-            self.take(";")
-            return [Statement("next", line, slot=other), Statement("copy", line, slot=slot, other=other)]
-        if self.took("get"):
-            self.take()
-            self.take(";")
-            return [Statement("get", line, slot=slot)]
-        value = self.whole()
-        self.take(";")
-        return [Statement("assign", line, slot=slot, value=value)]
-
-    def call_rest(self, name, line):
-        arguments = []
-        while not self.took(")"):
-            self.took(",")
-            arguments.append(self.whole())
         self.take(";")
         return Statement("call", line, name=name, arguments=arguments)
 
-    def fork_of(self, branch, line):
-        branches = [branch]
-        while self.took("par"):
-            at = self.line()
-            if self.took("{"):
-                branches.append(Statement("block", at, body=self.inner(self.block_rest)))
-            else:
-                name = self.take().text
-                self.take("(")
-                branches.append(self.call_rest(name, at))
-        return [Statement("fork", line, branches=branches)]
+    def nothing(self, _line, _level):
+        self.take(";")
+        return []
+
+    def declarations(self, line, level):
+        type = self.take("type").text
+        statements = self.listed(lambda: self.declaration(type, line, level))
+        self.take(";")
+        return statements
+
+    def declaration(self, type, line, level):
+        name = self.declared_name()
+        value = self.whole(level) if self.took("=") else None
+        return Statement("declare", line, type=type, name=name, value=value, slot=self.declare(name))
+
+    def named(self, line, level):
+        name = self.name()
+        if self.kind == "(":
+            return self.fork_of(self.call_of(name, line, level), level)
+        self.take("=")
+        slot = self.slot(name)
+        if self.took("next"):
+            met = self.name()
+            statement = Statement("next", line, name=met, slot=self.slot(met), value=None, to=name, to_slot=slot)
+        elif self.took("get"):
+            statement = Statement("get", line, name=name, slot=slot, stream=self.name())
+        else:
+            statement = Statement("assign", line, name=name, slot=slot, value=self.whole(level))
+        self.take(";")
+        return [statement]
+
+    def next(self, line, level):
+        self.take("next")
+        name = self.name()
+        value = self.whole(level) if self.took("=") else None
+        self.take(";")
+        return [Statement("next", line, name=name, slot=self.slot(name), value=value, to=None)]
+
+    def put(self, line, level):
+        self.take("put")
+        name = self.name()
+        self.take(",")
+        value = self.whole(level)
+        self.take(";")
+        return [Statement("put", line, name=name, slot=self.slot(name), value=value)]
+
+    def throw(self, line, level):
+        self.take("throw")
+        name = self.name()
+        value = self.test(level) if self.version == 2 and self.kind == "(" else None
+        self.take(";")
+        return [Statement("throw", line, name=name, value=value)]
+
+    def test(self, level):
+        self.take("(")
+        test = self.whole(level)
+        self.take(")")
+        return test
+
+    def if_or_else(self, line, level):
+        self.take("if")
+        test, then = self.test(level), self.body(level + 1)
+        other = self.body(level + 1) if self.took("else") else []
+        return [Statement("if", line, test=test, then=then, other=other)]
+
+    def loop(self, line, level):
+        self.take("while")
+        return [Statement("while", line, test=self.test(level), body=self.body(level + 1))]
+
+    def for_loop(self, _line, level):
+        return self.inner(self.for_of, level)
+
+    def for_of(self, level):
+        line = self.take("for").line
+        self.take("(")
+        first = [] if self.kind == ";" else self.first(level + 1)
+        self.take(";")
+        test = None if self.kind == ";" else self.whole(level)
+        self.take(";")
+        step = [] if self.kind == ")" else self.step(level + 1)
+        self.take(")")
+        return [Statement("for", line, first=first, test=test, step=step, body=self.body(level + 1))]
+
+    def first(self, level):
+        if self.kind != "type":
+            return self.step(level)
+        self.due.append(("level", level))
+        type = self.take("type")
+        return [self.declaration(type.text, type.line, level)]
+
+    def step(self, level):
+        self.due.append(("level", level))
+        name = self.take("name")
+        self.take("=")
+        value = self.whole(level)
+        return [Statement("assign", name.line, name=name.text, slot=self.slot(name.text), value=value)]
+
+    def handled(self, line, level):
+        self.take("try")
+        body = self.inner(self.block, level + 1)
+        self.take("catch")
+        self.take("(")
+        return [Statement("try", line, body=body, name=self.name(), **self.inner(self.handler, level + 1))]
+
+    def handler(self, level):
+        variable = slot = None
+        if self.version == 2 and self.kind == "name":
+            variable = self.declared_name()
+            slot = self.declare(variable)
+        self.take(")")
+        return {"variable": variable, "slot": slot, "handler": self.block(level)}
 
     # Expressions
 
-    def whole(self, row=10):
-        if row == 0:
-            return self.operand()
-        left = self.whole(row - 1)
-        while self.text() in ROWS[row - 1]:
-            sign = self.take().text
-            left = joined(sign, left, self.whole(row - 1))
+    def whole(self, level):
+        self.operators = 0
+        return self.operands(0, level)
+
+    def operands(self, row, level):
+        """What has operators as tight as this row or tighter."""
+        left = self.operand(level)
+        while TIGHTNESS.get(self.kind, -1) >= row:
+            sign = self.operator()
+            left = joined(sign, left, self.operands(TIGHTNESS[sign] + 1, level))
         return left
 
-    def operand(self):
-        token = self.take()
-        if token.kind in ("number", "constant"):
-            number = token.value()
-            return Expression(lambda frame: number, frozenset())
+    def operator(self):
+        self.operators += 1
+        self.due.append(("operators", self.operators))
+        return self.take(self.kind).text
+
+    def operand(self, level):
+        self.due.append(("level", level))
+        if self.kind in UNARY:
+            sign = self.operator()
+            return applied(sign, self.operand(level + 1))
+        token = self.take("name", "number", "(")
         if token.kind == "name":
             slot = self.slot(token.text)
-            return Expression(lambda frame: frame[slot].value, frozenset((slot,)), slot)
+            return Expression(lambda frame: frame[slot].value, frozenset((slot,)), (token.text,), slot)
         if token.text == "(":
-            inner = self.whole()
+            inner = self.operands(0, level + 1)
             self.take(")")
             return inner
-        operator, inner = UNARY[token.text], self.operand()
-        value = inner.value
-        return Expression(lambda frame: operator(value(frame)), inner.slots)
+        number = token.value()
+        return Expression(lambda frame: number, frozenset(), (str(number),))
 
 
 def uses(statements, functions, named, written, declared):
@@ -470,61 +525,44 @@ def uses(statements, functions, named, written, declared):
     for s in statements:
         if s.kind == "declare":
             declared.add(s.slot)
-            if s.value:
-                named |= s.value.slots
-        elif s.kind in ("assign", "get", "copy", "put"):
+        elif s.kind in ("assign", "get", "put", "next"):
             named.add(s.slot)
-            written.add(s.slot)
-            if s.kind in ("assign", "put"):
-                named |= s.value.slots
-            if s.kind == "copy":
-                named.add(s.other)
-            if s.kind == "get":
-                named.add(s.slot)
-        elif s.kind == "next":
-            named.add(s.slot)
+            if s.kind != "next" or s.value:
+                written.add(s.slot)
+            if s.kind == "next" and s.to:
+                named.add(s.to_slot)
+                written.add(s.to_slot)
         elif s.kind == "call":
             for argument, param in zip(s.arguments, functions[s.name].params):
                 named |= argument.slots
                 if param[1]:
                     written.add(argument.bare)
-        elif s.kind == "if":
-            named |= s.test.slots
-            uses(s.then, functions, named, written, declared)
-            uses(s.other, functions, named, written, declared)
-        elif s.kind == "while":
-            named |= s.test.slots
-            uses(s.body, functions, named, written, declared)
-        elif s.kind == "for":
-            if s.test:
-                named |= s.test.slots
-            for part in (s.first, s.step, s.body):
-                uses(part, functions, named, written, declared)
-        elif s.kind == "try":
-            if s.slot is not None:
-                declared.add(s.slot)
-            uses(s.body, functions, named, written, declared)
-            uses(s.handler, functions, named, written, declared)
-        elif s.kind == "throw":
-            if s.value:
-                named |= s.value.slots
-        elif s.kind == "block":
-            uses(s.body, functions, named, written, declared)
-        elif s.kind == "fork":
-            uses(s.branches, functions, named, written, declared)
+        elif s.kind == "try" and s.slot is not None:
+            declared.add(s.slot)
+        for part in ("value", "test"):
+            if getattr(s, part, None):
+                named |= getattr(s, part).slots
+        for part in parts_of(s):
+            uses(part, functions, named, written, declared)
+
+
+def parts_of(statement):
+    """The lists of statements that a statement has inside."""
+    names = ("body", "then", "other", "handler", "first", "step", "branches")
+    return [getattr(statement, name) for name in names if hasattr(statement, name)]
 
 
 def program(source):
     """The functions of a source by name, with what each branch that is a block takes. Raises NotAccepted."""
-    functions = Parser(source).program()
-    if "main" not in functions:
+    parser = Parser(source)
+    functions = {function.name: function for function in parser.functions}
+    if "main" not in functions or not parser.is_bound:
         raise NotAccepted()
 
     def mark(statements):
         for s in statements:
-            for part in ("body", "then", "other", "handler", "first", "step", "branches"):
-                if isinstance(getattr(s, part, None), list):
-                    mark(getattr(s, part))
+            for part in parts_of(s):
+                mark(part)
             if s.kind == "fork":
                 for branch in s.branches:
                     if branch.kind == "block":
@@ -536,6 +574,6 @@ def program(source):
     try:
         for function in functions.values():
             mark(function.body)
-    except (KeyError, AttributeError) as why:
+    except (KeyError, TypeError) as why:  # a call of an unknown function, or of what is no variable by reference
         raise NotAccepted() from why
     return functions

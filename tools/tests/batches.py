@@ -6,6 +6,7 @@ budget, with an output that begins the other or is begun by it. The status must 
 missing, and no report may come. Ends with 1 at the first difference, and names it.
 
 Use: tools/tests/batches.py [FIRST LAST], the numbers of the made programs, 1 to 20"""
+import argparse
 import os
 import random
 import re
@@ -50,7 +51,10 @@ def differs(report, meant, budget):
 
 
 def main():
-    first, last = map(int, sys.argv[1:3] or (1, 20))
+    words = argparse.ArgumentParser(description=__doc__, formatter_class=argparse.RawDescriptionHelpFormatter)
+    words.add_argument("first", nargs="?", type=int, default=1)
+    words.add_argument("last", nargs="?", type=int, default=20)
+    given = words.parse_args()
     chance = random.Random(5)
     batches = reports = spent = 0
     with tempfile.TemporaryDirectory() as room:
@@ -100,7 +104,7 @@ def main():
                 read = lambda file: open(os.path.join(folder, file), "rb").read()
                 input = name[:-5] + ".txt"
                 one(name, read(name), read(input) if os.path.exists(os.path.join(folder, input)) else b"any")
-        for number in range(first, last + 1):
+        for number in range(given.first, given.last + 1):
             source = subprocess.run([sys.executable, os.path.join(TOP, "bench", "made.py"), str(number)], stdout=subprocess.PIPE, check=True).stdout
             with open(os.path.join(room, "p.shim"), "wb") as out:
                 out.write(source)

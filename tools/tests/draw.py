@@ -5,6 +5,7 @@ and refusals are tried; and where `plantuml` and `dot` are installed, both kinds
 difference.
 
 Use: tools/tests/draw.py"""
+import argparse
 import os
 import re
 import shutil
@@ -53,6 +54,7 @@ def journal_of(file, input):
 
 
 def main():
+    argparse.ArgumentParser(description=__doc__, formatter_class=argparse.RawDescriptionHelpFormatter).parse_args()
     for name in sorted(os.listdir(EXAMPLES)):
         if not name.endswith(".shim"):
             continue
@@ -152,7 +154,16 @@ def main():
         text, error, status = call(DRAW, "run", alone, "--budget", "50")
         same("a run of which nothing is drawn", (bars(text), text.splitlines()[-2], error, status), ([("participant", "p"), ("activate", "p")], "== end spent 50 ==", "", 0))
         same("Ctrl-C", call("bash", "-c", command, "bash", DRAW, alone), ("", "shim-draw: stopped: nothing is drawn\n", 130))
-    same("no such channel", call(DRAW, "run", *filter, "--channels", "nothing")[1:], ("shim-draw: none of nothing has a rendezvous there\n", 1))
+    same("blanks in the list", call(DRAW, "run", *filter, "--channels", " mean , sample"), call(DRAW, "run", *filter, "--channels", "sample,mean"))
+    for names, said, status in (("nothing", "without a rendezvous there: nothing", 1), ("mean,nothing, none", "without a rendezvous there: nothing, none", 1),
+                                ("mean,", "--channels wants names with commas between them", 2)):
+        same("no such channel", call(DRAW, "run", *filter, "--channels", names), ("", "shim-draw: %s\n" % said, status))
+    same("no such kind", call(DRAW, "run", hello, "--output", "x.txt")[1:], ("shim-draw: --output x.txt: it has to end with .puml, .svg or .png\n", 2))
+    for other in ("true", "false", "echo"):
+        same("another program", call("env", "SHIM=" + other, DRAW, "run", hello),
+             ("", "shim-draw: %s isn't shim: no answer of shim is like its answer. Set SHIM to the path of the program.\n" % other, 1))
+    same("little memory", call("bash", "-c", 'ulimit -v 400000; "$1" run %s' % hello, "bash", DRAW)[1:],
+         ("shim-draw: no memory for its own work; give it 1 GiB of address space (ulimit -v)\n", 1))
     same("without arguments", call(DRAW)[1].splitlines()[-1], "shim-draw: error: the following arguments are required: {run,why}, FILE")
     # Waits, what isn't blocked, and options of `run`.
     for name, value in (("--journal", "nowhere"), ("--from", "0"), ("--to", "5"), ("--channels", "tray")):

@@ -6,6 +6,7 @@ that it takes; and by VS Code's own one where TEXTMATE names a folder in which `
 vscode-oniguruma` was done. Ends with 1 at the first difference.
 
 Use: tools/tests/editors.py [vim] [emacs] [textmate]"""
+import argparse
 import json
 import os
 import re
@@ -477,8 +478,9 @@ def textmate():
 
 
 def main():
-    wanted = sys.argv[1:] or ["vim", "emacs", "textmate"]
-    for editor in wanted:
+    words = argparse.ArgumentParser(description=__doc__, formatter_class=argparse.RawDescriptionHelpFormatter)
+    words.add_argument("editors", nargs="*", metavar="EDITOR")
+    for editor in words.parse_args().editors or ["vim", "emacs", "textmate"]:
         if editor != "textmate" and not shutil.which(editor):
             print("%s: not installed, not tried" % editor)
             continue

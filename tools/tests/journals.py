@@ -6,6 +6,7 @@ same report, what `trace` writes is read and followed here, and of journals with
 both refuse the same line for the same cause. Ends with 1 at the first difference.
 
 Use: tools/tests/journals.py [FIRST LAST], the numbers of the made programs, 1 to 40"""
+import argparse
 import os
 import random
 import subprocess
@@ -98,7 +99,10 @@ def call(*words):
 
 
 def main():
-    first, last = map(int, sys.argv[1:3] or (1, 40))
+    words = argparse.ArgumentParser(description=__doc__, formatter_class=argparse.RawDescriptionHelpFormatter)
+    words.add_argument("first", nargs="?", type=int, default=1)
+    words.add_argument("last", nargs="?", type=int, default=40)
+    given = words.parse_args()
     has_modes = "--journal" in call()[0]
     chance = random.Random(11)
     counts = {"runs": 0, "ends": 0, "traces": 0, "spoilt": 0}
@@ -152,7 +156,7 @@ def main():
             if name.endswith(".shim"):
                 input = os.path.join(folder, name[:-5] + ".txt")
                 one(name, os.path.join(folder, name), input if os.path.exists(input) else None)
-        for number in range(first, last + 1):
+        for number in range(given.first, given.last + 1):
             file = os.path.join(room, "made.shim")
             with open(file, "wb") as out:
                 subprocess.run([sys.executable, os.path.join(TOP, "bench", "made.py"), str(number)], stdout=out, check=True)

@@ -6,6 +6,7 @@ and the lines behind it are what it writes. A block behind `<!-- NAME is install
 isn't. Ends with 1 at the first difference.
 
 Use: tools/tests/pages.py [PAGE..], else docs/TUTORIAL.md, docs/QUESTIONS.md and docs/MANY-INPUTS.md"""
+import argparse
 import os
 import re
 import shutil
@@ -35,7 +36,9 @@ def commands(body):
 
 
 def main():
-    pages = sys.argv[1:] or [os.path.join(TOP, "docs", name) for name in ("TUTORIAL.md", "QUESTIONS.md", "MANY-INPUTS.md")]
+    words = argparse.ArgumentParser(description=__doc__, formatter_class=argparse.RawDescriptionHelpFormatter)
+    words.add_argument("pages", nargs="*")
+    pages = words.parse_args().pages or [os.path.join(TOP, "docs", name) for name in ("TUTORIAL.md", "QUESTIONS.md", "MANY-INPUTS.md")]
     for page in pages:
         done = files = left = 0
         with open(page, encoding="utf-8") as it:

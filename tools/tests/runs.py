@@ -8,6 +8,7 @@ Programs of bench/made.py are run, too, by `shim ref`, each with a budget of 300
 
 Use: tools/tests/runs.py [MOST [FIRST LAST]], the most steps of a case that is taken, 20000 where nothing is said,
 and the numbers of the made programs, 1 to 100"""
+import argparse
 import os
 import re
 import subprocess
@@ -57,7 +58,11 @@ def same_batch(what, line, files, text):
 
 
 def main():
-    most = int(sys.argv[1]) if len(sys.argv) > 1 else 20_000
+    words = argparse.ArgumentParser(description=__doc__, formatter_class=argparse.RawDescriptionHelpFormatter)
+    for name, number in (("most", 20_000), ("first", 1), ("last", 100)):
+        words.add_argument(name, nargs="?", type=int, default=number)
+    asked = words.parse_args()
+    most = asked.most
     taken = left = 0
     for case in cases.cases():
         words, files, text = case.lines, case.files, case.text
@@ -95,11 +100,10 @@ def main():
             text = told.split(line.encode() + b"\n")[1].split(b"status ")[0]
             same(line, read(words[1]), read(words[3]) if len(words) > 2 else b"", 1_000_000, text)
             taken += 1
-    first, last = map(int, sys.argv[2:4] or (1, 100))
     made = 0
     shim = os.environ.get("SHIM", os.path.join(TOP, "shim"))
     with tempfile.TemporaryDirectory() as room:
-        for number in range(first, last + 1):
+        for number in range(asked.first, asked.last + 1):
             source = subprocess.run([sys.executable, os.path.join(TOP, "bench", "made.py"), str(number)], stdout=subprocess.PIPE, check=True).stdout
             file = os.path.join(room, "made.shim")
             with open(file, "wb") as out:

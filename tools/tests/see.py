@@ -4,6 +4,7 @@ first difference, and shows it. A case has `words`, files, a status and a text. 
 program itself.
 
 Use: tools/tests/see.py [--write], which writes the statuses and texts that come into the file, to be read by eye"""
+import argparse
 import difflib
 import os
 import re
@@ -54,6 +55,7 @@ def odd(program):
             out.write("void main() { }")
         same("a pipe as source", do('"$1" run <(cat %s) | head -n 1' % hello)[0], "done: main has ended, after 7 steps\n")
         same("a refused pipe", do('"$1" check /dev/stdin', input=b"void main() { x; }")[0].split("\n")[0], "/dev/stdin:1:16: unexpected ';'")
+        same("a number of 5000 digits", do('printf "shim %05000d; x" 2 | "$1" check /dev/stdin | head -n 1 | cut -d: -f2-')[0], "1:5008: unexpected 'x'\n")
         same("a pipe as input", do('"$1" run %s.shim --input /dev/stdin | sed -n 2p' % filter, input=b"dPF<(")[0], "output: 6 bytes, 32 5a 4b 41 32 00\n")
         same("a full output", do('"$1" run %s > /dev/full' % hello), ("", 7))
         same("a closed output", do('"$1" run %s >&-' % hello), ("", 7))
@@ -61,11 +63,20 @@ def odd(program):
         wanted = ("stopped: a run writes nothing before it is over\n", 130)
         same("Ctrl-C", do('mkfifo f; timeout --foreground --preserve-status -s INT 2 "$1" run loop.shim --input f'), wanted)
         same("a name that isn't UTF-8", do('"$1" run $(printf "caf\\351") | head -n 1')[0], "shim-see: the argument 'caf\\xe9' isn't UTF-8; rename the file, or name it by a link\n")
-        same("no program", do('SHIM=/nowhere "$1" run x')[1], 1)
+        set_it = "Set SHIM to the path of the program.\n"
+        same("no program", do('SHIM=/nowhere "$1" run x'), ("shim-see: /nowhere can't be started: No such file or directory. " + set_it, 1))
+        for other in ("true", "false", "echo"):
+            wanted = ("shim-see: %s isn't shim: no answer of shim is like its answer. %s" % (other, set_it), 1)
+            for words in ("run", "ref", "check", "code", "batch loop.shim"):
+                same("another program", do('SHIM=%s "$1" %s loop.shim' % (other, words)), wanted)
+        same("little memory", do('ulimit -v 400000; "$1" run loop.shim'),
+             ("shim-see: no memory for its own work; give it 1 GiB of address space (ulimit -v)\n", 1))
 
 
 def main():
-    write = "--write" in sys.argv
+    words = argparse.ArgumentParser(description=__doc__, formatter_class=argparse.RawDescriptionHelpFormatter)
+    words.add_argument("--write", action="store_true", help="write what comes into tools/tests/see.cases")
+    write = words.parse_args().write
     with open(CASES, encoding="utf-8") as it:
         text = it.read()
     head = text[: text.index("=== case ")]
