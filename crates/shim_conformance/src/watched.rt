@@ -75,11 +75,11 @@ fn words_of(alloc: Global, line: &str) -> Result<Vec<String>, NoMemory> {
     Ok(words)
 }
 
-// A file of this name.
-fn held(alloc: Global, name: &[u8], content: List<u8>) -> Result<Vec<HeldFile>, NoMemory> {
+// The file `j`, a journal.
+fn journal_file(alloc: Global, content: List<u8>) -> Result<Vec<HeldFile>, NoMemory> {
     let mut files = Vec::new(alloc);
     files.push(HeldFile {
-        name: Name::new(alloc, name)?,
+        name: Name::new(alloc, b"j")?,
         content: content.into_vec(),
     })?;
     Ok(files)
@@ -99,7 +99,7 @@ pub fn replayed_text<R: Threads + Wait + Sync>(
     if traced.status != 0 {
         return Ok(None);
     }
-    let journal = held(alloc, b"j", traced.text)?;
+    let journal = journal_file(alloc, traced.text)?;
     let asked = words_of(alloc, "shim replay p.shim --input i --journal j")?;
     let answer = call_over(rt, alloc, case, journal.as_slice(), asked.as_slice(), &gate)?;
     behind_gate(answer, &gate, 1)
