@@ -12,31 +12,56 @@ use shim_net::{Gate, Net};
 /// How many processes run in place in a turn, before others may bring back what they did.
 pub(crate) const RUNS_IN_A_TURN: u64 = 256;
 
+// What a process did in place, and whether it is next again: else it came to another stop.
+#[derive(Clone, Copy)]
+struct RunInPlace {
+    steps: u64,
+    goes_on: bool,
+}
+
+// The number of the process that is next at home, if there is one.
+fn next_pid<L: Local>(net: &mut Net<L>) -> Option<u64>
+    ensures { SameName net.old net.new }
+{
+    net.next_home()
+}
+
 // The process that is next at home does pieces in place, of which each is up to twice as long as the one before,
-// until it comes to another stop or has done so many steps. Answers how many it did.
+// until it comes to another stop or has done so many steps.
 fn run_next<L: Local, G: Gate>(
     net: &mut Net<L>,
     first: u64,
     limit: u64,
     gate: &G,
-) -> Result<u64, NoMemory>
+) -> Result<RunInPlace, NoMemory>
     requires first { 1 ≤ first }
     ensures net { SameName net.old net.new }
 {
+    let pid = next_pid(net);
     let mut most = first;
     let mut done = 0u64;
     while done < limit {
         let asked = most.min(limit - done);
         let Some(taken) = step_next(net, asked, gate)? else {
-            return Ok(done);
+            return Ok(RunInPlace {
+                steps: done,
+                goes_on: false,
+            });
         };
         done = done.saturating_add(taken);
-        if taken < asked {
-            return Ok(done);
+        // one that used its piece up may be at another stop, too
+        if taken < asked || next_pid(net) != pid {
+            return Ok(RunInPlace {
+                steps: done,
+                goes_on: false,
+            });
         }
         most = longer(asked);
     }
-    Ok(done)
+    Ok(RunInPlace {
+        steps: done,
+        goes_on: true,
+    })
 }
 
 /// Pieces that are to be handed out: of at most so many processes that are at home, of so many steps each.
@@ -84,14 +109,14 @@ impl AtHome {
         } else {
             lengths.in_place()
         };
-        let done = run_next(net, lengths.first(), limit, gate)?;
-        self.runs = if done == 0 {
+        let run = run_next(net, lengths.first(), limit, gate)?;
+        self.runs = if run.steps == 0 {
             RUNS_IN_A_TURN
         } else {
             self.runs.saturating_add(1)
         };
-        self.steps = self.steps.saturating_add(done);
-        if is_alone || done < limit {
+        self.steps = self.steps.saturating_add(run.steps);
+        if is_alone || !run.goes_on {
             return Ok(None);
         }
         Ok(Some(HandOut {
