@@ -62,7 +62,7 @@ module _ (source : Source) (input : List ℕ) (b : ℕ) (es : List Entry) (main 
 pub journal_read : (text : List ℕ) (j : Journal) → ReadAnswers text (Ok j) → IsOnlyJournal text j.budget (entries_of j.entries)
 journal_read text j answers = record { is = answers.0; only = answers.1 }
 
--- and one that wasn't, but for want of memory, is none
+-- and one that wasn't, where memory sufficed, is none
 pub text_refused : (text : List ℕ) (line : ℕ) (fault : JournalFault) → fault ≡ Malformed line → ReadAnswers text (Err fault) → IsNoJournal text line
 text_refused text line fault is answers =
     let h = subst (λ (f : JournalFault). ReadAnswers text (Err f)) is answers in

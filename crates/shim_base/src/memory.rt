@@ -1,4 +1,4 @@
-// Want of memory, as one error of its own.
+// Out of memory, as one error of its own.
 use std::alloc::{AllocError, AllocFailed};
 
 /// No memory was found. Of all refusals this one alone may come at any time.

@@ -97,7 +97,7 @@ where_faultless (kind ∷ kinds) found = None
 unfoldable pub job : List Text → Option Job
 job words = where_faultless (fault_of shim_app words) (job_in (matches_of shim_app words))
 
--- the answer is the job that is meant, or that there is none; want of memory may stand in place of both
+-- the answer is the job that is meant, or that there is none; `NoMemory` may come in place of both
 abbrev pub Gives : Option Job → Result Job WordsFault → Type 0
 Gives meant (Ok found) = meant ≡ Some found
 Gives meant (Err Refused) = meant ≡ None

@@ -160,8 +160,8 @@ fn fault_of(error: &Error) -> WordsFault
 /// `clap` finds a fault in them, or MODE names no mode, or its source is generated and FILE names no kind, or it
 /// reads a journal and none is named, or the number of INPUT words is none that the mode takes: 1 to 64 where it
 /// runs a source on several inputs, else 0. A job has what `clap` finds for each argument of the command line, with a
-/// default for an option that is absent; its numbers are in their ranges, and FILE is one that was found. Out of
-/// memory may come in place of both.
+/// default for an option that is absent; its numbers are in their ranges, and FILE is one that was found.
+/// `NoMemory` may come in place of both.
 pub fn read_words(alloc: Global, words: &[String]) -> Result<Job, WordsFault>
     ensures job { Gives (job (texts_of words.now)) result }
     ensures within { IfOk result IsWithin }

@@ -20,7 +20,7 @@ pub record FilesInMemory : Type 0 where
 abbrev pub RefusesRead : FilesInMemory → List ℕ → Type 0
 RefusesRead memory name = Contains memory.failing memory.calls ⊎ IsNone (file_of memory.files name)
 
--- the files after a read of this name: it was counted, and its name kept where it failed; want of memory leaves them as they were
+-- the files after a read of this name: it was counted, and its name kept where it failed; `NoMemory` leaves them as they were
 abbrev pub after_read : FilesInMemory → List ℕ → Result Got FileFault → FilesInMemory
 after_read memory name (Ok got) = record memory { calls = count_up memory.calls }
 after_read memory name (Err Failed) = record memory { failed = memory.failed ++ name ∷ []; calls = count_up memory.calls }

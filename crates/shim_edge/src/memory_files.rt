@@ -83,8 +83,8 @@ impl Files for MemFiles {
 
     ghost known_if_sound = { λ memory is_sound. refl };
 
-    /// Fails exactly where this read is to fail or no file has that name. Out of memory may come in place of
-    /// each answer, and then leaves all as it was. Every other read counts.
+    /// Fails exactly where this read is to fail or no file has that name. `NoMemory` may come in place of each
+    /// answer, and then leaves all as it was. Every other read counts.
     fn read(&mut self, alloc: Global, name: &[u8], most: usize) -> Result<Got, FileFault>
         ensures content { ShowsFile (Some self.old.files) name.now most result }
         ensures cause { AddsNameIfFailed self.old.failed name.now self.new.failed result }

@@ -32,7 +32,7 @@ ChecksTo bytes meant = (program : Program) × IsOnlyText bytes program × (check
 abbrev pub IsOnlyAccepted : List ℕ → Program → Type 0
 IsOnlyAccepted bytes program = IsOnlyText bytes program × (form : Form) × (checked program ≡ Ok form)
 
--- Its one fault: that of a text which is no program's, or the first that is refused in the program of the text. Want of memory says nothing.
+-- Its one fault: that of a text which is no program's, or the first that is refused in the program of the text. `NoMemory` claims nothing of the text.
 abbrev pub IsFirstFault : List ℕ → SourceFault → Type 0
 IsFirstFault bytes (Parse parse.NoMemory) = Unit {0}
 IsFirstFault bytes (Parse fault) = IsOnlyFault bytes fault

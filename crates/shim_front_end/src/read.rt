@@ -11,7 +11,7 @@ use shim_syntax::Program;
 use std::alloc::Global;
 
 /// The units of a source's accepted program, or the source's first fault: of its text, then of its names, then
-/// of how its variables are shared. The program keeps its text. Out of memory may come in place of any answer.
+/// of how its variables are shared. The program keeps its text. `NoMemory` may come in place of any answer.
 /// The syntax tree is gone before sharing is checked.
 pub fn read_source(alloc: Global, bytes: &[u8]) -> Result<Accepted, SourceFault>
     requires { length bytes.now ≤ 1048576 }
@@ -28,7 +28,7 @@ pub fn read_source(alloc: Global, bytes: &[u8]) -> Result<Accepted, SourceFault>
 }
 
 /// The syntax tree of a source's accepted program, or the source's first fault, which is that of
-/// `read_source`. Out of memory may come in place of any answer.
+/// `read_source`. `NoMemory` may come in place of any answer.
 pub fn read_program(alloc: Global, bytes: &[u8]) -> Result<Program, SourceFault>
     requires { length bytes.now ≤ 1048576 }
     ensures { IsProgramAnswerTo bytes.now result }

@@ -31,7 +31,7 @@ abbrev pub IsOfOthers : Path → Entry → Type 0
 IsOfOthers p (Quiet q n) = q ≢ p
 IsOfOthers p (Did e) = e ≢ Own p
 
--- what is out stays as it is: all of it, where no quiet step is done, and else what isn't of the process that does some
+-- A process that is out stays as it is through each event that is no quiet step, and through each entry of another process.
 pub record OutStaysOut {S : Type 0} (o : Ops S) : Type 0 where
   pub events : (t u : Tree S) (e : Event) (l : S) → IsSoundTree o t → after o e t ≡ Some u → IsNoQuietStep o t e → IsGrantable o t l → IsGrantable o u l
   pub entries : (t u : Tree S) (j : Entry) (l : S) → IsSoundTree o t → entry_after o j t ≡ Some u → IsOfOthers (o.path l) j → IsGrantable o t l → IsGrantable o u l

@@ -28,11 +28,11 @@ pub record IsOut {S : Type 0} (o : Ops S) (t : Tree S) (g : Grant S) : Type 0 wh
 abbrev pub AreApart : {S : Type 0} → Ops S → Grant S → Grant S → Type 0
 AreApart o g h = o.path g.start ≢ o.path h.start
 
--- no event that an entry names by itself is a quiet step in the tree of the entries before it
+-- an entry of one event is no quiet step of the tree to which the entries before it lead
 abbrev pub NamesNoQuietStep : {S : Type 0} → Ops S → S → List Entry → Type 0
 NamesNoQuietStep {S} o root journal = (before behind : List Entry) (e : Event) (t : Tree S) → journal ≡ before ++ Did e ∷ behind → replay o root before ≡ Some t → IsNoQuietStep o t e
 
--- What a net of this root and budget keeps, at every moment: its tree is the replay of its journal, the budget is not passed even where each grant takes all its steps, and each process that is out stands where it was given out.
+-- The invariant of a net of this root and budget. The root is sound, and its variables are its own. The tree is the replay of the journal; no entry is empty, and none of one event is a quiet step. The budget suffices even where each grant takes all its steps. Each process that is out is as it was given out, and no process is out twice.
 pub record NetKeeps {S : Type 0} (o : Ops S) (root : S) (budget : ℕ) (journal : List Entry) (t : Tree S) (grants : List (Grant S)) : Type 0 where
   pub sound : o.sound root
   pub own : SharesItsOwn o root

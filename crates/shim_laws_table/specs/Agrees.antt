@@ -1,4 +1,4 @@
--- Flat records agree with a tree: each record in use says what is seen of the node at its place.
+-- Flat records agree with a tree: each record in use has the state and the status of the node at its place.
 use Rattle.std.specs.Prelude.{◌≡◌, ◌<◌, ℕ, ◌+◌, Some, List, [], ◌∷◌, ◌++◌, slice_get}
 use Rattle.shim_base.specs.Paths.{Path}
 use Rattle.shim_local.specs.Process.{Ops}
@@ -7,19 +7,19 @@ use Rattle.shim_semantics.specs.Places.{at}
 use Rattle.shim_semantics.specs.Sound.{IsSound}
 use Rattle.shim_laws_table.specs.NodeStatus.{ProcessStatus, lives, forks, seen, place}
 
--- what came of a process: the number of its first child, and what is seen of its node beside the state; or the record is free
+-- a record as laws see it: the number of the process's first child, and its status; or the record is free
 pub data RecordView : Type 0 where
   free : RecordView
   used : ℕ → ProcessStatus → RecordView
 
--- The states of the processes and what came of them are side by side; a process's number is its place in both. The record with this number is in use, with this state and this status.
+-- The record with this number is in use, with this state and this status. States and statuses are two lists, and a process's number is its place in both.
 pub record Has {S : Type 0} (states : List S) (views : List RecordView) (i first : ℕ) (s : S) (k : ProcessStatus) : Type 0 where
   pub state_is : slice_get states i ≡ Some s
   pub view_is : slice_get views i ≡ Some (used first k)
 
 -- The root's path is rp, so that a state's own path determines its place.
 pub record Agrees {S : Type 0} (o : Ops S) (rp : Path) (states : List S) (views : List RecordView) (root : Node S) : Type 0 where
-  -- what a record says is what is seen at its place
+  -- a record has the state and the status of the node at its place
   pub shown : (i f : ℕ) (s : S) (k : ProcessStatus) → Has states views i f s k → seen (at (place o rp s) root) ≡ Some (s, k)
   -- no two records have one place
   pub apart : (i j f g : ℕ) (s t : S) (k h : ProcessStatus) → Has states views i f s k → Has states views j g t h → place o rp s ≡ place o rp t → i ≡ j
@@ -35,7 +35,7 @@ pub record Rooted {S : Type 0} (o : Ops S) (rp : Path) (states : List S) (views 
   pub has : Has states views 0 first state status
   pub at_root : place o rp state ≡ []
 
--- the records show a sound tree
+-- the records represent this tree, which is sound
 pub record Represents {S : Type 0} (o : Ops S) (rp : Path) (states : List S) (views : List RecordView) (root : Node S) : Type 0 where
   pub sound : IsSound o root
   pub root_path : o.path (state root) ≡ rp

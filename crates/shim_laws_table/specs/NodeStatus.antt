@@ -24,7 +24,7 @@ process_status (Forked l ks) = forks (how_many_nodes ks)
 process_status (Ended l) = ends
 process_status (Dead l d) = dies d
 
--- what is seen of a node, where there is one
+-- the state and the status of a node, where there is one
 abbrev pub seen : {S : Type 0} → Option (Node S) → Option (S × ProcessStatus)
 seen None = None
 seen (Some n) = Some (state n, process_status n)

@@ -1,4 +1,4 @@
--- Where an event shows: what is seen at each place after it.
+-- Which places an event changes, and to what state and status.
 use Rattle.std.specs.Prelude.{◌≡◌, ℕ, ℤ, ◌-◌, Option, Some, None, List, [], ◌∷◌, ◌++◌, cond}
 use Rattle.shim_base.specs.Paths.{Path, Channel}
 use Rattle.shim_local.specs.Process.{Ops}
@@ -9,7 +9,7 @@ use Rattle.shim_semantics.specs.Laws.{IsSoundTree}
 use Rattle.shim_semantics.specs.Trees.{Tree, Event, Own, Meet, Poison, Close, End, after}
 use Rattle.shim_laws_table.specs.NodeStatus.{ProcessStatus, lives, forks, ends, dies, seen, IsAside}
 
--- nothing is seen otherwise in the second tree but from the place q on
+-- the two trees have the same states and statuses, except at the place q and below it
 abbrev pub SameAside : {S : Type 0} → List ℕ → Node S → Node S → Type 0
 SameAside q old new = (p : List ℕ) → IsAside p q → seen (at p new) ≡ seen (at p old)
 
@@ -44,7 +44,7 @@ got o c v (forks n) s = s
 got o c v ends s = s
 got o c v (dies d) s = s
 
--- what is seen where a node was seen, behind the meeting
+-- the state and the status behind the meeting, by those before it
 abbrev pub seen_met : {S : Type 0} → Ops S → Channel → ℤ → Option (S × ProcessStatus) → Option (S × ProcessStatus)
 seen_met o c v None = None
 seen_met o c v (Some x) = Some (got o c v x.1 x.0, x.1)
@@ -56,7 +56,7 @@ killed o c d s (forks n) = forks n
 killed o c d s ends = ends
 killed o c d s (dies e) = dies e
 
--- what is seen where a node was seen, behind the poison
+-- the state and the status behind the poison, by those before it
 abbrev pub seen_killed : {S : Type 0} → Ops S → Channel → Death → Option (S × ProcessStatus) → Option (S × ProcessStatus)
 seen_killed o c d None = None
 seen_killed o c d (Some x) = Some (x.0, killed o c d x.0 x.1)

@@ -1,4 +1,4 @@
-// Laws of what is seen of a tree, and of records that say it.
+// Laws of the nodes of a tree by their places, and of records that represent it.
 ghost use Rattle.shim_laws_table.specs.Agrees.{OneTree, StartRepresents};
 ghost use Rattle.shim_laws_table.specs.Places.{NodesAreReplaced, EventsShow};
 ghost use Rattle.shim_laws_table.specs.Changes.{EventsPreserve, ChildrenAreRepresented, OneChangeIsRepresented};
@@ -18,25 +18,24 @@ pub fn nodes_are_replaced<L: Local>()
     ensures { NodesAreReplaced L.ops }
 {}
 
-/// What an event shows, place by place: of what a process does by itself nothing is seen but at its place
-/// and below; of a rendezvous, at each process that waits at the channel; of a poison, at each live sharer at
-/// and below the child.
+/// Where an event changes states and statuses: what a process does by itself, at its place and below; a
+/// rendezvous, at each process that waits at the channel; a poison, at each live sharer at and below the child.
 pub fn events_show<L: Local>()
     ensures { EventsShow L.ops }
 {}
 
-/// One record shows the tree in which one process lives.
+/// One record represents the tree in which one process lives.
 pub fn start_represents<L: Local>()
     ensures { StartRepresents L.ops }
 {}
 
-/// Where records show a sound tree and have changed as an event changes them, with nobody else, they show
-/// the tree after the event.
+/// Where records represent a sound tree and have changed as an event changes them, and no other has, they
+/// represent the tree after the event.
 pub fn events_preserve<L: Local>()
     ensures { EventsPreserve L.ops }
 {}
 
-/// What the records of a fork's children say together: how many they are, their states, and the prevailing
+/// What the records of a fork's children hold together: how many they are, their states, and the prevailing
 /// death among them.
 pub fn children_are_represented<L: Local>()
     ensures { ChildrenAreRepresented L.ops }
@@ -49,7 +48,7 @@ pub fn one_change_is_represented<L: Local>()
 {}
 
 /// Where one process has received a value, or has died of an exception for which it has no handler, and
-/// nobody else has changed, the records show a sound tree again. So a rendezvous and a poison can be done one
+/// no other has changed, the records represent a sound tree again. So a rendezvous and a poison can be done one
 /// process after the other.
 pub fn single_changes_are_represented<L: Local>()
     ensures { SingleChangesAreRepresented L.ops }

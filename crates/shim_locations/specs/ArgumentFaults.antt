@@ -7,7 +7,7 @@ use Rattle.shim_locations.specs.declared.argument_fault.ArgumentFault.{ArgumentF
 use Rattle.shim_locations.specs.declared.argument_fault.ArgumentFault.TheVariants.{Trapped, NoMemory}
 use Rattle.shim_locations.specs.Given.{argument_of, arguments_of}
 
--- want of memory says nothing
+-- the answer is the one that is meant, and `NoMemory` may come in its place
 abbrev pub Gives : Result (List Argument) ArgumentFault → Result (List ArgumentOf) Trap → Type 0
 Gives (Ok given) meant = meant ≡ Ok (arguments_of given)
 Gives (Err (Trapped t)) meant = meant ≡ Err t

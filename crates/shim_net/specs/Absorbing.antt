@@ -37,7 +37,7 @@ pub record Absorbs {S : Type 0} (o : Ops S) (before after : NetView S) (pid slot
   pub closes : Closes o before after place used
   pub matches : Matches pid slot round most start closes.grant
 
--- what holds by this answer of `absorb`: the first if the piece was taken in, the second if it was and memory was wanted, the third if no open grant is its own
+-- what this answer of `absorb` claims: the first if the piece was taken in; the second if memory ran out; the third if no open grant matches the piece
 abbrev pub OnAbsorbed : {F : Type 0} → Type 0 → Type 0 → (F → Type 0) → Absorbed F → Type 0
 OnAbsorbed taken short stranger Taken = taken
 OnAbsorbed taken short stranger Short = short

@@ -50,7 +50,7 @@ pub record IsNet {S : Type 0} (o : Ops S) (n : NetView S) : Type 0 where
   pub most : n.budget ≤ 4000000
   -- the root has the path of a root
   pub at_root : o.path n.root ≡ []
-  -- the tree is the replay of the journal, the budget isn't passed, and what is out stands where it was given out
+  -- the invariant on which the laws of journals rest
   pub keeps : NetKeeps o n.root n.budget n.journal n.tree (map granted n.grants)
   pub numbers : AllPairs HaveOtherNumbers n.grants
   pub pids : AllPairs HaveOtherPids n.grants

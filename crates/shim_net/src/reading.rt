@@ -28,7 +28,7 @@ impl<L: Local> Net<L> {
         self.tree.steps()
     }
 
-    /// What was done in it, entry by entry. An event that an entry names by itself is no quiet step.
+    /// What was done in it, entry by entry. An entry of one event is no quiet step.
     pub fn journal(&self) -> &[Entry]
         ensures entries { map entry_of result.now ≡ self.now.journal }
         ensures events { NamesNoQuietStep L.ops self.now.root self.now.journal }

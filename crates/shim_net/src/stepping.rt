@@ -77,7 +77,7 @@ impl<L: Local> Net<L> {
     }
 
     // The process that is next at home, of which there is one, does quiet steps in place, up to what is left of
-    // the budget. Want of memory for a step leaves those before it, and they are in the journal.
+    // the budget. Where memory runs out for a step, those before it stay done, and they are in the journal.
     pub(crate) fn step_next(&mut self) -> Result<(), NoMemory>
         requires can { CanGive L.ops self.old }
         ensures goes_on { GoesOn L.ops self.old self.new }

@@ -20,19 +20,19 @@ IsReportedAs NoMemory fault place = ⊥
 abbrev pub IsFaultOf : List ℕ → ParseFault → Type 0
 IsFaultOf bytes fault = (f : FaultCause) × (place : Place) × HasFault bytes f place × IsReportedAs fault f place
 
--- the program that the text is of, or its fault; want of memory says nothing
+-- the program that the text is of, or its fault; `NoMemory` claims nothing of the text
 abbrev pub ParsesAs : List ℕ → Result Program ParseFault → Type 0
 ParsesAs bytes (Ok program) = IsText bytes program
 ParsesAs bytes (Err NoMemory) = Unit {0}
 ParsesAs bytes (Err fault) = IsFaultOf bytes fault
 
--- no other answer comes but for want of memory: a text of a program gives that program, and a text with a fault this fault
+-- no other answer comes but `NoMemory`: a text of a program gives that program, and a text with a fault this fault
 abbrev pub IsOnly : List ℕ → Result Program ParseFault → Type 0
 IsOnly bytes (Ok program) = ((other : Program) → IsText bytes other → other ≡ program) × ((f : FaultCause) (place : Place) → HasFault bytes f place → ⊥)
 IsOnly bytes (Err NoMemory) = Unit {0}
 IsOnly bytes (Err fault) = ((other : Program) → IsText bytes other → ⊥) × ((f : FaultCause) (place : Place) → HasFault bytes f place → IsReportedAs fault f place)
 
--- an answer to the printed text of a program: the same program but for lines, or want of memory
+-- an answer to the printed text of a program: the same program but for lines, or `NoMemory`
 abbrev pub IsReadBack : Program → Result Program ParseFault → Type 0
 IsReadBack program (Ok other) = SameButLines program other
 IsReadBack program (Err NoMemory) = Unit {0}

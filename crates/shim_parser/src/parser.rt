@@ -11,7 +11,7 @@ use std::alloc::Global;
 
 /// The program that a text of at most 1,048,576 bytes is of. Of a text that is of none, the first
 /// token that shows it, and why; where several causes meet at one token, the order is that of
-/// `ParseFault`. Out of memory may come in place of any answer.
+/// `ParseFault`. `NoMemory` may come in place of any answer.
 pub fn parse(alloc: Global, text: &[u8]) -> Result<Program, ParseFault>
     requires { length text.now ≤ 1048576 }
     ensures answers { ParsesAs text.now result }

@@ -9,7 +9,7 @@ use Rattle.shim_records.specs.declared.record.Status.TheVariants as code
 use Rattle.shim_laws_table_events.specs.keeping.Tables.{TableView, views, HasProcessState}
 use Rattle.shim_laws_table_events.specs.keeping.Moves.{PerformsQuiet}
 
--- the process with this number is this now, and no other process has changed
+-- the process with this number has this state and status now, and no other process has changed
 abbrev pub HasBecome : {S : Type 0} → ℕ → S → ProcessStatus → TableView S → TableView S → Type 0
 HasBecome number s k before behind = HasChanged before.states behind.states (views before) (views behind) number s k
 

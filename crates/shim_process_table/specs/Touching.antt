@@ -44,13 +44,13 @@ pub record ListsAbove {S : Type 0} (v : TableView S) (n number : ℕ) (old new :
 
 -- ---- the records alone
 
--- the record with this number says what it said: of the process, and for each channel
+-- the record with this number has the same fields, counts and labels as before
 pub record SaysAsBefore (before behind : List Record) (i : ℕ) : Type 0 where
   pub rest : option_map rest_of (slice_get behind i) ≡ option_map rest_of (slice_get before i)
   pub counts : (c : Channel) → counts_in c behind i ≡ counts_in c before i
   pub labels : (c : Channel) → min_labels_in c behind i ≡ min_labels_in c before i
 
--- No record says anything else than before but that with the number x and those of the first n forks above it. Each has the parent that it had, and there are as many as before.
+-- Only the record x and the first n forks above it may have other fields, counts or labels than before. Each record has the parent that it had, and there are as many as before.
 pub record ChangesOnlyRecords (n x : ℕ) (before behind : List Record) : Type 0 where
   pub parents : (i : ℕ) → up_in behind i ≡ up_in before i
   pub as_many : length behind ≡ length before

@@ -209,7 +209,7 @@ fn note_fork(parent: &mut Record, first: u32, count: u32, pairs: Vec<Pair>)
 }
 
 // Puts the fork's children from the hint's number on, if the records there are free, or behind all others,
-// and brings the counts above up to date. Want of memory changes nothing.
+// and brings the counts above up to date. An error changes nothing.
 fn put_fork<L: Local>(
     alloc: Global,
     states: &mut Vec<L>,

@@ -17,11 +17,11 @@ pub data IsAbove (up : ℕ → Option ℕ) : ℕ → ℕ → ℕ → Type 0 wher
 abbrev pub most_forks : ℕ
 most_forks = 4294967295
 
--- no record but the first n forks above this one may have other counts for the channel
+-- the counts for the channel have changed at most in the first n forks above this record
 abbrev pub CountsMovedWithin : Channel → ℕ → ℕ → List Record → List Record → Type 0
 CountsMovedWithin c n x before behind = (i : ℕ) → (IsAbove (up_in before) n x i → ⊥) → counts_in c behind i ≡ counts_in c before i
 
--- nor for any channel
+-- the counts for each channel have changed at most in the first n forks above this record
 abbrev pub AllCountsMovedWithin : ℕ → ℕ → List Record → List Record → Type 0
 AllCountsMovedWithin n x before behind = (c : Channel) → CountsMovedWithin c n x before behind
 
@@ -31,16 +31,16 @@ pub record OnlyCounts (c : Channel) (before behind : List Record) : Type 0 where
   pub elsewhere : (d : Channel) → same_channel c d ≡ false → (i : ℕ) → counts_in d behind i ≡ counts_in d before i
   pub labels : (d : Channel) (i : ℕ) → min_labels_in d behind i ≡ min_labels_in d before i
 
--- what is still to be updated from the place on, through at most so many forks
+-- the counts behind are those before, once updated for this change through at most n forks above it
 abbrev pub Goes : (ℕ → Option ℕ) → ℕ → (ℕ → Option Tally) → CountChange → (ℕ → Option Tally) → Type 0
 Goes up n before here behind = UpdatedAbove up 4294967295 n before here.at (child_status_of here.was) (child_status_of here.is) behind
 
--- the walk ends here, however far it might have led; or it goes on from the parent
+-- the update ends here, whatever number of forks it might have gone through; or it goes on from the parent
 abbrev pub Continues : (ℕ → Option ℕ) → (ℕ → Option Tally) → CountChange → Option CountChange → (ℕ → Option Tally) → Type 0
 Continues up before here None now = (n : ℕ) → Goes up n before here now
 Continues up before here (Some next) now = (n : ℕ) (behind : ℕ → Option Tally) → Goes up n now next behind → Goes up (suc n) before here behind
 
--- no other record's counts have moved than the parent's, and the walk goes on from there alone
+-- Only the parent's counts may have changed. If the update goes on, it goes on from the parent.
 pub record MovesParent (c : Channel) (before : List Record) (here : CountChange) (next : Option CountChange) (behind : List Record) : Type 0 where
   pub others : (i : ℕ) → (up_in before here.at ≡ Some i → ⊥) → counts_in c behind i ≡ counts_in c before i
   pub goes_on : (above : CountChange) → next ≡ Some above → up_in before here.at ≡ Some above.at

@@ -43,7 +43,7 @@ impl Worklist {
         self.numbers.as_slice()
     }
 
-    // One number more may be listed. Want of memory changes nothing.
+    // One number more may be listed. An error changes nothing.
     fn raise(&mut self) -> Result<(), NoMemory>
         ensures ok { OnOk result (self.new ≡ self.old ++ false ∷ []) }
         ensures err { OnErr result (self.new ≡ self.old) }

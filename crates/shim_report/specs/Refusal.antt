@@ -53,7 +53,7 @@ many_words Operators = codes "too many operators"
 abbrev pub refusal_of_cutting : LexFault → List ℕ
 refusal_of_cutting fault = refusal_with_place fault.line (cause_of fault.kind) fault.at
 
--- want of memory has no line
+-- `NoMemory` has no line
 abbrev pub refusal_of : ParseFault → List ℕ
 refusal_of (Lex fault) = refusal_of_cutting fault
 refusal_of (Unexpected at line) = refusal_with_place line (codes "unexpected") at
@@ -72,12 +72,12 @@ refusal_of_binding line WrongKind name = refusal_with_name line (codes "wrong ki
 refusal_of_binding line NoMain name = refusal_without_place line (codes "no main")
 refusal_of_binding line MainParameters name = refusal_without_place line (codes "main parameters")
 
--- want of memory has no line
+-- `NoMemory` has no line
 abbrev pub refusal_of_scope : ScopeFault → List ℕ
 refusal_of_scope (Refused line kind name) = refusal_of_binding line kind name
 refusal_of_scope NoScopeMemory = []
 
--- want of memory has no line
+-- `NoMemory` has no line
 abbrev pub refusal_of_sharing : ShareFault → List ℕ
 refusal_of_sharing (TwoWriters line name first second) = refusal_with_branches line name first second
 refusal_of_sharing (Alias line name) = refusal_with_name line (codes "alias") name

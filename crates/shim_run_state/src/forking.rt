@@ -20,7 +20,7 @@ use shim_process_table::{Fork, ForkOutcome, Requeue};
 use shim_records::Worklist;
 use shim_run_log::Event;
 
-// Counts of 0 for all numbers below this one that have none. Want of memory changes nothing.
+// Counts of 0 for all numbers below this one that have none. An error changes nothing.
 pub(crate) fn grow_counts(own: &mut Vec<u64>, end: usize) -> Result<(), NoMemory>
     ensures longer { IsLonger 0 own.old.items own.new.items }
     ensures ok { OnOk result (end ≤ length own.new.items) }
@@ -33,7 +33,7 @@ pub(crate) fn grow_counts(own: &mut Vec<u64>, end: usize) -> Result<(), NoMemory
     Ok(())
 }
 
-// Flags that aren't set for all numbers below this one that have none. Want of memory changes nothing.
+// Flags that aren't set for all numbers below this one that have none. An error changes nothing.
 pub(crate) fn grow_flags(flags: &mut Vec<bool>, end: usize) -> Result<(), NoMemory>
     ensures longer { IsLonger false flags.old.items flags.new.items }
     ensures ok { OnOk result (end ≤ length flags.new.items) }
@@ -92,7 +92,7 @@ impl<L: Local> RunState<L> {
         Ok(event)
     }
 
-    // Room for all numbers below this one. Want of memory leaves the tree as it was.
+    // Room for all numbers below this one. An error leaves the tree as it was.
     fn make_room(&mut self, end: usize) -> Result<(), NoMemory>
         ensures same { HasMoreRoom self.old self.new }
         ensures ok { OnOk result (HasRoomFor end self.new.process_lists) }

@@ -19,7 +19,7 @@ abbrev pub refused_for : {A : Type 0} → ℕ → ScopeKind → Option (List ℕ
 refused_for line kind None rest = rest
 refused_for line kind (Some x) rest = Err (record { line = line; kind = kind; name = x })
 
--- The answer is the one that is meant: its value, or its first place that is refused. Want of memory may stand in place of either.
+-- The answer is the one that is meant: its value, or its first place that is refused. `NoMemory` may come in place of either.
 abbrev pub Gives : {T : Type 0} → Result T ScopeFault → Result T Refusal → Type 0
 Gives (Ok t) meant = meant ≡ Ok t
 Gives (Err (Refused line kind name)) meant = meant ≡ Err (record { line = line; kind = kind; name = name })

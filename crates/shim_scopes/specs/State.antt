@@ -39,7 +39,7 @@ around_of start s = record { outer = take start s.visible; handled = s.handled; 
 abbrev pub before_of : ℕ → Scope → Before
 before_of start s = record { own = drop start s.visible; slots = s.slots; slot_names = s.slot_names; tries = s.tries }
 
--- the answer is the one that is meant, and want of memory may stand in its place
+-- the answer is the one that is meant, and `NoMemory` may come in its place
 abbrev pub GivesBound : {T : Type 0} → Result T ScopeFault → Before → Meant T → Type 0
 GivesBound (Ok t) now meant = meant ≡ Ok (record { tree = t; before = now })
 GivesBound (Err (Refused line kind name)) now meant = meant ≡ Err (record { line = line; kind = kind; name = name })

@@ -49,7 +49,7 @@ pub fn form_of(alloc: Global, program: &Program) -> Result<Form, ScopeFault>
 /// The program with its names as numbers, or the first place that is refused. Functions come in
 /// textual order, each header before its statements. A statement's own names and expressions come
 /// before what stands in it, and are asked about in the order of `ScopeKind`, of one kind from the
-/// left. Out of memory may come in place of any answer.
+/// left. `NoMemory` may come in place of any answer.
 #[tactic(auto, using(shim_syntax::proofs::ByteSizes::size_is_bounded))]
 pub fn resolve(alloc: Global, program: &Program) -> Result<Resolved, ScopeFault>
     requires { HasText program.now }

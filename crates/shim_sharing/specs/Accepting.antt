@@ -15,7 +15,7 @@ unless_refused (Some fault) form = Err fault
 abbrev pub accepted : Resolved → Result Form ShareFault
 accepted p = unless_refused (refusal p) (lifted p)
 
--- the answer is the one that is meant, and want of memory may stand in its place
+-- the answer is the one that is meant, and `NoMemory` may come in its place
 abbrev pub Gives : {T : Type 0} → Result T ShareFault → Result T ShareFault → Type 0
 Gives (Ok t) meant = meant ≡ Ok t
 Gives (Err (TwoWriters line name first second)) meant = meant ≡ Err (TwoWriters line name first second)
@@ -29,7 +29,7 @@ IfRefused (Err (TwoWriters line name first second)) P = P (TwoWriters line name 
 IfRefused (Err (Alias line name)) P = P (Alias line name)
 IfRefused (Err NoMemory) P = Unit {0}
 
--- the fault is the one that is meant, or want of memory in its place
+-- the fault is the one that is meant, or `NoMemory` in its place
 abbrev pub IsMeantFault : ShareFault → ShareFault → Type 0
 IsMeantFault (TwoWriters line name first second) meant = meant ≡ TwoWriters line name first second
 IsMeantFault (Alias line name) meant = meant ≡ Alias line name

@@ -42,6 +42,7 @@ abbrev pub clash_offence : ℕ → Option Clash → Option Offence
 clash_offence line None = None
 clash_offence line (Some c) = Some (TwoWriters line c.first c.second c.slot)
 
+-- the variable of an argument given by reference, if it is another bare argument, too
 abbrev pub again : Bool → List Given → List Given → Option ℕ → Option ℕ
 again false before after x = None
 again true before after None = None

@@ -14,7 +14,7 @@ use std::alloc::Global;
 
 /// The program with its block branches as units, or the first fork or call that the sharing rule
 /// refuses. Functions come in textual order, each statement before what stands in it, and a fork
-/// before its branches. Out of memory may come in place of any answer.
+/// before its branches. `NoMemory` may come in place of any answer.
 pub fn accept(alloc: Global, resolved: Resolved) -> Result<Accepted, ShareFault>
     ensures meant { Gives result (accepted resolved) }
     ensures obeys { IfOk result (λ form. Obeys resolved) }

@@ -569,7 +569,7 @@ file_row ask before now ob on result ran = record {
   when job r bytes up h over (lacked printed) = inl (inr (inr printed.0))
   when job r bytes up h over (failed answer may is rose part) = inl (inr (inl is))
 
--- an answer that is no want of memory has neither its status nor that of a sink that failed
+-- an answer to a job has neither the status for memory that ran out nor that of a sink that failed
 answers_no_fault : (fault : ℕ) → 7 ≤ fault → fault ≤ 8 → (ask : Option Job) (before now : FilesAt) (answer : Answer) → Answers ask before now answer → answer.status ≡ fault → ⊥
 answers_no_fault fault least most None before now answer (same, is) as_printed = let e : answer.status ≡ 2 = ap (λ (a : Answer). a.status) is in omega (arith, e, as_printed, least)
 answers_no_fault fault least most (Some job) before now answer (files_read, reads_all, is) as_printed = by_read files_read is where

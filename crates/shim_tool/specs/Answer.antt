@@ -40,7 +40,7 @@ AnswersRead job (longer_file r) answer = answer ≡ file_too_long r.name r.limit
 abbrev pub AnswersJob : Job → FilesAt → FilesAt → Answer → Type 0
 AnswersJob job before now answer = (files_read : FilesResult) × ReadsAll (reads_of job) before now files_read × AnswersRead job files_read answer
 
--- an answer that is no want of memory
+-- an answer where memory sufficed
 abbrev pub Answers : Option Job → FilesAt → FilesAt → Answer → Type 0
 Answers None before now answer = (now.failed ≡ before.failed) × (answer ≡ usage)
 Answers (Some job) before now answer = AnswersJob job before now answer
@@ -50,6 +50,6 @@ abbrev pub FailedGrew : Option Job → FilesAt → FilesAt → Type 0
 FailedGrew None before now = now.failed ≡ before.failed
 FailedGrew (Some job) before now = GrewByOneOf (reads_of job) before now
 
--- an answer, or that for want of memory
+-- an answer, or that for memory that ran out
 abbrev pub MayAnswer : Option Job → FilesAt → FilesAt → Answer → Type 0
 MayAnswer ask before now answer = Answers ask before now answer ⊎ (FailedGrew ask before now × (answer ≡ no_memory))

@@ -19,7 +19,7 @@ children_made l remainder i (b ∷ branches) =
 abbrev pub children_before : List LocalState → Result (List LocalState) Trap → Result (List LocalState) Trap
 children_before children rest = on_value (λ others. Ok (children ++ others)) rest
 
--- want of memory says nothing
+-- the answer is the one that is meant, and `NoMemory` may come in its place
 abbrev pub MakesChildren : Result (List LocalState) ArgumentFault → Result (List LocalState) Trap → Type 0
 MakesChildren (Ok children) meant = meant ≡ Ok children
 MakesChildren (Err (fault.Trapped t)) meant = meant ≡ Err t
