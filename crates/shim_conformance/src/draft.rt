@@ -1,11 +1,12 @@
 // The case that is being read.
 ghost use Rattle.std.specs.Prelude.{◌≤◌, ◌<◌, length};
 
-use crate::case::{Case, Edges, HeldFile};
+use crate::case::Case;
 use crate::fault::CaseFault;
 use crate::heading::{Heading, TextForm};
 use crate::words::{Asked, CallLine};
 use shim_base::{List, Name};
+use shim_tests_layers::{Edges, HeldFile, Setup};
 use std::alloc::Global;
 use std::mem;
 
@@ -26,8 +27,7 @@ pub struct CaseDraft {
     alloc: Global,
     title: String,
     lines: Vec<CallLine>,
-    files: Vec<HeldFile>,
-    edges: Edges,
+    setup: Setup,
     status: Option<u8>,
     text: Option<Vec<u8>>,
     part: Part,
@@ -95,11 +95,13 @@ impl CaseDraft {
             alloc,
             title: String::from_str(alloc, title)?,
             lines: Vec::new(alloc),
-            files: Vec::new(alloc),
-            edges: Edges {
-                failing_reads: List::new(alloc),
-                failing_writes: List::new(alloc),
-                most: usize::MAX,
+            setup: Setup {
+                files: Vec::new(alloc),
+                edges: Edges {
+                    failing_reads: List::new(alloc),
+                    failing_writes: List::new(alloc),
+                    most: usize::MAX,
+                },
             },
             status: None,
             text: None,
@@ -138,7 +140,7 @@ impl CaseDraft {
             Part::Nothing => {}
             Part::File(name, form) => {
                 let content = bytes_of(self.alloc, form, content.as_str())?;
-                self.files.push(HeldFile { name, content })?;
+                self.setup.files.push(HeldFile { name, content })?;
             }
             Part::Text(form) => {
                 self.text = Some(bytes_of(self.alloc, form, content.as_str())?);
@@ -150,6 +152,7 @@ impl CaseDraft {
     fn open_file(&mut self, name: &str, form: TextForm) -> Result<(), CaseFault> {
         let name = name_of(self.alloc, name)?;
         if self
+            .setup
             .files
             .iter()
             .any(|file| file.name.as_bytes() == name.as_bytes())
@@ -185,7 +188,7 @@ impl CaseDraft {
     fn set_most(&mut self, number: &str) -> Result<(), CaseFault> {
         match number.parse::<usize>() {
             Ok(most) if most > 0 => {
-                self.edges.most = most;
+                self.setup.edges.most = most;
                 Ok(())
             }
             _ => Err(CaseFault::BadNumber),
@@ -203,11 +206,11 @@ impl CaseDraft {
             Heading::Inside(words) => self.add_words(Asked::Inside, words),
             Heading::File(name, form) => self.open_file(name, form),
             Heading::FailingReads(numbers) => {
-                self.edges.failing_reads = numbers_of(self.alloc, numbers)?;
+                self.setup.edges.failing_reads = numbers_of(self.alloc, numbers)?;
                 Ok(())
             }
             Heading::FailingWrites(numbers) => {
-                self.edges.failing_writes = numbers_of(self.alloc, numbers)?;
+                self.setup.edges.failing_writes = numbers_of(self.alloc, numbers)?;
                 Ok(())
             }
             Heading::Most(number) => self.set_most(number),
@@ -223,8 +226,7 @@ impl CaseDraft {
         let CaseDraft {
             title,
             lines,
-            files,
-            edges,
+            setup,
             status,
             text,
             ..
@@ -235,8 +237,7 @@ impl CaseDraft {
         Ok(Case {
             title,
             lines,
-            files,
-            edges,
+            setup,
             status: status.ok_or(CaseFault::NoStatus)?,
             text: text.ok_or(CaseFault::NoText)?,
         })

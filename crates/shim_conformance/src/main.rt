@@ -2,23 +2,14 @@
 //! files and a sink in memory. Prints a line for each case, what differs in full, and the counts.
 #![tactic(auto)]
 
-mod at_work;
 mod call;
 mod case;
 mod draft;
-mod edges;
 mod fault;
-mod forms;
 mod heading;
 mod inside;
-mod jobs;
-mod nets;
 mod reader;
 mod report;
-mod runs;
-mod steps;
-mod tokens;
-mod values;
 mod watched;
 mod words;
 

@@ -80,8 +80,8 @@ fn answer_to<R: Threads + Wait + Sync>(
     words: &[String],
 ) -> Result<Answer, NoMemory> {
     match asked {
-        Asked::Tool => call_tool(rt, alloc, case, words),
-        Asked::Inside => call_inside(rt, alloc, case, words),
+        Asked::Tool => call_tool(rt, alloc, &case.setup, words),
+        Asked::Inside => call_inside(rt, alloc, &case.setup, words),
     }
 }
 

@@ -1,9 +1,7 @@
 // Calls of the tool that a gate watches, and what the tool prepares without a runtime.
-use crate::call::{Answer, call_over, files_of};
-use crate::case::{Case, HeldFile};
-use crate::inside::word;
-use crate::nets::gate_of;
+use crate::call::{Answer, call_over};
 use shim_base::{List, Name, NoMemory, push_decimal};
+use shim_tests_layers::{HeldFile, Setup, files_of, gate_of, word};
 use shim_tests_workers::{Hold, WatchingGate};
 use shim_tool::{NoOpGate, Prepared, answer_each, prepare};
 use std::alloc::Global;
@@ -52,7 +50,7 @@ fn asked_from(alloc: Global, words: &[String], at: usize) -> Result<Vec<String>,
 pub fn gate_text<R: Threads + Wait + Sync>(
     rt: &R,
     alloc: Global,
-    case: &Case,
+    setup: &Setup,
     words: &[String],
 ) -> Result<Option<List<u8>>, NoMemory> {
     let Ok(most) = word(words, 3).parse::<u64>() else {
@@ -62,7 +60,7 @@ pub fn gate_text<R: Threads + Wait + Sync>(
         return Ok(None);
     };
     let asked = asked_from(alloc, words, 4)?;
-    let answer = call_over(rt, alloc, case, &[], asked.as_slice(), &gate)?;
+    let answer = call_over(rt, alloc, setup, &[], asked.as_slice(), &gate)?;
     behind_gate(answer, &gate, most)
 }
 
@@ -90,24 +88,24 @@ fn journal_file(alloc: Global, content: List<u8>) -> Result<Vec<HeldFile>, NoMem
 pub fn replayed_text<R: Threads + Wait + Sync>(
     rt: &R,
     alloc: Global,
-    case: &Case,
+    setup: &Setup,
     words: &[String],
 ) -> Result<Option<List<u8>>, NoMemory> {
     let gate = WatchingGate::new(Hold::Nobody, false);
     let asked = asked_from(alloc, words, 2)?;
-    let traced = call_over(rt, alloc, case, &[], asked.as_slice(), &gate)?;
+    let traced = call_over(rt, alloc, setup, &[], asked.as_slice(), &gate)?;
     if traced.status != 0 {
         return Ok(None);
     }
     let journal = journal_file(alloc, traced.text)?;
     let asked = words_of(alloc, "shim replay p.shim --input i --journal j")?;
-    let answer = call_over(rt, alloc, case, journal.as_slice(), asked.as_slice(), &gate)?;
+    let answer = call_over(rt, alloc, setup, journal.as_slice(), asked.as_slice(), &gate)?;
     behind_gate(answer, &gate, 1)
 }
 
 // What a call comes to before a runtime is wanted.
-fn prepared(alloc: Global, case: &Case, words: &[String]) -> Result<Prepared, NoMemory> {
-    let mut files = files_of(alloc, case, &[])?;
+fn prepared(alloc: Global, setup: &Setup, words: &[String]) -> Result<Prepared, NoMemory> {
+    let mut files = files_of(alloc, setup, &[])?;
     prepare(alloc, asked_from(alloc, words, 2)?.as_slice(), &mut files)
 }
 
@@ -124,10 +122,10 @@ fn preparation(prepared: &Prepared) -> &'static [u8] {
 /// `prepared WORDS`: whether the tool has an answer without a runtime, or what it leaves to be done.
 pub fn prepared_text(
     alloc: Global,
-    case: &Case,
+    setup: &Setup,
     words: &[String],
 ) -> Result<Option<List<u8>>, NoMemory> {
-    let prepared = prepared(alloc, case, words)?;
+    let prepared = prepared(alloc, setup, words)?;
     Ok(Some(List::from_slice(alloc, preparation(&prepared))?))
 }
 
@@ -136,11 +134,11 @@ pub fn prepared_text(
 pub fn each_text<R: Threads + Sync>(
     rt: &R,
     alloc: Global,
-    case: &Case,
+    setup: &Setup,
     words: &[String],
 ) -> Result<Option<List<u8>>, NoMemory> {
     let asked = asked_from(alloc, words, 2)?;
-    let mut files = files_of(alloc, case, &[])?;
+    let mut files = files_of(alloc, setup, &[])?;
     match prepare(alloc, asked.as_slice(), &mut files)? {
         Prepared::ToRunEach(run) => {
             let answer = answer_each(rt, alloc, run, &NoOpGate::new())?;

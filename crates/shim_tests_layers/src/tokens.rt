@@ -1,6 +1,6 @@
 // The tokens of texts, as text.
-use crate::case::Case;
-use crate::inside::{content, word};
+use crate::setup::{Setup, content};
+use crate::words::word;
 use shim_base::{List, NoMemory, push_decimal};
 use shim_lexer::{LexFault, Lexer, Token};
 use std::alloc::Global;
@@ -68,10 +68,10 @@ fn add_tokens(alloc: Global, reply: &mut List<u8>, text: &[u8]) -> Result<(), No
 }
 
 /// `tokens FILE..`: a line with the tokens of each file, up to its end or its fault.
-pub fn tokens(alloc: Global, case: &Case, words: &[String]) -> Result<Option<List<u8>>, NoMemory> {
+pub fn tokens(alloc: Global, setup: &Setup, words: &[String]) -> Result<Option<List<u8>>, NoMemory> {
     let mut reply = List::new(alloc);
     for at in 2..words.len() {
-        let Some(text) = content(case, word(words, at)) else {
+        let Some(text) = content(setup, word(words, at)) else {
             return Ok(None);
         };
         add_tokens(alloc, &mut reply, text)?;
@@ -82,10 +82,10 @@ pub fn tokens(alloc: Global, case: &Case, words: &[String]) -> Result<Option<Lis
 /// `rows FILE`: that of each line of the file, without its end, as a text of its own.
 pub fn row_tokens(
     alloc: Global,
-    case: &Case,
+    setup: &Setup,
     words: &[String],
 ) -> Result<Option<List<u8>>, NoMemory> {
-    let Some(bytes) = content(case, word(words, 2)) else {
+    let Some(bytes) = content(setup, word(words, 2)) else {
         return Ok(None);
     };
     let Ok(text) = str::from_utf8(bytes) else {

@@ -1,5 +1,5 @@
 // What words ask of nets of small processes, and of lanes.
-use crate::inside::{line_of, word};
+use crate::words::{line_of, word};
 use crate::steps::{calls_of, steps_of};
 use shim_base::{List, NoMemory, push_decimal};
 use shim_tests_net::{answers_of, records_after};

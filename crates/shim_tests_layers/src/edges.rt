@@ -1,7 +1,6 @@
 // Reads and writes in memory, one after another, as text.
-use crate::call::{files_of, sink_with_room};
-use crate::case::Case;
-use crate::inside::content;
+use crate::setup::{Setup, content, files_of, sink_with_room};
+
 use shim_base::{List, NoMemory, push_decimal};
 use shim_edge::{FileFault, Files, Got, MemFiles, MemSink, Sink, SinkFault, write_all};
 use std::alloc::Global;
@@ -45,8 +44,8 @@ fn read_of(word: &str) -> Option<(&str, usize)> {
 }
 
 /// What each of these reads gives, in their order.
-pub fn reads(alloc: Global, case: &Case, words: &[String]) -> Result<Option<List<u8>>, NoMemory> {
-    let mut files = files_of(alloc, case, &[])?;
+pub fn reads(alloc: Global, setup: &Setup, words: &[String]) -> Result<Option<List<u8>>, NoMemory> {
+    let mut files = files_of(alloc, setup, &[])?;
     let mut reply = List::new(alloc);
     for word in words {
         let Some((name, most)) = read_of(word.as_str()) else {
@@ -87,25 +86,25 @@ fn add_whole_write(reply: &mut List<u8>, sink: &mut MemSink, bytes: &[u8]) -> Re
 }
 
 // A sink with so much room, as `ROOM` has it.
-fn sink_of(alloc: Global, case: &Case, room: &str) -> Result<Option<MemSink>, NoMemory> {
+fn sink_of(alloc: Global, setup: &Setup, room: &str) -> Result<Option<MemSink>, NoMemory> {
     match room.parse::<usize>() {
-        Ok(room) => Ok(Some(sink_with_room(alloc, case, room)?)),
+        Ok(room) => Ok(Some(sink_with_room(alloc, setup, room)?)),
         Err(_) => Ok(None),
     }
 }
 
 /// What a write of each of these files gives, one after another, and what the sink has taken then. Behind the words for
 /// a write stand the sink's room and the files.
-pub fn writes(alloc: Global, case: &Case, words: &[String]) -> Result<Option<List<u8>>, NoMemory> {
+pub fn writes(alloc: Global, setup: &Setup, words: &[String]) -> Result<Option<List<u8>>, NoMemory> {
     let Some((room, names)) = words.split_first() else {
         return Ok(None);
     };
-    let Some(mut sink) = sink_of(alloc, case, room.as_str())? else {
+    let Some(mut sink) = sink_of(alloc, setup, room.as_str())? else {
         return Ok(None);
     };
     let mut reply = List::new(alloc);
     for name in names {
-        let bytes = content(case, name.as_str()).unwrap_or(b"".as_slice());
+        let bytes = content(setup, name.as_str()).unwrap_or(b"".as_slice());
         add_write(&mut reply, &mut sink, bytes)?;
         add_taken(&mut reply, &sink)?;
     }
@@ -115,14 +114,14 @@ pub fn writes(alloc: Global, case: &Case, words: &[String]) -> Result<Option<Lis
 /// The same of a file that is written whole.
 pub fn whole_write(
     alloc: Global,
-    case: &Case,
+    setup: &Setup,
     room: &str,
     name: &str,
 ) -> Result<Option<List<u8>>, NoMemory> {
-    let Some(mut sink) = sink_of(alloc, case, room)? else {
+    let Some(mut sink) = sink_of(alloc, setup, room)? else {
         return Ok(None);
     };
-    let bytes = content(case, name).unwrap_or(b"".as_slice());
+    let bytes = content(setup, name).unwrap_or(b"".as_slice());
     let mut reply = List::new(alloc);
     add_whole_write(&mut reply, &mut sink, bytes)?;
     add_taken(&mut reply, &sink)?;

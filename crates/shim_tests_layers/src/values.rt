@@ -1,7 +1,7 @@
 // What a case asks of processes, of their code and of texts of values that were made by hand. Each function has the words
 // that it answers.
-use crate::case::Case;
-use crate::inside::{behind_at, content, line_of, over_of, word};
+use crate::setup::{Setup, content};
+use crate::words::{behind_at, line_of, over_of, word};
 use crate::jobs::job_text;
 use shim_base::{List, NoMemory};
 use shim_parser::parse;
@@ -18,20 +18,20 @@ use std::str;
 const MOST_BYTES: usize = 1_048_576;
 
 /// `beside FILE [INPUT]`: to what both kinds of process come, or what differs first.
-pub fn beside(alloc: Global, case: &Case, words: &[String]) -> Result<Option<List<u8>>, NoMemory> {
-    let Some(source) = content(case, word(words, 2)) else {
+pub fn beside(alloc: Global, setup: &Setup, words: &[String]) -> Result<Option<List<u8>>, NoMemory> {
+    let Some(source) = content(setup, word(words, 2)) else {
         return Ok(None);
     };
-    let input = content(case, word(words, 3)).unwrap_or(b"".as_slice());
+    let input = content(setup, word(words, 3)).unwrap_or(b"".as_slice());
     line_of(beside_of(alloc, source, input)?)
 }
 
 /// `across FILE N INPUT FILE N [INPUT]`: whether a process over syntax and one over code are told apart.
-pub fn across(alloc: Global, case: &Case, words: &[String]) -> Result<Option<List<u8>>, NoMemory> {
-    let Some(one) = behind_at(case, words, 2) else {
+pub fn across(alloc: Global, setup: &Setup, words: &[String]) -> Result<Option<List<u8>>, NoMemory> {
+    let Some(one) = behind_at(setup, words, 2) else {
         return Ok(None);
     };
-    let Some(other) = behind_at(case, words, 5) else {
+    let Some(other) = behind_at(setup, words, 5) else {
         return Ok(None);
     };
     line_of(same_across(alloc, &one, &other)?)
@@ -39,11 +39,11 @@ pub fn across(alloc: Global, case: &Case, words: &[String]) -> Result<Option<Lis
 
 /// `met {syntax|code} FILE A B`: whether a process and its copy are told apart, once the meeting behind a quiet step gave
 /// A to one and B to the other.
-pub fn met(alloc: Global, case: &Case, words: &[String]) -> Result<Option<List<u8>>, NoMemory> {
+pub fn met(alloc: Global, setup: &Setup, words: &[String]) -> Result<Option<List<u8>>, NoMemory> {
     let Some(over) = over_of(words) else {
         return Ok(None);
     };
-    let Some(source) = content(case, word(words, 3)) else {
+    let Some(source) = content(setup, word(words, 3)) else {
         return Ok(None);
     };
     let Ok(one) = word(words, 4).parse::<i64>() else {
@@ -56,35 +56,35 @@ pub fn met(alloc: Global, case: &Case, words: &[String]) -> Result<Option<List<u
 }
 
 /// `kind {syntax|code} FILE`: whether the process runs compiled code.
-pub fn kind(alloc: Global, case: &Case, words: &[String]) -> Result<Option<List<u8>>, NoMemory> {
+pub fn kind(alloc: Global, setup: &Setup, words: &[String]) -> Result<Option<List<u8>>, NoMemory> {
     let Some(over) = over_of(words) else {
         return Ok(None);
     };
-    match content(case, word(words, 3)) {
+    match content(setup, word(words, 3)) {
         Some(source) => line_of(reply_of(alloc, source, b"", over, Question::Compiled)?),
         None => Ok(None),
     }
 }
 
 /// `code FILE`: what the code of a source keeps beside its listing.
-pub fn code(alloc: Global, case: &Case, words: &[String]) -> Result<Option<List<u8>>, NoMemory> {
-    match content(case, word(words, 2)) {
+pub fn code(alloc: Global, setup: &Setup, words: &[String]) -> Result<Option<List<u8>>, NoMemory> {
+    match content(setup, word(words, 2)) {
         Some(source) => line_of(code_of(alloc, source)?),
         None => Ok(None),
     }
 }
 
 /// `throws FILE`: the exceptions that each call and branch of a source hands on.
-pub fn throws(alloc: Global, case: &Case, words: &[String]) -> Result<Option<List<u8>>, NoMemory> {
-    match content(case, word(words, 2)) {
+pub fn throws(alloc: Global, setup: &Setup, words: &[String]) -> Result<Option<List<u8>>, NoMemory> {
+    match content(setup, word(words, 2)) {
         Some(source) => line_of(throws_of(alloc, source)?),
         None => Ok(None),
     }
 }
 
 /// `places FILE`: where the process over code stands behind each step.
-pub fn places(alloc: Global, case: &Case, words: &[String]) -> Result<Option<List<u8>>, NoMemory> {
-    match content(case, word(words, 2)) {
+pub fn places(alloc: Global, setup: &Setup, words: &[String]) -> Result<Option<List<u8>>, NoMemory> {
+    match content(setup, word(words, 2)) {
         Some(source) => line_of(places_of(alloc, source)?),
         None => Ok(None),
     }
@@ -117,8 +117,8 @@ pub fn tree(alloc: Global, words: &[String]) -> Result<Option<List<u8>>, NoMemor
 }
 
 /// `printed FILE`: the canonical text of a source in its own version.
-pub fn printed(alloc: Global, case: &Case, words: &[String]) -> Result<Option<List<u8>>, NoMemory> {
-    let Some(source) = content(case, word(words, 2)) else {
+pub fn printed(alloc: Global, setup: &Setup, words: &[String]) -> Result<Option<List<u8>>, NoMemory> {
+    let Some(source) = content(setup, word(words, 2)) else {
         return Ok(None);
     };
     if source.len() > MOST_BYTES {
@@ -143,10 +143,10 @@ fn lines_of(alloc: Global, text: &str) -> Result<Vec<String>, NoMemory> {
 /// `lines FILE`: the job that the lines of the file ask for as words, the first of which is the program's own name.
 pub fn job_of_lines(
     alloc: Global,
-    case: &Case,
+    setup: &Setup,
     words: &[String],
 ) -> Result<Option<List<u8>>, NoMemory> {
-    let Some(bytes) = content(case, word(words, 2)) else {
+    let Some(bytes) = content(setup, word(words, 2)) else {
         return Ok(None);
     };
     let Ok(text) = str::from_utf8(bytes) else {
