@@ -28,7 +28,7 @@ is_zero z = int_eq z (pos 0)
 abbrev pub truth : Bool → ℤ
 truth b = if b then pos 1 else pos 0
 
--- what an operator gives for the two numbers that stand beside it
+-- what an operator gives for its two operands
 abbrev pub applied : BinOp → ℤ → ℤ → Result ℤ Trap
 -- the exact product
 applied Mul a b = fitted (a *ℤ b)
@@ -67,7 +67,7 @@ applied And a b = Ok (truth (not (is_zero a) && not (is_zero b)))
 -- whether at least one of them isn't 0
 applied Or a b = Ok (truth (not (is_zero a) || not (is_zero b)))
 
--- what an operator gives for the number behind it
+-- what an operator gives for its one operand
 abbrev pub applied1 : UnOp → ℤ → Result ℤ Trap
 -- the exact opposite
 applied1 Neg a = fitted (neg_ℤ a)

@@ -56,7 +56,7 @@ same_channel_equivalence = on_equiv (λ (c : NamedChannel). c.channel) channel_e
 pub same_channel_laws : IsPartialEquivalence (λ (a b : NamedChannel). same_channel a.channel b.channel)
 same_channel_laws = partial_equiv_from_equiv same_channel_equivalence
 
--- what compares alike is the same
+-- two pairs, two paths or two channels that the order compares as equal are the same
 exact_pair : IsAntisymmetric pair_order
 exact_pair = exact_pairs nat_cmp nat_cmp exact_unsigned exact_unsigned
 

@@ -24,7 +24,7 @@ same_pair a b = eqb a.0 b.0 && eqb a.1 b.1
 abbrev pub same_path : Path → Path → Bool
 same_path = pointwise same_pair
 
--- the printed name distinguishes no channels
+-- whether two channels have the same home and the same serial number; the name by which a channel is printed isn't compared
 abbrev pub same_channel : Channel → Channel → Bool
 same_channel a b = same_path a.home b.home && eqb a.serial b.serial
 

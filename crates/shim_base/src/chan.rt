@@ -7,9 +7,9 @@ use std::cmp::Ordering;
 use std::marker::Model;
 use std::sync::Arc;
 
-/// A channel: the path of the process that declared it, its home, a serial number there, and beside
-/// them its printed name, as a number in the program's list of names. Channels are equal, and stand
-/// in order, by home and serial alone.
+/// A channel: its home, which is the path of the process that made it; a serial number there; and its printed
+/// name, as a number in the program's list of names. Home and serial alone decide whether two channels are equal
+/// and how they are ordered.
 #[derive(Drop)]
 pub struct Chan {
     home: Shared<Path>,
@@ -36,7 +36,7 @@ impl Chan {
         }
     }
 
-    /// The path of the process that declared it.
+    /// The path of the process that made it.
     pub fn home(&self) -> &Path
         ensures { result.now ≡ self.now.channel.home }
     {

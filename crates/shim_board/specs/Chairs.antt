@@ -7,7 +7,7 @@ use Rattle.shim_board.specs.declared.view.View.{View}
 use Rattle.shim_board.specs.Counting.{one_below, occurs, total}
 use Rattle.shim_board.specs.Views.{fresh}
 
--- what the chair of this number knows of how many there are: chair 0 all, the others nothing
+-- the count of chairs that the chair of this number keeps: chair 0 keeps the board's, and each other chair keeps 0
 abbrev pub chairs_known : ℕ → ℕ → ℕ
 chairs_known chairs zero = chairs
 chairs_known chairs (suc number) = 0
@@ -20,7 +20,7 @@ module _ {T N M : Type 0} where
   abbrev pub HasSlot : Board T N M → ℕ → Type 0
   HasSlot b slot = slot < slots_of b
 
-  -- the name of its net, where this is what the net's type calls a name
+  -- the board's name: the name that `label` gives of the net with which the board was made
   abbrev pub name_of : (N → M) → Board T N M → M
   name_of label b = label b.table.shared.key.value
 
@@ -28,7 +28,7 @@ module _ {T N M : Type 0} {g : Ghosts N M} where
   abbrev pub view_of : Chair T N M g → View M
   view_of c = c.seat.me.0
 
-  -- the word behind its last `None`
+  -- the word that the chair found in its last call that answered `None`, and 0 before the first such call
   abbrev pub seen_of : Chair T N M g → ℕ
   seen_of c = c.seen
 

@@ -40,18 +40,18 @@ module _ {T N : Type 0} where
       pub others : OthersSpent s.views
       pub places : length s.homes ≡ slots_of b + 1
 
-    -- in such a state this is the net at home, and these are the pieces in the FULL and BACK slots
+    -- In some state that is last by `IsLast`, `net` is the net at home. The pieces of the FULL and BACK slots there are `left`, each with its slot.
     abbrev pub AreLastOf : (N → M) → Board T N M → View M → N → List (ℕ × T) → Type 0
     AreLastOf label b v net left = (s : Table T N M) × IsLast label b v s × (get_elem? s.homes 0 ≡ some (some (Net net))) × (left ≡ left_in s (slots_of b))
 
 module _ {T N M : Type 0} {g : Ghosts N M} where
-  -- the lists of u and of these chairs come to those of v and of those chairs
+  -- The lists of u and of the chairs cs have each put, claim and collection as often, all together, as those of v and of the chairs ds.
   abbrev pub SameLists : View M → List (Chair T N M g) → View M → List (Chair T N M g) → Type 0
   SameLists u cs v ds = ((k r : ℕ) → times k r u.puts + total (λ c. times k r (view_of c).puts) cs ≡ times k r v.puts + total (λ c. times k r (view_of c).puts) ds)
       × ((k r : ℕ) → times k r u.claims + total (λ c. times k r (view_of c).claims) cs ≡ times k r v.claims + total (λ c. times k r (view_of c).claims) ds)
       × ((k r : ℕ) → times k r u.collections + total (λ c. times k r (view_of c).collections) cs ≡ times k r v.collections + total (λ c. times k r (view_of c).collections) ds)
 
-  -- the chair of the view v has put, claimed and collected what these chairs have, and holds nothing
+  -- The lists of v have each put, claim and collection as often as the lists of these chairs together. The chair of v has neither the turn nor a claimed slot nor a slot in hand.
   pub record HasAllOf (v : View M) (chairs : List (Chair T N M g)) : Type 0 where
     pub puts : (k r : ℕ) → times k r v.puts ≡ total (λ c. times k r (view_of c).puts) chairs
     pub claims : (k r : ℕ) → times k r v.claims ≡ total (λ c. times k r (view_of c).claims) chairs

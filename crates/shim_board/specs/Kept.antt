@@ -23,7 +23,7 @@ abbrev pub chair_count : {M : Type 0} → List (View M) → ℕ
 chair_count [] = 0
 chair_count (v ∷ vs) = v.count
 
--- The words and the views. A pair is in the lists of all chairs as often as the slot's word has passed the step that adds it, once or never
+-- The invariant of the words and the views. Over all chairs a pair of a slot and a round is listed once if the slot's word has passed the step that adds it, and else never.
 pub record CountsKept {M : Type 0} (words : List ℕ) (views : List (View M)) : Type 0 where
   pub puts : (k r : ℕ) → total (λ v. times k r v.puts) views ≡ one_below (4 * r) (word_of words k)
   pub claims : (k r : ℕ) → total (λ v. times k r v.claims) views ≡ one_below (4 * r + 1) (word_of words k)
@@ -51,7 +51,7 @@ in_hands k views = total (λ v. in_hand k v.hand) views
 abbrev pub SlotValue : Type 0 → Type 0 → Type 0
 SlotValue T N = maybe.Option (Content T N)
 
--- what is at home in a slot with the word x that so many chairs have in hand
+-- What is at home in a slot's place, by its word x and by how many chairs have the slot in hand. In a FULL slot it is a piece. Where no chair has the slot in hand, it is nothing in an EMPTY slot, and a piece in a BACK slot.
 abbrev pub SlotFits : {T N : Type 0} → ℕ → ℕ → maybe.Option (SlotValue T N) → Type 0
 SlotFits {T} x count h = (x % 4 ≡ 1 → (y : T) × (h ≡ some (some (Piece y)))) × (x % 4 ≡ 0 → count ≡ 0 → h ≡ some (some Nothing)) × (x % 4 ≡ 3 → count ≡ 0 → (y : T) × (h ≡ some (some (Piece y))))
 
@@ -63,7 +63,7 @@ abbrev pub Seated : Type 0 → Type 0 → Type 0 → Type 0
 Seated T N M = Me (Content T N) (View M)
 
 module _ {T N M : Type 0} (label : N → M) (board : M) (s : Table T N M) where
-  -- the places and the names
+  -- The invariant of the places and the names: what is at home in each slot's place and in the net's, and which board a chair names.
   pub record ValuesKept : Type 0 where
     pub one_each : length s.words ≡ length s.homes
     pub slots : (k : ℕ) → k + 1 < length s.homes → SlotFits (word_of s.words k) (in_hands k s.views) (get_elem? s.homes (k + 1))

@@ -29,11 +29,11 @@ module _ {T N M : Type 0} (label : N → M) (board : M) (s : Table T N M) where
   abbrev pub HasView : ℕ → View M → Type 0
   HasView j v = get_elem? s.views j ≡ some v
 
-  -- the slot k is at home with a piece
+  -- the place of the slot k is at home, with a piece in it
   abbrev pub HasPiece : ℕ → Type 0
   HasPiece k = (y : T) × (get_elem? s.homes (k + 1) ≡ some (some (Piece y)))
 
-  -- the slot k is at home without one
+  -- the place of the slot k is at home, with nothing in it
   abbrev pub HasNothing : ℕ → Type 0
   HasNothing k = get_elem? s.homes (k + 1) ≡ some (some Nothing)
 
@@ -52,7 +52,7 @@ module _ {T N M : Type 0} (label : N → M) (board : M) (s : Table T N M) where
   ExactlyOne P = (j : ℕ) × (v : View M) × HasView j v × P v × ((i : ℕ) (u : View M) → HasView i u → P u → i ≡ j)
 
   pub record Rule : Type 0 where
-    -- A FULL slot is at home with a piece. Out of hand, an EMPTY slot is at home without one, and a BACK slot with one. The net is at home where the turn is free
+    -- The place of a FULL slot is at home, with a piece in it. Where no chair has an EMPTY slot in hand, its place is at home, with nothing in it. Where no chair has a BACK slot in hand, its place is at home, with a piece in it. Where the turn is free, the net is at home and has the board's name.
     pub full : (k : ℕ) → k + 1 < length s.homes → IsFull (word_of s.words k) → HasPiece k
     pub empty : (k : ℕ) → k + 1 < length s.homes → IsEmpty (word_of s.words k) → IsOutOfHand k → HasNothing k
     pub back : (k : ℕ) → k + 1 < length s.homes → IsBack (word_of s.words k) → IsOutOfHand k → HasPiece k
@@ -60,16 +60,16 @@ module _ {T N M : Type 0} (label : N → M) (board : M) (s : Table T N M) where
     -- a claimed slot is TAKEN, of the round that was claimed, and no two chairs have the same one
     pub taken : (j : ℕ) (v : View M) → HasView j v → (k r : ℕ) → v.claimed ≡ Some (k, r) → word_of s.words k ≡ 4 * r + 2
     pub claimed_once : (i j : ℕ) (u v : View M) → HasView i u → HasView j v → (k q r : ℕ) → u.claimed ≡ Some (k, q) → v.claimed ≡ Some (k, r) → i ≡ j
-    -- each pair stands at most once in all lists of puts, in all of claims, and in all of collections
+    -- Over all chairs each pair of a slot and a round occurs at most once in the lists of puts. So it does in the lists of claims, and in those of collections.
     pub differ : (k r : ℕ) → (total (λ v. times k r v.puts) s.views ≤ 1) × (total (λ v. times k r v.claims) s.views ≤ 1) × (total (λ v. times k r v.collections) s.views ≤ 1)
-    -- what was put is of an earlier round, or of this one in a slot that isn't EMPTY
+    -- the round of each put into a slot is less than the slot's, or it is the slot's and the slot isn't EMPTY
     pub puts : (j : ℕ) (v : View M) → HasView j v → (k r : ℕ) → 0 < times k r v.puts → (r < round_of (word_of s.words k)) ⊎ ((r ≡ round_of (word_of s.words k)) × (IsEmpty (word_of s.words k) → ⊥))
-    -- what was claimed is of an earlier round, or of this one in a slot that is TAKEN or BACK
+    -- the round of each claim from a slot is less than the slot's, or it is the slot's and the slot is TAKEN or BACK
     pub claims : (j : ℕ) (v : View M) → HasView j v → (k r : ℕ) → 0 < times k r v.claims
         → (r < round_of (word_of s.words k)) ⊎ ((r ≡ round_of (word_of s.words k)) × (IsTaken (word_of s.words k) ⊎ IsBack (word_of s.words k)))
-    -- what was collected is of an earlier round
+    -- the round of each collection from a slot is less than the slot's round
     pub collections : (j : ℕ) (v : View M) → HasView j v → (k r : ℕ) → 0 < times k r v.collections → r < round_of (word_of s.words k)
-    -- and each step that a slot's word has passed was one chair's, and a TAKEN slot is the claimed slot of one
+    -- Exactly one chair did each put, claim and collection that a slot's word has passed. A TAKEN slot is the claimed slot of exactly one chair, of the slot's round.
     pub put_by_one : (k r : ℕ) → 4 * r < word_of s.words k → ExactlyOne (λ v. 0 < times k r v.puts)
     pub claimed_by_one : (k r : ℕ) → 4 * r + 1 < word_of s.words k → ExactlyOne (λ v. 0 < times k r v.claims)
     pub collected_by_one : (k r : ℕ) → 4 * r + 3 < word_of s.words k → ExactlyOne (λ v. 0 < times k r v.collections)
@@ -78,7 +78,7 @@ module _ {T N M : Type 0} (label : N → M) (board : M) (s : Table T N M) where
     pub turn : IsFree ⊎ TurnIsHeld
     pub turn_held : TurnIsHeld → ExactlyOne (λ v. v.turn ≡ 1)
     pub free : IsFree → (j : ℕ) (v : View M) → HasView j v → v.turn ≡ 0
-    -- only the chair with the turn has noted slots or one in hand; a noted slot is EMPTY, of that round; one in hand is EMPTY or BACK, with the word seen
+    -- Only the chair with the turn has noted slots or a slot in hand. A noted slot is EMPTY, of the round noted. A slot in hand is EMPTY or BACK, and its word is still the word that its chair saw.
     pub noted : (j : ℕ) (v : View M) → HasView j v → (k r : ℕ) → 0 < times k r v.noted → (v.turn ≡ 1) × (word_of s.words k ≡ 4 * r)
     pub hand : (j : ℕ) (v : View M) → HasView j v → (k x : ℕ) → v.hand ≡ Some (k, x) → (v.turn ≡ 1) × (word_of s.words k ≡ x) × (IsEmpty x ⊎ IsBack x)
     -- each word that a chair saw in a slot is at most that slot's word

@@ -80,7 +80,7 @@ module _ {T N M : Type 0} where
     done = record { slot = k; word = word_of s.words k; value = y } ∷ s.done;
   }
 
-  -- the same, with the piece that the slot has
+  -- The word of the slot k goes on by one, with the piece that the slot has, and the slot has `piece` from then on. Where the slot has no piece, nothing changes.
   abbrev pub moves_out : BoardRun T N M → ℕ → View M → ℕ → Option T → BoardRun T N M
   moves_out s id w k None = s
   moves_out s id w k (Some y) = moves s id w k None y
@@ -91,7 +91,7 @@ module _ {T N M : Type 0} where
   joins s v other (some w) = cond (not (other == 0) && not (is_spent w.numbers) && holds_nothing w) record s { views = slice_set (slice_set s.views 0 (after_join v w)) other spent } s
 
   module _ (s : BoardRun T N M) (id : ℕ) (v : View M) where
-    -- whether there is such a slot
+    -- whether the board has the slot k
     abbrev pub has_slot : ℕ → Bool
     has_slot k = nat_lt (k + 1) (length s.words)
 
@@ -112,7 +112,7 @@ module _ {T N M : Type 0} where
     may take_turn = slice_index s.words 0 == 0
     may (leave_turn net) = (v.turn == 1) && is_none v.hand
 
-    -- what it does
+    -- the run after the step, where `may` allows it
     abbrev pub does : StepKind T N → BoardRun T N M
     does split = record s { views = slice_set s.views 0 (after_split v) ++ split_off v ∷ [] }
     does (join other) = joins s v other (get_elem? s.views other)
@@ -126,7 +126,7 @@ module _ {T N M : Type 0} where
     does take_turn = record s { words = slice_set s.words 0 1; net = None; views = slice_set s.views id (after_take v) }
     does (leave_turn net) = record s { words = slice_set s.words 0 0; net = Some net; views = slice_set s.views id (after_leave v) }
 
-  -- A step of a chair that isn't there, or is spent, or whose word or condition isn't there, changes nothing
+  -- The run after a step whose chair has this view. Nothing changes where the board has no chair of the step's number, where the chair is spent, or where `may` refuses the step.
   abbrev pub after_step : BoardRun T N M → BoardStep T N → maybe.Option (View M) → BoardRun T N M
   after_step s step none = s
   after_step s step (some v) = cond (not (is_spent v.numbers) && may s step.chair v step.kind) (does s step.chair v step.kind) s
@@ -211,7 +211,7 @@ module _ {T N M : Type 0} (s : BoardRun T N M) where
     -- a FULL slot has a piece, which was put there, and a BACK slot one that was given there
     pub full : (k r : ℕ) → word_of s.words k ≡ 4 * r + 1 → (y : T) × (s.piece k ≡ Some y) × WasPut k r y
     pub back : (k r : ℕ) → word_of s.words k ≡ 4 * r + 3 → (y : T) × (s.piece k ≡ Some y) × WasGiven k r y
-    -- each piece that was claimed is held by its chair, or what was given for it was collected or stands in a BACK slot
+    -- The chair that claimed a piece still has its slot as claimed slot, or it gave a piece for it. That piece was collected, or lies in a BACK slot.
     pub claimed : (k r : ℕ) (y : T) → WasClaimed k r y → IsHeldByItsChair k r ⊎ ((z : T) × WasGiven k r z × (WasCollected k r z ⊎ StandsBack k r z))
 
 -- a step of the chair j

@@ -23,7 +23,7 @@ module _ {T N M : Type 0} where
   abbrev pub HasPut : Step (Content T N) → Seated T N M → ℕ → Seated T N M → Type 0
   HasPut st m x m' = (k r : ℕ) → m.0.hand ≡ Some (k, 4 * r) → m' ≡ (after_put m.0 k r, rest m.1)
 
-  -- the exchange of FULL for TAKEN: it found the word that was expected, or a greater one
+  -- The exchange of FULL for TAKEN. Where it found the word that was expected, the chair claims the slot and has its piece. Else the chair has looked at the slot, and found a greater word if it saw the expected word there before.
   abbrev pub HasClaimedOrLooked : Step (Content T N) → Seated T N M → ℕ → Seated T N M → Type 0
   HasClaimedOrLooked st m x m' = (k : ℕ) → st.word ≡ k + 1
       → (x ≡ st.first → (y : T) × (m' ≡ (after_claim m.0 k (x / 4), (k + 1, Piece y) ∷ m.1))) × (x ≢ st.first → (m' ≡ (after_look m.0 k x, m.1)) × (0 < times k st.first m.0.seen → st.first < x))
@@ -34,7 +34,7 @@ module _ {T N M : Type 0} where
   abbrev pub HasCollected : Step (Content T N) → Seated T N M → ℕ → Seated T N M → Type 0
   HasCollected st m x m' = (k r : ℕ) → m.0.hand ≡ Some (k, 4 * r + 3) → m' ≡ (after_collect m.0 k r, rest m.1)
 
-  -- the exchange of FREE for HELD: it found FREE and a net of the board's name, or HELD
+  -- The exchange of FREE for HELD. Where it found FREE, the chair has the turn, and a net of its board's name. Else it found HELD, and the chair has looked at the turn's word.
   abbrev pub HasTakenOrLooked : (N → M) → Step (Content T N) → Seated T N M → ℕ → Seated T N M → Type 0
   HasTakenOrLooked label st m x m' = (x ≡ 0 → (net : N) × (m' ≡ (after_take m.0, (0, Net net) ∷ m.1)) × (m.0.name ≡ Some (label net))) × (x ≢ 0 → (x ≡ 1) × (m' ≡ (after_turn_seen m.0 x, m.1)))
 

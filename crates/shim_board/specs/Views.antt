@@ -67,11 +67,11 @@ module _ {M : Type 0} where
     abbrev pub after_leave : View M
     after_leave = record v { turn = 0; noted = [] }
 
-    -- chair 0, beside one chair more
+    -- the view of chair 0 once it split off a chair: it counts one chair more
     abbrev pub after_split : View M
     after_split = record v { count = v.count + 1 }
 
-    -- that chair
+    -- the view of the chair that chair 0 splits off
     abbrev pub split_off : View M
     split_off = fresh v.name v.count 0
 
@@ -83,11 +83,11 @@ module _ {M : Type 0} where
   abbrev pub seeing : View M → ℕ → List ℕ → View M
   seeing v k words = record v { seen = v.seen ++ at_slot k words }
 
-  -- w is v after looks at the slot k, the last of which found x, and those before it FULL words that grew
+  -- w is v after looks at the slot k. The last look found x. Each look before it found a FULL word, and each of these words is less than the next word found.
   abbrev pub HasLooked : View M → View M → ℕ → ℕ → Type 0
   HasLooked v w k x = (before : List ℕ) × Ascends before x × (w ≡ after_look (seeing v k before) k x)
 
-  -- w is v after such looks at the slot k, the last of which found FULL of the round r, and then its claim
+  -- w is v after looks at the slot k and then a claim of it. Each look found a FULL word, greater than the word before. The last look found FULL of the round r, and the claim is of that round.
   abbrev pub HasClaimed : View M → View M → ℕ → ℕ → Type 0
   HasClaimed v w k r = (before : List ℕ) × Ascends before (4 * r + 1) × (w ≡ after_claim (seeing v k (before ++ (4 * r + 1) ∷ [])) k r)
 

@@ -130,7 +130,7 @@ impl<T: Drop, N: Named + Drop> Board<T, N> {
         Some(value)
     }
 
-    /// The word behind the chair's last `None`, and 0 before its first.
+    /// The word that the chair found in its last call that answered `None`, and 0 before the first such call.
     pub fn seen(chair: &Chair<T, N>) -> u64
         ensures { result ≡ seen_of chair.now }
     {

@@ -58,7 +58,7 @@ job_with mode rows = record {
   steal = flag_in rows (codes "steal");
 }
 
--- whether a job has its source so: one that is generated is of a kind that FILE names
+-- whether a job has a source of this origin: a source that is generated needs a kind that FILE names
 abbrev pub has_origin : Origin → Job → Bool
 has_origin Stored job = true
 has_origin Generated job = is_some (kind_named job.file)
@@ -67,7 +67,7 @@ has_origin Generated job = is_some (kind_named job.file)
 abbrev pub has_no_inputs : Job → Bool
 has_no_inputs job = nat_eq (length job.inputs) 0
 
--- whether a job has what is to be read so: a journal has to be named, and 1 to 64 inputs where there are several, else none
+-- Whether a job names what is read beside its source. `InputAndJournal` needs the name of a journal. `Inputs` needs 1 to 64 names of inputs, and the others need that INPUT names none.
 abbrev pub has_extra : Extra → Job → Bool
 has_extra Nothing job = has_no_inputs job
 has_extra Input job = has_no_inputs job

@@ -35,7 +35,7 @@ pub enum Extra {
     Nothing,
     /// The bytes that the run takes in, where an option names their file.
     Input,
-    /// These, and behind them a journal, whose file an option has to name.
+    /// The bytes of `Input`, and then those of a journal, whose file an option has to name.
     InputAndJournal,
     /// The bytes of each file that INPUT names; one run takes in each.
     Inputs,

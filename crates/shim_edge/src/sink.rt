@@ -11,12 +11,12 @@ pub enum SinkFault {
 }
 
 /// A sink that takes bytes, with a count of its failed writes. Such a count may be a `u64` that
-/// saturates: where it is at its end, a failure passes for a rise.
+/// saturates: at the end of a `u64` it stays as it is, and contracts count a failure as a rise all the same.
 pub trait Sink {
     /// The bytes that were taken, where contracts know them.
     ghost taken: { Self → Option (List ℕ) };
 
-    /// How many writes have failed: no other write moves it.
+    /// How many writes have failed: no other write changes this count.
     ghost faults: { Self → ℕ };
 
     /// Takes some of the bytes, from the first on, and says how many. At `Failed` none was taken.

@@ -32,7 +32,7 @@ ChecksTo bytes meant = (program : Program) × IsOnlyText bytes program × (check
 abbrev pub IsOnlyAccepted : List ℕ → Program → Type 0
 IsOnlyAccepted bytes program = IsOnlyText bytes program × (form : Form) × (checked program ≡ Ok form)
 
--- Its one fault: that of a text which is no program's, or the first that is refused in the program of the text. `NoMemory` claims nothing of the text.
+-- The fault is the one fault of bytes that are no text of a program, or the first that checking refuses in the program of the text. `NoMemory` claims nothing of the bytes.
 abbrev pub IsFirstFault : List ℕ → SourceFault → Type 0
 IsFirstFault bytes (Parse parse.NoMemory) = Unit {0}
 IsFirstFault bytes (Parse fault) = IsOnlyFault bytes fault
@@ -41,12 +41,12 @@ IsFirstFault bytes (Scope fault) = ChecksTo bytes (Err (Scope fault))
 IsFirstFault bytes (Share share.NoMemory) = Unit {0}
 IsFirstFault bytes (Share fault) = ChecksTo bytes (Err (Share fault))
 
--- the units of its accepted program, or its first fault
+-- the answer is the units of the one accepted program whose text the bytes are, or the first fault of the bytes
 abbrev pub IsAnswerTo : List ℕ → Result Form SourceFault → Type 0
 IsAnswerTo bytes (Ok source) = ChecksTo bytes (Ok source)
 IsAnswerTo bytes (Err fault) = IsFirstFault bytes fault
 
--- its accepted program, or its first fault
+-- the answer is the one accepted program whose text the bytes are, or the first fault of the bytes
 abbrev pub IsProgramAnswerTo : List ℕ → Result Program SourceFault → Type 0
 IsProgramAnswerTo bytes (Ok program) = IsOnlyAccepted bytes program
 IsProgramAnswerTo bytes (Err fault) = IsFirstFault bytes fault

@@ -65,7 +65,7 @@ abbrev pub behind_variable : Option (List ℕ) → Point → Point
 behind_variable None p = p
 behind_variable (Some y) p = behind_declaration y (Value Int32) p
 
--- which has the next slot
+-- the slot of a handler's variable, where the handler has one: the next slot at the point
 abbrev pub slot_of_variable : Option (List ℕ) → Point → Option ℕ
 slot_of_variable None p = None
 slot_of_variable (Some y) p = Some p.slots

@@ -74,7 +74,7 @@ tries_among body = concat (map stmt_tries body)
 abbrev pub declared_param : Param → Declaration
 declared_param p = record { name = p.name; sort = p.sort }
 
--- the parameters are the first
+-- the declarations of a function: its parameters, and then those of its body
 abbrev pub all_declarations : Function → Declarations
 all_declarations f = map declared_param f.params ++ declarations_in f.body
 

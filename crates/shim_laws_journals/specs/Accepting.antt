@@ -13,7 +13,7 @@ pub record IsAcceptedJournal {S : Type 0} (o : Ops S) (root : S) (b : ℕ) (es :
   pub replays : replay o root es ≡ Some t
   pub ended : HasEnded o b t
 
--- The line of the entry that so many stand before. Lines are counted from 1, and the first one is that of the budget.
+-- The line of the entry that follows these entries. Lines are counted from 1, and the budget has line 1.
 abbrev pub line_behind : List Entry → ℕ
 line_behind front = length front + 2
 
@@ -30,7 +30,7 @@ pub data JournalRefusal : Type 0 where
   NotEnabled : ℕ → JournalRefusal
   Unfinished : ℕ → JournalRefusal
 
--- Over budget: the entry's steps and those before it pass the budget. Not enabled: they don't, and one of its steps isn't enabled in its turn, or is no quiet step in an entry of these. Unfinished: all entries are done, and the run hasn't ended.
+-- Over budget: the entry's steps and those before it pass the budget. Not enabled: they don't, but a step of the entry isn't enabled in its turn, or the entry is of quiet steps and one of its steps isn't quiet. Unfinished: all entries are done, and the run hasn't ended.
 abbrev pub IsRefusedJournal : {S : Type 0} → Ops S → S → ℕ → List Entry → JournalRefusal → Type 0
 IsRefusedJournal {S} o root b es (OverBudget line) = (front : List Entry) × (e : Entry) × (t : Tree S) × Reaches o root b es front e t × (line ≡ line_behind front) × (b < steps t + steps_in e)
 IsRefusedJournal {S} o root b es (NotEnabled line) = (front : List Entry) × (e : Entry) × (t : Tree S) × Reaches o root b es front e t × (line ≡ line_behind front) × (steps t + steps_in e ≤ b) × (entry_after o e t ≡ None)

@@ -21,7 +21,7 @@ pub record EndAlike {S : Type 0} (o : Ops S) (t u : Tree S) : Type 0 where
   -- as many steps led to both, whatever can happen
   pub as_long : steps t ≡ steps u
 
--- all journals of one process that lead to where schedules of one budget end, end alike
+-- Two journals of one sound root end alike, if each leads to a tree at which a schedule within the same budget has ended.
 abbrev pub JournalsAgree : {S : Type 0} → Ops S → Type 0
 JournalsAgree {S} o = (root : S) (b : ℕ) (js ks : List Entry) (t u : Tree S) → o.sound root → SharesItsOwn o root
     → replay o root js ≡ Some t → HasEnded o b t → replay o root ks ≡ Some u → HasEnded o b u → EndAlike o t u

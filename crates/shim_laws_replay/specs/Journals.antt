@@ -14,7 +14,7 @@ pub data Entry : Type 0 where
   -- this event happened
   Did : Event → Entry
 
--- whether the process of the path is what is found there, lives, and has a quiet step to do
+-- the node that was found is that of the path, and its process lives and is before a quiet step
 abbrev pub is_before_quiet : {S : Type 0} → Ops S → Path → Option (Node S) → Bool
 is_before_quiet o p None = false
 is_before_quiet o p (Some (Live l)) = same_path (o.path l) p && is_quiet (o.stop l)
@@ -26,17 +26,17 @@ is_before_quiet o p (Some (Dead l x)) = false
 abbrev pub quiet_step : {S : Type 0} → Ops S → Path → Tree S → Option (Tree S)
 quiet_step o p t = cond (is_before_quiet o p (led_to o t.root p)) (after o (Own p) t) None
 
--- as many as that
+-- the tree after so many quiet steps of that process, if it has each to do in its turn
 abbrev pub quiet_steps : {S : Type 0} → Ops S → Path → ℕ → Tree S → Option (Tree S)
 quiet_steps o p zero t = Some t
 quiet_steps o p (suc n) t = on_some (quiet_steps o p n) (quiet_step o p t)
 
--- the tree after all that an entry has, where each of it is enabled in its turn
+-- the tree after the events of an entry, if each is enabled in its turn and those of a `Quiet` entry are quiet steps
 abbrev pub entry_after : {S : Type 0} → Ops S → Entry → Tree S → Option (Tree S)
 entry_after o (Quiet p n) t = quiet_steps o p n t
 entry_after o (Did e) t = after o e t
 
--- Where the journal leads: the entries are done in turn, from the tree in which the root lives alone. None where one of them can't be.
+-- The tree to which the journal leads: the entries are done in turn, from the tree in which the root lives alone. If an entry can't be done in its turn, there is no tree.
 unfoldable pub replay : {S : Type 0} → Ops S → S → List Entry → Option (Tree S)
 replay o root journal = run (entry_after o) journal (start root)
 

@@ -32,7 +32,7 @@ AreApart o g h = o.path g.start ≢ o.path h.start
 abbrev pub NamesNoQuietStep : {S : Type 0} → Ops S → S → List Entry → Type 0
 NamesNoQuietStep {S} o root journal = (before behind : List Entry) (e : Event) (t : Tree S) → journal ≡ before ++ Did e ∷ behind → replay o root before ≡ Some t → IsNoQuietStep o t e
 
--- The invariant of a net of this root and budget. The root is sound, and its variables are its own. The tree is the replay of the journal; no entry is empty, and none of one event is a quiet step. The budget suffices even where each grant takes all its steps. Each process that is out is as it was given out, and no process is out twice.
+-- The invariant of a net of this root and budget. The root is sound, and it shares only channels that it declared. The tree is the replay of the journal; no entry is empty, and none of one event is a quiet step. The budget suffices even where each grant takes all its steps. Each process that is out is as it was given out, and no process is out twice.
 pub record NetKeeps {S : Type 0} (o : Ops S) (root : S) (budget : ℕ) (journal : List Entry) (t : Tree S) (grants : List (Grant S)) : Type 0 where
   pub sound : o.sound root
   pub own : SharesItsOwn o root
@@ -43,7 +43,7 @@ pub record NetKeeps {S : Type 0} (o : Ops S) (root : S) (budget : ℕ) (journal 
   pub out : All (IsOut o t) grants
   pub apart : AllPairs (AreApart o) grants
 
--- each thing that is done with a net keeps that
+-- each operation on a net keeps its invariant (`NetKeeps`)
 pub record NetsKeep {S : Type 0} (o : Ops S) : Type 0 where
   -- a new net keeps it
   pub begun : (root : S) (b : ℕ) → o.sound root → SharesItsOwn o root → NetKeeps o root b [] (start root) []

@@ -41,7 +41,7 @@ abbrev pub catcher : {S : Type 0} {o : Ops S} {t : Tree S} {e : Event} {p : Path
 catcher (by_throw w h) = w.thrower
 catcher {o = o} (by_close w h) = o.join w.parent (states w.children) false
 
--- each catch is logged, and what is logged is a catch
+-- An event that has a process catch a label logs the catch. An event that logs a catch has a process catch a label. Traps are logged, too, and this record has no clause for them.
 pub record CatchesAreLogged {S : Type 0} (o : Ops S) : Type 0 where
   -- a catch is logged of its process, with the name and the line of the handler, and nothing else of it is
   pub logged : (t u : Tree S) (e : Event) (p : Path) (x : ℕ) (v : ℤ) → after o e t ≡ Some u → (c : Catches o t e p x v) →
@@ -66,7 +66,7 @@ pub record ThrewBelow {S : Type 0} (o : Ops S) (from : Tree S) (es : List Event)
   pub forked : StandsAt o tree.root p (Forked parent children)
   pub unclosed : IsAmong (Close p) since → ⊥
 
--- in a run from a sound tree of one live process; label 0, of which a trapped process dies, is never caught
+-- In a run from a sound tree of one live process, each label that a process catches was thrown. It was thrown by that process, or by a process below its fork while the fork was open. Label 0, of which a trapped process dies, is never caught.
 abbrev pub ThrownWhereCaught : {S : Type 0} → Ops S → Type 0
 ThrownWhereCaught {S} o = (l : S) (from t u : Tree S) (es : List Event) (e : Event) (p : Path) (x : ℕ) (v : ℤ) →
     from.root ≡ Live l → IsSoundTree o from → run (after o) es from ≡ Some t → after o e t ≡ Some u → Catches o t e p x v →

@@ -42,8 +42,8 @@ pub fn rounds<L: Local>()
 
 /// What is caught in a run from a sound tree of one live process was thrown, with the same number: by the
 /// process that catches it, as its step, or by a process below its fork while that was open, and it is caught
-/// as the fork closes. A trap isn't caught by anyone. The log has just the catches, each by its process, with
-/// the name and the line of the handler.
+/// as the fork closes. A trap isn't caught by anyone. Each catch is logged of its process, with the name and
+/// the line of the handler, and no other event logs a catch.
 pub fn thrown<L: Local>()
     ensures caught { ThrownWhereCaught L.ops }
     ensures logged { CatchesAreLogged L.ops }

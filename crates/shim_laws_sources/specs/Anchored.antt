@@ -40,7 +40,7 @@ IsAnchored l = Anchored l.path l.program l.frame l.callers l.locations
 abbrev pub NoneLent : Locations → Type 0
 NoneLent locations = (n : ℕ) (x : Location) → at_number locations n ≡ Some x → x.ownership ≡ Lent → ⊥
 
--- what a process has that doesn't wait for children
+-- a process that waits for no children is anchored, and none of its locations is lent
 abbrev pub IsAnchoredWhole : LocalState → Type 0
 IsAnchoredWhole l = IsAnchored l × NoneLent l.locations
 

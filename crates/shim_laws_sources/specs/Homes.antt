@@ -19,7 +19,7 @@ GivesBack slots j (Ref x ∷ rest) k n c = ((number_of slots x ≡ n) × (j < pa
 GivesBack slots j (Pass x ∷ rest) k n c = GivesBack slots (j + 1) rest k n c
 GivesBack slots j (Fresh e ∷ rest) k n c = GivesBack slots (j + 1) rest k n c
 
--- one of the children in these branches does
+-- one of the children, each made by the branch in its place, gives back the channel's own variable for that location
 abbrev pub OneGivesBack : List ℕ → List UBranch → List LocalState → ℕ → Channel → Type 0
 OneGivesBack slots [] ks n c = ⊥
 OneGivesBack slots (b ∷ branches) [] n c = ⊥
@@ -42,7 +42,7 @@ pub record IsWaitingFor (l : LocalState) (ks : List LocalState) : Type 0 where
   pub lent : (n : ℕ) (x : Location) → at_number l.locations n ≡ Some x → x.ownership ≡ Lent → OneGivesBack l.frame.slots (item_branches l.frame.todo) ks n x.channel.channel
   pub given : AllOf (IsGivenBy l) ks
 
--- Each process of the tree has what it needs for its channels.
+-- Each process of the tree that waits for no children is anchored and has nothing lent. Each process that waits for children has what `IsWaitingFor` names.
 abbrev mutual
   pub IsHome : Node LocalState → Type 0
   IsHome (Live l) = IsAnchoredWhole l

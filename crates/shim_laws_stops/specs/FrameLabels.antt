@@ -9,7 +9,7 @@ use Rattle.shim_process.specs.StatementViews.{exceptions_of}
 use Rattle.shim_process.specs.Ends.{without_last}
 use Rattle.shim_laws_stops.specs.InForce.{throws, AllInForce}
 
--- in a unit that is given so many exceptions, with these places in force, each of these is given or in force
+-- Each exception of the list is one of the `given` exceptions that the unit is given, or one of these exception places is its place.
 abbrev pub AreKnown : ℕ → List ExceptionPlace → List ℕ → Type 0
 AreKnown given places xs = (x : ℕ) → is_among xs x ≡ true → (x < given) ⊎ (is_among (exceptions_of places) x ≡ true)
 
@@ -19,13 +19,13 @@ pub record ThrowsKnown (program : Form) (given : ℕ) (places : List ExceptionPl
   pub known : AreKnown given places exceptions
   pub right : throws program s exceptions ≡ true
 
--- so do all that are to be done; the end of a `try` puts the last place out of force
+-- Each statement of these items throws and hands on known exceptions (`ThrowsKnown`). The end of a `try` puts the last place out of force.
 abbrev pub ItemsThrow : Form → ℕ → List ExceptionPlace → List Item → Type 0
 ItemsThrow program given places [] = Unit {0}
 ItemsThrow program given places (Leave ∷ k) = ItemsThrow program given (without_last places) k
 ItemsThrow program given places (Do n s ∷ k) = ThrowsKnown program given places s × ItemsThrow program given places k
 
--- and what there was to do at each place in force, where those outside of it are in force
+-- The items of each exception place throw and hand on known exceptions, where only the places outside of it are in force.
 abbrev pub PlacesThrow : Form → ℕ → List ExceptionPlace → Type 0
 PlacesThrow program given places = (i : ℕ) (e : ExceptionPlace) → slice_get places i ≡ Some e → ItemsThrow program given (take i places) e.todo
 
@@ -34,14 +34,14 @@ abbrev pub AreLabels : List ℕ → Type 0
 AreLabels [] = Unit {0}
 AreLabels (x ∷ xs) = (1 ≤ x) × AreLabels xs
 
--- the unit has a label for each exception that it is given
+-- The frame has a label for each exception that its unit is given. Its items throw and hand on known exceptions, and so do those of its exception places.
 pub record FrameLabels (program : Form) (f : Frame) : Type 0 where
   pub todo : ItemsThrow program (unit_at program f.unit).throws f.places f.todo
   pub places : PlacesThrow program (unit_at program f.unit).throws f.places
   pub many : length f.labels ≡ (unit_at program f.unit).throws
   pub labels : AreLabels f.labels
 
--- so it is with each unit that the process is in; the places in force are counted from the first unit on
+-- Each frame of the process has its labels (`FrameLabels`). Its `outer` is the number of exception places in the frames of its callers.
 abbrev pub FramesLabels : Form → Frame → List Frame → Type 0
 FramesLabels program f [] = FrameLabels program f × (f.outer ≡ 0)
 FramesLabels program f (caller ∷ callers) = FrameLabels program f × (f.outer ≡ caller.outer + length caller.places) × FramesLabels program caller callers

@@ -26,13 +26,13 @@ abbrev pub item_right : Form → UnitOf → UWhat-F UWhat UStmt → List ℕ →
 item_right program u (UWhat-F.For first test step body) xs = option_right u xs test && (all_scoped program u step xs && all_scoped program u body xs)
 item_right program u w xs = (scoped_kind program u w).right xs
 
--- the statement names what is in scope, and each of that has what is asked, or one of these statements before it declares it
+-- The statement is right where the slots `slots` are in scope (`item_right`). Each of these slots has what `Has` asks for, or is among the declared ones.
 pub record ItemScoped (program : Form) (u : UnitOf) (Has : ℕ → Type 0) (declared : List ℕ) (s : UStmt) : Type 0 where
   pub slots : List ℕ
   pub known : (x : ℕ) → is_among slots x ≡ true → Has x ⊎ (is_among declared x ≡ true)
   pub right : item_right program u (out-UWhat s.what) slots ≡ true
 
--- so does all that is to be done, where these are declared before it
+-- Each statement of these items names what is in scope (`ItemScoped`), where the slots `declared` and those of the statements before it are declared.
 abbrev pub ItemsScoped : Form → UnitOf → (ℕ → Type 0) → List ℕ → List Item → Type 0
 ItemsScoped program u Has declared [] = Unit {0}
 ItemsScoped program u Has declared (Leave ∷ k) = ItemsScoped program u Has declared k
@@ -59,7 +59,7 @@ next_takes [] = None
 next_takes (Leave ∷ k) = None
 next_takes (Do n s ∷ k) = what_takes (out-UWhat s.what)
 
--- what there was to do at each exception place, where a `try` was next, whose handler has the place's variable
+-- The items of each exception place name what is in scope. The first item declares nothing. The slot of its handler's variable is that of the place's variable, if there is one.
 abbrev pub PlacesScoped : Form → UnitOf → (ℕ → Type 0) → List ExceptionPlace → Type 0
 PlacesScoped program u Has [] = Unit {0}
 PlacesScoped program u Has (p ∷ places) = ItemsScoped program u Has [] p.todo × (next_declares program u p.todo ≡ []) × (next_takes p.todo ≡ slot_taken p.variable) × PlacesScoped program u Has places

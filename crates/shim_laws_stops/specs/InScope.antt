@@ -74,14 +74,14 @@ abbrev pub have_numbers : UnitOf → List ℕ → List ℕ → Bool
 have_numbers u xs [] = true
 have_numbers u xs (y ∷ ys) = has_number u xs y && have_numbers u xs ys
 
--- so is each variable that the expression reads
+-- each variable that the expression reads is in scope and holds a number
 abbrev pub reads_right : UnitOf → List ℕ → UExpr → Bool
 reads_right u xs e = have_numbers u xs (variables_read e)
 
 abbrev pub option_right : UnitOf → List ℕ → Option UExpr → Bool
 option_right u xs e = have_numbers u xs (variables_in_option e)
 
--- arguments
+-- the argument is in scope and of the kind of its parameter
 
 abbrev pub argument_right : UnitOf → List ℕ → UParam → Arg → Bool
 argument_right u xs p (Ref x) = is_among xs x && same_kind p.sort (slice_get u.slots x)

@@ -85,7 +85,7 @@ ArgumentHasLocation l p (Ref x) = is_number (Some p.sort) ≡ true → HasItsLoc
 ArgumentHasLocation l p (Pass x) = HasItsLocation l x
 ArgumentHasLocation l p (Fresh e) = Unit {0}
 
--- so do all of them, and there is one for each parameter
+-- there is one argument for each parameter, and each argument has its location (`ArgumentHasLocation`)
 abbrev pub AllHaveLocations : LocalState → List UParam → List Arg → Type 0
 AllHaveLocations l [] [] = Unit {0}
 AllHaveLocations l [] (a ∷ rest) = ⊥

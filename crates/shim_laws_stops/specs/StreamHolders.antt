@@ -50,7 +50,7 @@ takes s program n = takes_stream s (unit_at program n).params
 abbrev pub HasOneSlot : Stream → UnitOf → Type 0
 HasOneSlot s u = (x y : ℕ) → is_at s (slice_get u.slots x) ≡ true → is_at s (slice_get u.slots y) ≡ true → x ≡ y
 
--- a unit that takes the stream was called by one that takes it
+-- Each of these units, the innermost first, has at most one slot for the stream. A unit that takes the stream was called by a unit that takes it.
 abbrev pub UnitsTake : Stream → Form → ℕ → List ℕ → Type 0
 UnitsTake s program n [] = HasOneSlot s (unit_at program n)
 UnitsTake s program n (m ∷ ms) = HasOneSlot s (unit_at program n) × (takes s program n ≡ true → takes s program m ≡ true) × UnitsTake s program m ms
@@ -82,7 +82,7 @@ OneTakes s program [] ks = ⊥
 OneTakes s program (b ∷ branches) [] = ⊥
 OneTakes s program (b ∷ branches) (k ∷ ks) = ((first_unit k ≡ b.call.unit) × (k.program ≡ program) × (takes s program b.call.unit ≡ true)) ⊎ OneTakes s program branches ks
 
--- of one that waits for children one of these has it, or itself
+-- If the first unit of a forked process takes the stream, the process has it, or one of these children began in a unit that takes it.
 pub record LendsStream (s : Stream) (l : LocalState) (ks : List LocalState) : Type 0 where
   pub named : HasLocations l
   pub taking : IsTaking s l

@@ -1,4 +1,4 @@
--- How the records change with an event, as relations between those before and behind it: who is new, who stayed, and nobody else.
+-- How the records change with an event: relations between the records before it and those after it. Each relation names the records that change, and leaves all others in use as they were.
 use Rattle.std.specs.Prelude.{◌≡◌, ◌≢◌, ◌⊎◌, ℕ, ℤ, ◌+◌, ◌-◌, ◌<◌, true, Option, Some, None, List, [], ◌∷◌, ◌++◌, length, slice_get, take, drop}
 use Rattle.shim_base.specs.Paths.{Path, Channel}
 use Rattle.shim_local.specs.Process.{Ops, Parted, AtFork}
@@ -12,7 +12,7 @@ use Rattle.shim_laws_table.specs.NodeStatus.{ProcessStatus, lives, forks, ends, 
 use Rattle.shim_laws_table.specs.Agrees.{RecordView, free, used, Has, Agrees, Represents}
 use Rattle.shim_laws_table.specs.Places.{IsReplaced, IsBy, got, killed}
 
--- the record i says this now, and no other record has changed
+-- The record i has the state s and the status k afterwards. No other record has changed.
 pub record HasChanged {S : Type 0} (before after : List S) (old_views views : List RecordView) (i : ℕ) (s : S) (k : ProcessStatus) : Type 0 where
   pub first : ℕ
   pub mine : Has after views i first s k
@@ -27,7 +27,7 @@ pub record HasForked {S : Type 0} (before after : List S) (old_views views : Lis
   pub only : (j d : ℕ) (t : S) (x : ProcessStatus) → Has after views j d t x
       → ((j ≡ i) × (t ≡ p) × (x ≡ forks (length ks))) ⊎ (((b : ℕ) × (slice_get ks b ≡ Some t) × (j ≡ g + b) × (x ≡ lives)) ⊎ ((j ≢ i) × Has before old_views j d t x))
 
--- the record i, of a process whose fork closed, says what came of it, and those of its n children from g on are free; no other record has changed
+-- The record i, of a process whose fork closed, has the state s and the status k afterwards. The records of its n children, from g on, are free. No other record has changed.
 pub record HasClosed {S : Type 0} (before after : List S) (old_views views : List RecordView) (i g n : ℕ) (s : S) (k : ProcessStatus) : Type 0 where
   pub first : ℕ
   pub parent : Has after views i first s k
@@ -40,13 +40,13 @@ pub record HaveReceived {S : Type 0} (o : Ops S) (c : Channel) (v : ℤ) (views 
   pub gets : (i f : ℕ) (s : S) (k : ProcessStatus) → Has before views i f s k → slice_get after i ≡ Some (got o c v k s)
   pub had : (i : ℕ) (s : S) → slice_get after i ≡ Some s → (r : S) × (slice_get before i ≡ Some r)
 
--- each live process from the place q on that shares c has died so, and nothing else has changed
+-- Each live process at or below the place q that shares c has died the death d. No other status has changed.
 pub record HaveDied {S : Type 0} (o : Ops S) (rp : Path) (q : List ℕ) (c : Channel) (d : Death) (states : List S) (old_views views : List RecordView) : Type 0 where
   pub below : (i f : ℕ) (s : S) (k : ProcessStatus) (r : List ℕ) → Has states old_views i f s k → place o rp s ≡ q ++ r → slice_get views i ≡ Some (used f (killed o c d s k))
   pub aside : (i f : ℕ) (s : S) (k : ProcessStatus) → Has states old_views i f s k → ((r : List ℕ) → place o rp s ≢ q ++ r) → slice_get views i ≡ Some (used f k)
   pub had : (i f : ℕ) (k : ProcessStatus) → slice_get views i ≡ Some (used f k) → (h : ProcessStatus) × (slice_get old_views i ≡ Some (used f h))
 
--- of some deaths and others the label of the outermost exception prevails
+-- The prevailing death of a record and of the records after it: if the process of the record died, the death of the outermost exception prevails.
 abbrev pub prevailing_with : RecordView → Option Death → Option Death
 prevailing_with free d = d
 prevailing_with (used f lives) d = d
@@ -63,7 +63,7 @@ prevailing_among (x ∷ xs) = prevailing_with x (prevailing_among xs)
 abbrev pub segment : {A : Type 0} → ℕ → ℕ → List A → List A
 segment g n xs = take n (drop g xs)
 
--- Records that show a tree and have changed so show the tree after the event.
+-- Records represent a tree and change as an event changes them. Then they represent the tree after the event.
 pub record EventsPreserve {S : Type 0} (o : Ops S) : Type 0 where
   -- a live process's own step that is no fork, or its end
   pub stepped : (rp : Path) (before behind : List S) (old_views views : List RecordView) (t u : Tree S) (e : Event) (i f : ℕ) (l : S) (a : Acted S)
@@ -85,7 +85,7 @@ pub record EventsPreserve {S : Type 0} (o : Ops S) : Type 0 where
       → Represents o rp states old_views t.root → Has states old_views i g l (forks n) → b < n → Has states old_views (g + b) f k x → after o (Poison (o.path k) c) t ≡ Some u
       → HaveDied o rp (place o rp k) c (death (o.handlers l - 1)) states old_views views → Represents o rp states views u.root
 
--- What the records of a fork's children say of them: they lie together, side by side in both lists.
+-- The states and the records of a fork's children lie together in both lists, from the number g on. The number of children, their states and their prevailing death are read off there.
 abbrev pub ChildrenAreRepresented : {S : Type 0} → Ops S → Type 0
 ChildrenAreRepresented {S} o = (rp : Path) (states' : List S) (views : List RecordView) (root : Node S) (i g n : ℕ) (l : S) (ks : Nodes S)
     → Agrees o rp states' views root → Has states' views i g l (forks n) → at (place o rp l) root ≡ Some (Forked l ks)

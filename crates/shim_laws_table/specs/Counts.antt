@@ -79,11 +79,11 @@ pub record IsExchanged (was is : ChildStatus) (y z : Tally) : Type 0 where
   pub not_ready : z.not_ready + bit (not_ready_on was) ≡ y.not_ready + bit (not_ready_on is)
   pub dead : z.dead + bit was.dead_on ≡ y.dead + bit is.dead_on
 
--- what a fork with these counts is read as, by its own fork
+-- What a fork reads of a child that has forked and has these counts. The truth value is whether the child shares the channel.
 abbrev pub fork_status : Bool → Tally → ChildStatus
 fork_status shares y = record { alive = shares; ready_on = tally_ready y; dead_on = false }
 
--- the counts of children that a fork has just made, of how many of their states a test is true
+-- the counts of the children that a fork has just made, computed from their states alone
 abbrev pub fresh_tally : {S : Type 0} → Ops S → Channel → List S → Tally
 fresh_tally o c ks = record { live = how_many (λ s. o.shares s c) ks; not_ready = how_many (λ s. o.shares s c && not (is_next (o.stop s) c)) ks; dead = 0 }
 
@@ -94,7 +94,7 @@ pub record CountsTell {S : Type 0} (o : Ops S) : Type 0 where
   -- where a node at or below a child changes, the counts move with what is read of the child
   pub moves : (c : Channel) (l : S) (ks js : Nodes S) (b : ℕ) (p : List ℕ) (m a k h : Node S) → IsReplaced (b ∷ p) m a (Forked l ks) (Forked l js)
       → child_at b [] ks ≡ Some k → child_at b [] js ≡ Some h → IsExchanged (child_status o c k) (child_status o c h) (tally_of o c ks) (tally_of o c js)
-  -- and so many go on as before, but for the child
+  -- There, too, the number of children that go on changes by that child alone.
   pub running_children : (l : S) (ks js : Nodes S) (b : ℕ) (p : List ℕ) (m a k h : Node S) → IsReplaced (b ∷ p) m a (Forked l ks) (Forked l js)
       → child_at b [] ks ≡ Some k → child_at b [] js ≡ Some h → running_of js + bit (goes k) ≡ running_of ks + bit (goes h)
   -- of new children the states alone decide

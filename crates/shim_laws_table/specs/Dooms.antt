@@ -28,14 +28,14 @@ abbrev mutual
   min_dead_label_among o c no_node = None
   min_dead_label_among o c (node_and k ks) = lesser (min_dead_label o c k) (min_dead_label_among o c ks)
 
--- there is a label, and it is one of so many handlers'
+-- there is a label, and it is below h, the number of exception places in force
 abbrev pub is_below : Option ℕ → ℕ → Bool
 is_below None h = false
 is_below (Some x) h = ltb x h
 
 -- What the least labels of dead sharers say of who is doomed:
 pub record MinLabelsDecide {S : Type 0} (o : Ops S) : Type 0 where
-  -- where a death dooms, the least label does
+  -- A node, or some children, doom at a fork with h exception places in force exactly if their least label is below h.
   pub here : (h : ℕ) (c : Channel) (n : Node S) → dooms o h c n ≡ is_below (min_dead_label o c n) h
   pub among : (h : ℕ) (c : Channel) (ks : Nodes S) → any_dooms o h c ks ≡ is_below (min_dead_label_among o c ks) h
   -- so a child can be poisoned exactly where its fork shares the channel, it is ready, and the least label below the fork is one of its handlers'
@@ -44,13 +44,13 @@ pub record MinLabelsDecide {S : Type 0} (o : Ops S) : Type 0 where
   -- below a fork that doesn't count a channel, which was declared by none below it, no dead process shares it
   pub uncounted : (root : Node S) (q : List ℕ) (l : S) (ks : Nodes S) (c : Channel) → IsSound o root → at q root ≡ Some (Forked l ks) → ((x : ℕ × ℕ) (r : Path) → c.home ≢ o.path l ++ x ∷ r) → (IsCounted o l ks c → ⊥) → min_dead_label_among o c ks ≡ None
 
--- Another node is in a place. What that does to the least label of each fork:
+-- How the least label of each fork changes, where another node is put in a place:
 pub record MinLabelsFollow {S : Type 0} (o : Ops S) : Type 0 where
-  -- where there was none at the place, the label that came is taken into all forks above
+  -- If no sharer at or below the old node is dead, each fork above takes in the least label of the new node.
   pub taken_in : (c : Channel) (old new m a : Node S) (q r : List ℕ) (l : S) (ks js : Nodes S) → IsReplaced q m a old new → min_dead_label o c m ≡ None → is_above r q ≡ true
       → at r old ≡ Some (Forked l ks) → at r new ≡ Some (Forked l js) → min_dead_label_among o c js ≡ lesser (min_dead_label_among o c ks) (min_dead_label o c a)
-  -- where there is the same at the place, it is the same in all forks above
+  -- If the old and the new node have the same least label, the label of each fork above stays.
   pub stays : (c : Channel) (old new m a : Node S) (q r : List ℕ) (l : S) (ks js : Nodes S) → IsReplaced q m a old new → min_dead_label o c a ≡ min_dead_label o c m → is_above r q ≡ true
       → at r old ≡ Some (Forked l ks) → at r new ≡ Some (Forked l js) → min_dead_label_among o c js ≡ min_dead_label_among o c ks
-  -- and no fork changes that is neither above the place nor there nor below
+  -- A node that is neither above the place nor at or below it doesn't change.
   pub aside : (old new m a : Node S) (q r : List ℕ) → IsReplaced q m a old new → is_above r q ≡ false → IsAside r q → at r new ≡ at r old

@@ -14,7 +14,7 @@ use Rattle.shim_laws_table.specs.Dooms.{min_dead_label_among, is_below}
 abbrev pub Can : {S : Type 0} → Ops S → Tree S → Event → Type 0
 Can o t e = after o e t ≢ None
 
--- In records that represent a tree, which events are enabled by each of them. A process steps or ends by its stop; a fork closes when none of its children goes on; a channel meets where the process that declared it is at it, or its fork's children are all there; and a child is poisoned where it is ready, and a death below its fork dooms it.
+-- Which events are enabled, by the records that represent a tree. The stop of a live process decides whether it does a step of its own or ends. A fork closes exactly if none of its children goes on. A channel has a rendezvous exactly if the process that declared it waits at it, or has forked and is ready by its counts. A child is poisoned exactly if its fork shares the channel, the child is ready, and the least label below the fork is in force there.
 pub record EnabledByRecords {S : Type 0} (o : Ops S) : Type 0 where
   pub steps : (rp : Path) (records : List S) (views : List RecordView) (t : Tree S) (i f : ℕ) (l : S) → Represents o rp records views t.root → Has records views i f l lives → Can o t (Own (o.path l)) ↔ (own_action_at (o.stop l) ≡ Steps)
   pub ends : (rp : Path) (records : List S) (views : List RecordView) (t : Tree S) (i f : ℕ) (l : S) → Represents o rp records views t.root → Has records views i f l lives → Can o t (End (o.path l)) ↔ (own_action_at (o.stop l) ≡ Ends)
@@ -40,18 +40,18 @@ EnabledAreFound {S} o = (rp : Path) (records : List S) (views : List RecordView)
 
 -- Nothing new can happen at records that are as before. Of two trees shown by records:
 pub record NothingNew {S : Type 0} (o : Ops S) : Type 0 where
-  -- a live process with the same state does what it did
+  -- a live process with the same state has no new own step and no new end
   pub steps : (rp : Path) (before behind : List S) (old_views views : List RecordView) (t u : Tree S) (i f g : ℕ) (l : S) → Represents o rp before old_views t.root → Represents o rp behind views u.root → Has before old_views i f l lives → Has behind views i g l lives
       → (Can o u (Own (o.path l)) → Can o t (Own (o.path l))) × (Can o u (End (o.path l)) → Can o t (End (o.path l)))
-  -- so does a fork with the same state, as many of whose children go on
+  -- A fork with the same state has no new close, if as many of its children go on.
   pub closes : (rp : Path) (before behind : List S) (old_views views : List RecordView) (t u : Tree S) (i f g n : ℕ) (l : S) (ks js : Nodes S) → Represents o rp before old_views t.root → Represents o rp behind views u.root → Has before old_views i f l (forks n) → Has behind views i g l (forks n)
       → at (place o rp l) t.root ≡ Some (Forked l ks) → at (place o rp l) u.root ≡ Some (Forked l js) → running_of js ≡ running_of ks → Can o u (Close (o.path l)) → Can o t (Close (o.path l))
-  -- a channel's home that lives with the same state, or is a fork that counts as much for it
+  -- A channel has no new rendezvous if the process that declared it lives with the same state, or has forked with the same state and counts.
   pub meets_alone : (rp : Path) (before behind : List S) (old_views views : List RecordView) (t u : Tree S) (c : Channel) (i f g : ℕ) (l : S) → Represents o rp before old_views t.root → Represents o rp behind views u.root → Has before old_views i f l lives → Has behind views i g l lives
       → o.path l ≡ c.home → Can o u (Meet c) → Can o t (Meet c)
   pub meets_forked : (rp : Path) (before behind : List S) (old_views views : List RecordView) (t u : Tree S) (c : Channel) (i f g n : ℕ) (l : S) (ks js : Nodes S) → Represents o rp before old_views t.root → Represents o rp behind views u.root → Has before old_views i f l (forks n) → Has behind views i g l (forks n)
       → o.path l ≡ c.home → at (place o rp l) t.root ≡ Some (Forked l ks) → at (place o rp l) u.root ≡ Some (Forked l js) → tally_of o c js ≡ tally_of o c ks → Can o u (Meet c) → Can o t (Meet c)
-  -- and a child of a fork with the same state and the same least label, of which child the same is read
+  -- A child has no new poison if its fork has the same state and least label, and the child is ready exactly if it was.
   pub poisons : (rp : Path) (before behind : List S) (old_views views : List RecordView) (t u : Tree S) (c : Channel) (i d g n b f h : ℕ) (l j k : S) (x y : ProcessStatus) (ks js : Nodes S) (m a : Node S) → Represents o rp before old_views t.root → Represents o rp behind views u.root
       → Has before old_views i d l (forks n) → Has behind views i g l (forks n) → b < n → Has before old_views (d + b) f j x → Has behind views (g + b) h k y → o.path k ≡ o.path j
       → at (place o rp l) t.root ≡ Some (Forked l ks) → at (place o rp l) u.root ≡ Some (Forked l js) → child_at b [] ks ≡ Some m → child_at b [] js ≡ Some a

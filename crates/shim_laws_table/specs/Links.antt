@@ -23,7 +23,7 @@ pub record LinksFollow {S : Type 0} (o : Ops S) : Type 0 where
       → HasForked before behind old_views views i g p ks → ((b : ℕ) → b < length ks → now (g + b) ≡ Some i) → ((j d : ℕ) (s : S) (k : ProcessStatus) → Has before old_views j d s k → now j ≡ up j)
       → AreLinked before old_views up → AreLinked behind views now
 
--- Another node is in a place: of the fork right above so many children go on as before, but for this one, and of each other fork above as many as before.
+-- Another node is put in a place. In the fork right above, the number of children that go on changes by that child alone. In each other fork above, that number stays.
 pub record RunningFollow {S : Type 0} (o : Ops S) : Type 0 where
   pub right_above : (old new m a : Node S) (r : List ℕ) (b : ℕ) (l : S) (ks js : Nodes S) → IsReplaced (r ++ b ∷ []) m a old new → at r old ≡ Some (Forked l ks) → at r new ≡ Some (Forked l js)
       → running_of js + bit (goes m) ≡ running_of ks + bit (goes a)

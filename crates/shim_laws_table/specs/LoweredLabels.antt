@@ -12,7 +12,7 @@ use Rattle.shim_laws_table.specs.Tallied.{is_above, HaveCounts}
 use Rattle.shim_laws_table.specs.Updating.{AreLinked}
 use Rattle.shim_laws_table.specs.Dooms.{lesser, min_dead_label, min_dead_label_among}
 
--- What records keep for a channel: a number's label. Where a fork counts the channel, it is the least one of the node in its place, of the tree for each place.
+-- The labels that records keep for a channel, by the records' numbers. The record of a fork that counts the channel has the least label among the children of its node. For each place `tree` gives the tree in which that node is.
 abbrev pub LabelledIn : {S : Type 0} → Ops S → Path → List S → List RecordView → Channel → (ℕ → Option Tally) → (ℕ → Option ℕ) → (List ℕ → Node S) → Type 0
 LabelledIn {S} o rp records views c counts labels tree = (i f n : ℕ) (s : S) (l : S) (ks : Nodes S) → Has records views i f s (forks n) → counts i ≢ None → at (place o rp s) (tree (place o rp s)) ≡ Some (Forked l ks) → labels i ≡ min_dead_label_among o c ks
 
@@ -37,7 +37,7 @@ pub data LoweredAbove (up : ℕ → Option ℕ) (counts : ℕ → Option Tally) 
   as_low : (n : ℕ) (before : ℕ → Option ℕ) (x j : ℕ) → up x ≡ Some j → counts j ≢ None → lesser (before j) y ≡ before j → LoweredAbove up counts y n before x before
   lowers : (n : ℕ) (before between behind : ℕ → Option ℕ) (x j : ℕ) → up x ≡ Some j → counts j ≢ None → IsLowered before j y between → LoweredAbove up counts y n between j behind → LoweredAbove up counts y (suc n) before x behind
 
--- Where a node without dead sharers made room for one, and that was taken into the labels above, all labels are those of the tree behind.
+-- A node without dead sharers is replaced by another node, and the least label of the new node is taken in above. Then all labels are those of the new tree.
 abbrev pub LabelsLowered : {S : Type 0} → Ops S → Type 0
 LabelsLowered {S} o = (rp : Path) (records : List S) (views : List RecordView) (up : ℕ → Option ℕ) (c : Channel) (old new m a : Node S) (n x f : ℕ) (s : S) (k : ProcessStatus) (counts : ℕ → Option Tally) (before behind : ℕ → Option ℕ)
     → Represents o rp records views new → AreLinked records views up → Has records views x f s k → IsReplaced (place o rp s) m a old new → min_dead_label o c m ≡ None → o.shares s c ≡ true

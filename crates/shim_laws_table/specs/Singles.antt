@@ -18,5 +18,5 @@ pub record SingleChangesAreRepresented {S : Type 0} (o : Ops S) : Type 0 where
   -- one process dies of an exception for which it has no handler
   pub died : (rp : Path) (before behind : List S) (old_views views : List RecordView) (old new : Node S) (i f : ℕ) (l : S) (d : Death) → Represents o rp before old_views old → Has before old_views i f l lives → d.label < o.base l
       → IsReplaced (place o rp l) (Live l) (Dead l d) old new → HasChanged before behind old_views views i l (dies d) → Represents o rp behind views new
-  -- as none below a fork has, for the labels that the fork handles
+  -- the base of each process below a fork is at least the number of handlers in force at the fork
   pub handled : (root m : Node S) (q : List ℕ) (l : S) (ks : Nodes S) (b : ℕ) (r : List ℕ) → IsSound o root → at q root ≡ Some (Forked l ks) → child_at b r ks ≡ Some m → o.handlers l ≤ o.base (state m)

@@ -9,7 +9,7 @@ use Rattle.shim_laws_table.specs.NodeStatus.{forks, place}
 use Rattle.shim_laws_table.specs.Agrees.{RecordView, Has}
 use Rattle.shim_laws_table.specs.Counts.{Tally, tally_of}
 
--- What records keep for a channel: a number's counts, if it has any. They are those of the nodes in the places, of the tree for each place.
+-- The counts that records keep for a channel, by the records' numbers. If the record of a fork has counts, they are those of the children of its node. For each place `tree` gives the tree in which that node is.
 abbrev pub TalliedIn : {S : Type 0} → Ops S → Path → List S → List RecordView → Channel → (ℕ → Option Tally) → (List ℕ → Node S) → Type 0
 TalliedIn {S} o rp records views c counts tree = (i f n : ℕ) (s : S) (y : Tally) (l : S) (ks : Nodes S) → Has records views i f s (forks n) → counts i ≡ Some y
     → at (place o rp s) (tree (place o rp s)) ≡ Some (Forked l ks) → y ≡ tally_of o c ks

@@ -35,7 +35,7 @@ pub record AreMoved (most : ℕ) (before : ℕ → Option Tally) (j : ℕ) (was 
   pub moved : CanMove most was is y → IsExchanged was is y z
   pub others : (i : ℕ) → i ≢ j → behind i ≡ before i
 
--- From the record x, of which was read the one and is read the other, at most so many forks up: each one's counts are moved, until there is no fork further up, or one without counts, or one that is read as before.
+-- Of the record x `was` was read before, and `is` is read afterwards. The counts of at most so many forks above x are moved (`AreMoved`), one after another. The way up ends at the root, below a fork without counts, or at a fork that is ready exactly if it was.
 pub data UpdatedAbove (up : ℕ → Option ℕ) (most : ℕ) : ℕ → (ℕ → Option Tally) → ℕ → ChildStatus → ChildStatus → (ℕ → Option Tally) → Type 0 where
   too_far : (before : ℕ → Option Tally) (x : ℕ) (was is : ChildStatus) → UpdatedAbove up most zero before x was is before
   at_top : (n : ℕ) (before : ℕ → Option Tally) (x : ℕ) (was is : ChildStatus) → up x ≡ None → UpdatedAbove up most n before x was is before

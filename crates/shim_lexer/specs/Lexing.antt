@@ -32,7 +32,7 @@ abbrev pub fault_kept : Option LexFault → Option Fault
 fault_kept None = None
 fault_kept (Some f) = Some (fault_of f)
 
--- A token of the text is the next one from this place on: whatever is read behind it, up to whatever end, the text from this place on is cut into it and then that.
+-- The token is the next one of the text from this place on. Let the text after the token be cut into some tokens up to some end. Then the text from the place on is cut into the token and these, up to the same end.
 pub record IsNext (text : List ℕ) (place : Place) (t : Given) : Type 0 where
   pub behind_place : place.at ≤ t.at
   pub some : t.at < t.past
@@ -48,13 +48,13 @@ Finds text place (Ok (Some t)) = IsNext text place t
 Finds text place (Ok None) = Cuts place (drop place.at text) [] None
 Finds text place (Err f) = Cuts place (drop place.at text) [] (Some (fault_of f))
 
--- what was found stands in the text, on a line that the text can have
+-- the token or the fault is within the text, and its line is at most one above the number of bytes before its end
 abbrev pub IsInText : List ℕ → Result (Option Given) LexFault → Type 0
 IsInText text (Ok (Some t)) = (t.past ≤ length text) × (t.line ≤ 1 + t.past)
 IsInText text (Ok None) = Unit {0}
 IsInText text (Err f) = (f.at ≤ length text) × (f.line ≤ 1 + f.at)
 
--- where the reading stands after that
+-- the reading after the answer: its place is after the token, at the end of the text, or at the fault, which is kept
 abbrev pub place_behind : Lexing → Result (Option Given) LexFault → Lexing
 place_behind old (Ok (Some t)) = record old { place = record { at = t.past; line = t.line } }
 place_behind old (Ok None) = record old { place = place_after old.place (unread old) }

@@ -15,7 +15,7 @@ death_with x v = record { label = x; given = Some v }
 abbrev pub handed : Option ℤ → ℤ
 handed given = unwrap_or given (pos 0)
 
--- The number of the outermost of two exceptions. Of the same exception it is that of the first of the two, where this has one.
+-- The number of the death with the lesser label. If the labels are equal, it is the first death's number, or the second's if the first has none.
 abbrev pub outermost_given : Death → Death → Option ℤ
 outermost_given d e = cond (ltb d.label e.label) d.given (cond (ltb e.label d.label) e.given (option_or d.given e.given))
 

@@ -1,4 +1,4 @@
--- What holds of every kind of process.
+-- The laws that each kind of process meets (`LocalLaws`), and the relations between states by which they are stated.
 use Rattle.std.specs.Prelude.{◌≡◌, ◌≢◌, ◌<◌, ◌≤◌, ◌⊎◌, ◌↔◌, ℕ, suc, ℤ, ◌+◌, Bool, true, false, List, [], ◌∷◌, ◌++◌, Some, None, if◌then◌else◌, slice_get}
 use Rattle.shim_base.specs.declared.operators.Trap.{Trap}
 use Rattle.shim_base.specs.Paths.{Path, Channel, NamedChannel}
@@ -19,17 +19,17 @@ abbrev pub how_many : {S : Type 0} → (S → Bool) → List S → ℕ
 how_many f [] = 0
 how_many f (k ∷ ks) = if f k then suc (how_many f ks) else how_many f ks
 
--- a put, a meeting or the number of a throw made the second state of the first
+-- The second state is the first after its `put`, after its rendezvous with some value, or after the computing of the number that it throws.
 pub data Called {S : Type 0} (o : Ops S) (l m : S) : Type 0 where
   by_put : o.stop l ≡ AtPut → m ≡ o.put l → Called o l m
   by_receive : (c : NamedChannel) (v : ℤ) → o.stop l ≡ AtNext c → m ≡ o.receive l v → Called o l m
   by_thrown : (label : ℕ) → o.stop l ≡ AtThrow label → m ≡ o.thrown l → Called o l m
 
--- an exception of this label was caught with this number, which made the second state of the first
+-- the second state is the first after it caught an exception of some label with some number
 pub data Unwound {S : Type 0} (o : Ops S) (l m : S) : Type 0 where
   by_label : (label : ℕ) (v : ℤ) → o.base l ≤ label → label < o.handlers l → m ≡ o.unwind l label v → Unwound o l m
 
--- one call made the second state of the first
+-- The second state is the first after one call: a quiet step, a `put`, a rendezvous, the computing of a thrown number, a catch, a fork or its trap, or a join.
 pub data Moved {S : Type 0} (o : Ops S) (l m : S) : Type 0 where
   by_quiet : o.stop l ≡ AtQuiet → m ≡ o.quiet l → Moved o l m
   by_call : Called o l m → Moved o l m
@@ -38,11 +38,11 @@ pub data Moved {S : Type 0} (o : Ops S) (l m : S) : Type 0 where
   by_trap : o.stop l ≡ AtFork → o.fork l ≡ Trapped m → Moved o l m
   by_join : (children : List S) (goes_on : Bool) → AllOf o.sound children → o.born l children → m ≡ o.join l children goes_on → Moved o l m
 
--- the process forked, and stands so with these children
+-- the state l is at a fork, which leaves the parent p and makes the children ks
 abbrev pub Forks : {S : Type 0} → Ops S → S → S → List S → Type 0
 Forks o l p ks = (o.stop l ≡ AtFork) × (o.fork l ≡ Parted p ks)
 
--- These have the paths of children of the process with this path, by its fork of number f, and this base: their places count from i.
+-- Each of these processes has this base, and the path of a child of the process with path p, by its fork of number f. The first is in branch i, and each other one in the branch after that of its predecessor.
 abbrev pub AreChildren : {S : Type 0} → Ops S → Path → ℕ → ℕ → ℕ → List S → Type 0
 AreChildren o p base f i [] = Unit {0}
 AreChildren o p base f i (k ∷ ks) = (o.path k ≡ p ++ (f, i) ∷ []) × (o.base k ≡ base) × AreChildren o p base f (i + 1) ks
@@ -69,7 +69,7 @@ pub record LocalLaws {S : Type 0} (o : Ops S) : Type 0 where
   -- A root was given no channels. Any other process shares a channel of another process exactly where it was given that.
   pub root_given : (l : S) → o.sound l → o.path l ≡ [] → o.given l ≡ []
   pub given_shared : (l : S) (c : Channel) → o.sound l → o.path l ≢ [] → c.home ≢ o.path l → (o.shares l c ≡ true) ↔ IsGiven o l c
-  -- the exception places in force
+  -- At least one exception place is in force around a process. A fork, its trap, and a join that stays at the fork leave the number of places in force as it is.
   pub base_least : (l : S) → o.sound l → 1 ≤ o.base l
   pub base_most : (l : S) → o.sound l → o.base l ≤ o.handlers l
   pub fork_handlers : (l p : S) (ks : List S) → o.sound l → Forks o l p ks → o.handlers p ≡ o.handlers l
@@ -87,7 +87,7 @@ pub record LocalLaws {S : Type 0} (o : Ops S) : Type 0 where
   -- computing the number of a throw changes nothing if there is one, and else leaves the process trapped
   pub thrown_same : (l : S) (x : ℕ) (v : ℤ) → o.sound l → o.stop l ≡ AtThrow x → o.number l ≡ Some v → o.thrown l ≡ l
   pub throw_traps : (l : S) (x : ℕ) → o.sound l → o.stop l ≡ AtThrow x → o.number l ≡ None → IsTrapped o (o.thrown l)
-  -- what it shares: a quiet step, and the way to a handler, add channels of its own alone, and lose none; no other call changes anything
+  -- Which channels a process shares: a quiet step and a catch keep each channel, and add only channels whose home is the process. No other call changes which channels a process shares.
   pub quiet_shares : (l : S) (c : Channel) → o.sound l → o.stop l ≡ AtQuiet → o.shares l c ≡ true → o.shares (o.quiet l) c ≡ true
   pub quiet_adds : (l : S) (c : Channel) → o.sound l → o.stop l ≡ AtQuiet → o.shares l c ≡ false → o.shares (o.quiet l) c ≡ true → c.home ≡ o.path l
   pub call_shares : (l m : S) (c : Channel) → o.sound l → Called o l m → o.shares m c ≡ o.shares l c
@@ -96,16 +96,16 @@ pub record LocalLaws {S : Type 0} (o : Ops S) : Type 0 where
   pub fork_shares : (l p : S) (ks : List S) (c : Channel) → o.sound l → Forks o l p ks → o.shares p c ≡ o.shares l c
   pub fork_trap_shares : (l m : S) (c : Channel) → o.sound l → o.stop l ≡ AtFork → o.fork l ≡ Trapped m → o.shares m c ≡ o.shares l c
   pub join_shares : (l : S) (ks : List S) (goes_on : Bool) (c : Channel) → o.sound l → AllOf o.sound ks → o.born l ks → o.shares (o.join l ks goes_on) c ≡ o.shares l c
-  -- the children of a fork: there is one, and each has its path and base, and shares what the parent does and channels of its own; these are the given ones
+  -- A fork has at least one child. Each child has its path and its base. It shares only channels that the parent shares or whose home is the child, and exactly those that it was given.
   pub fork_some : (l p : S) (ks : List S) → o.sound l → Forks o l p ks → ks ≢ []
   pub fork_children : (l p : S) (ks : List S) → o.sound l → Forks o l p ks → (f : ℕ) × AreChildren o (o.path l) (o.handlers l) f 0 ks
   pub children_share : (l p : S) (ks : List S) (c : Channel) → o.sound l → Forks o l p ks → AllOf (λ k. o.shares k c ≡ true → (o.shares l c ≡ true) ⊎ (c.home ≡ o.path k)) ks
   pub children_given : (l p : S) (ks : List S) (c : Channel) → o.sound l → Forks o l p ks → AllOf (λ k. (o.shares k c ≡ true) ↔ IsGiven o k c) ks
-  -- they stay the children of their fork, whatever they do
+  -- The children that a fork makes are `born` of its parent, with the paths and the base of children. They stay born of it after each call of one of them.
   pub fork_born : (l p : S) (ks : List S) → o.sound l → Forks o l p ks → o.born p ks
   pub born_children : (l : S) (ks : List S) → o.born l ks → (f : ℕ) × AreChildren o (o.path l) (o.handlers l) f 0 ks
   pub born_moved : (l k m : S) (before after : List S) → o.sound k → o.born l (before ++ k ∷ after) → Moved o k m → o.born l (before ++ m ∷ after)
-  -- who carries a channel, and who holds the output: a fork hands it to one
+  -- If a process carries a channel at a fork, exactly one of the parent and the children carries it after the fork. The same holds of the output. Besides, a child may carry only a channel whose home is the child. Neither the parent nor a process that trapped at the fork gains a channel or the output.
   pub fork_hands_on : (l p : S) (ks : List S) (c : Channel) → o.sound l → Forks o l p ks → o.carries l c ≡ true → how_many (λ s. o.carries s c) (p ∷ ks) ≡ 1
   pub fork_hands_output : (l p : S) (ks : List S) → o.sound l → Forks o l p ks → o.holds_output l ≡ true → how_many o.holds_output (p ∷ ks) ≡ 1
   pub children_carry : (l p : S) (ks : List S) (c : Channel) → o.sound l → Forks o l p ks → AllOf (λ k. o.carries k c ≡ true → (o.carries l c ≡ true) ⊎ (c.home ≡ o.path k)) ks
@@ -114,12 +114,12 @@ pub record LocalLaws {S : Type 0} (o : Ops S) : Type 0 where
   pub fork_holds : (l p : S) (ks : List S) → o.sound l → Forks o l p ks → o.holds_output p ≡ true → o.holds_output l ≡ true
   pub fork_trap_carries : (l m : S) (c : Channel) → o.sound l → o.stop l ≡ AtFork → o.fork l ≡ Trapped m → o.carries m c ≡ true → o.carries l c ≡ true
   pub fork_trap_holds : (l m : S) → o.sound l → o.stop l ≡ AtFork → o.fork l ≡ Trapped m → o.holds_output m ≡ true → o.holds_output l ≡ true
-  -- and a join brings it back
+  -- After a join the parent carries a channel, or holds the output, only if it or one of its children did before.
   pub join_carries : (l : S) (ks : List S) (goes_on : Bool) (c : Channel) → o.sound l → AllOf o.sound ks → o.born l ks → o.carries (o.join l ks goes_on) c ≡ true
       → (o.carries l c ≡ true) ⊎ AnyOf (λ k. o.carries k c ≡ true) ks
   pub join_holds : (l : S) (ks : List S) (goes_on : Bool) → o.sound l → AllOf o.sound ks → o.born l ks → o.holds_output (o.join l ks goes_on) ≡ true
       → (o.holds_output l ≡ true) ⊎ AnyOf (λ k. o.holds_output k ≡ true) ks
-  -- no other call gives it more
+  -- No other call gives a process the output. None makes a process carry a channel but as `CarriesNoMore` allows.
   pub quiet_carries : (l : S) (c : Channel) → o.sound l → o.stop l ≡ AtQuiet → CarriesNoMore o l (o.quiet l) c
   pub call_carries : (l m : S) (c : Channel) → o.sound l → Called o l m → CarriesNoMore o l m c
   pub unwind_carries : (l m : S) (c : Channel) → o.sound l → Unwound o l m → CarriesNoMore o l m c

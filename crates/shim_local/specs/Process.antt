@@ -3,7 +3,7 @@ use Rattle.std.specs.Prelude.{ℕ, ℤ, Bool, List, Option}
 use Rattle.shim_base.specs.declared.operators.Trap.{Trap}
 use Rattle.shim_base.specs.Paths.{Path, Channel, NamedChannel}
 
--- at what a process stands
+-- the stop of a process: the kind of step that comes next, or that nothing is left to do, or that the process is trapped
 pub data StopView : Type 0 where
   AtQuiet : StopView
   AtNext : NamedChannel → StopView
@@ -20,7 +20,7 @@ pub data ForkedView (S : Type 0) : Type 0 where
   Parted : S → List S → ForkedView S
   Trapped : S → ForkedView S
 
--- The state after each call, and what the calls answer, for states of any kind. A call says nothing of a state that stands at another stop.
+-- The state after each call, and what the calls answer, for states of any kind. Of `quiet`, `put`, `receive`, `fork` and `thrown` the laws claim nothing for a state at another stop.
 pub record Ops (S : Type 0) : Type 1 where
   -- an invariant of states: each call keeps it, and the children of a fork have it
   pub sound : S → Type 0
@@ -30,17 +30,17 @@ pub record Ops (S : Type 0) : Type 1 where
   -- the byte that is put, or none where its expression traps; and the state after it
   pub byte : S → Option ℕ
   pub put : S → S
-  -- after the meeting at which it stands gave this value
+  -- the state after the rendezvous for which the process waits gave it this value
   pub receive : S → ℤ → S
   pub fork : S → ForkedView S
-  -- after the children's values came back: behind the fork, or still at it
+  -- the state after the children's values came back: the process goes on after the fork if the flag is set, and else stays at the fork
   pub join : S → List S → Bool → S
   -- these represent the children of the last fork, one for each and in their order, whatever calls they have had since
   pub born : S → List S → Type 0
   -- the number that the throw at which it stands gives, or none where its expression traps; and the state after that was computed
   pub number : S → Option ℤ
   pub thrown : S → S
-  -- at the handler of the exception of this label, which is given this number
+  -- the state at the handler of the exception of this label; the handler is given this number
   pub unwind : S → ℕ → ℤ → S
   -- the value of the channel's own variable, where the process carries that
   pub value : S → Channel → ℤ

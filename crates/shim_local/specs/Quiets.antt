@@ -7,7 +7,7 @@ abbrev pub is_quiet : StopView → Bool
 is_quiet AtQuiet = true
 is_quiet _ = false
 
--- the state after so many quiet steps; none where one of them isn't quiet
+-- the state after so many steps, if each of them is quiet; else none
 abbrev pub quiet_run : {S : Type 0} → Ops S → ℕ → S → Option S
 quiet_run o zero l = Some l
 quiet_run o (suc n) l = cond (is_quiet (o.stop l)) (quiet_run o n (o.quiet l)) None

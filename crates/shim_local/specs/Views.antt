@@ -15,7 +15,7 @@ stop_view stop.Finish = AtFinish
 stop_view (stop.Throw label) = AtThrow label
 stop_view (stop.Trapped kind line) = AtTrap kind line
 
--- what a fork gave of the first state, which left the second: the children, or a trap
+-- The fork of the first state left the second and gave this answer. With children the second state is their parent; else it is the trapped process.
 abbrev pub ForkGives : {S : Type 0} → Ops S → S → S → Forked S → Type 0
 ForkGives o before after (forked.Children ks) = o.fork before ≡ Parted after ks
 ForkGives o before after forked.Trapped = o.fork before ≡ Trapped after

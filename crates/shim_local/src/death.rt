@@ -3,7 +3,8 @@ ghost use Rattle.std.specs.Prelude.{◌≡◌};
 ghost use Rattle.shim_local.specs.Deaths.{handed, outermost};
 
 /// The exception of which a process died: its label, and the number with which it was thrown. A trap has 0.
-/// One that was poisoned, or whose fork closed over such alone, has none.
+/// A poisoned process has none. A process that died at the close of its fork has none if no child that died of
+/// the prevailing label has one.
 #[derive(Clone, Copy, Debug, PartialEq, Eq)]
 pub struct Death {
     pub label: u32,

@@ -96,9 +96,8 @@ pub trait Local: Send + Sized + Drop {
         ensures number { result ≡ ops.number self.old }
         ensures after { self.new ≡ ops.thrown self.old };
 
-    /// Goes to the handler of the exception of this label, whose place has to be in force and the
-    /// process's own: the label is one from `base` up to `handlers` without that. The exception gives
-    /// the number.
+    /// Goes to the handler of the exception of this label, and gives the handler this number. The exception
+    /// place has to be in force and the process's own: the label is at least `base` and below `handlers`.
     fn unwind(&mut self, label: u32, value: i64)
         requires { (ops.base self.old ≤ label) × (label < ops.handlers self.old) }
         ensures { self.new ≡ ops.unwind self.old label value };
@@ -125,8 +124,8 @@ pub trait Local: Send + Sized + Drop {
     fn holds_output(&self) -> bool
         ensures { result ≡ ops.holds_output self.now };
 
-    /// Where it stands in the tree of processes. Each value of the type has what all states have that a
-    /// process comes to, and who holds one learns it here.
+    /// The path of the process. Each value of the type is sound, and a caller gets the proof of that from the
+    /// clause `sound` of this function.
     fn path(&self) -> &Path
         ensures path { result.now ≡ ops.path self.now }
         ensures sound { ops.sound self.now };
@@ -139,8 +138,8 @@ pub trait Local: Send + Sized + Drop {
     fn handlers(&self) -> u32
         ensures { result ≡ ops.handlers self.now };
 
-    /// The number of the name and the line of the `try` of this label, of which is asked what `unwind`
-    /// asks.
+    /// The number of the name and the line of the `try` of this label. The label has to be one that `unwind`
+    /// allows.
     fn handler(&self, label: u32) -> (u32, u32)
         requires { (ops.base self.now ≤ label) × (label < ops.handlers self.now) }
         ensures { result ≡ ops.handler self.now label };

@@ -1,4 +1,4 @@
--- What the code's arguments say of those of the definition, where memory may be wanting.
+-- How the code's arguments represent those of the definition.
 use Rattle.std.specs.Prelude.{◌≡◌, List, ◌++◌, Result, Ok, Err}
 use Rattle.shim_base.specs.declared.operators.Trap.{Trap}
 use Rattle.shim_process.specs.Arguments.{Argument as ArgumentOf, on_value}
@@ -17,6 +17,6 @@ abbrev pub argument_result : Result Argument Trap → Result ArgumentOf Trap
 argument_result (Ok a) = Ok (argument_of a)
 argument_result (Err t) = Err t
 
--- these, and then others
+-- the given arguments followed by the others, or the trap of the others
 abbrev pub arguments_before : List Argument → Result (List ArgumentOf) Trap → Result (List ArgumentOf) Trap
 arguments_before given rest = on_value (λ others. Ok (arguments_of given ++ others)) rest

@@ -7,10 +7,10 @@ use Rattle.shim_process.specs.Locations.{Location, kept, restored}
 abbrev pub with_stored : ℤ → Location → Location
 with_stored v l = record l { value = stored l.ty v }
 
--- what is kept of it
+-- the location that a process keeps when a branch takes the location by reference
 abbrev pub kept_location : Location → Location
 kept_location l = record l { ownership = kept l.ownership }
 
--- the value and the ownership of another one come back
+-- the location with the value of the location `back`, and with its own ownership restored by that of `back`
 abbrev pub given_back : Location → Location → Location
 given_back back l = record l { value = back.value; ownership = restored back.ownership l.ownership }

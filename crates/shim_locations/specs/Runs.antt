@@ -13,7 +13,7 @@ abbrev pub AreBelow : ℕ → List SerialRun → Type 0
 AreBelow bound [] = Unit {0}
 AreBelow bound (r ∷ rs) = (last_serial r < bound) × AreBelow r.first rs
 
--- a take may split a run
+-- The capacity suffices for so many runs and for `room` more. A take may split a run, which makes one run more.
 abbrev pub HasCapacity : ℕ → ℕ → ℕ → Type 0
 HasCapacity many room capacity = many + room ≤ capacity
 

@@ -46,7 +46,7 @@ fn argument(
     }
 }
 
-/// From the left; the first trap stands.
+/// The arguments of a call or a branch, computed from the left, or the first trap.
 pub fn arguments(
     alloc: Global,
     locations: &[Option<Location>],

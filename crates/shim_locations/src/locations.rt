@@ -68,7 +68,7 @@ impl Locations {
         }
     }
 
-    /// Other ones of the same meaning.
+    /// A copy of the locations.
     pub fn copy(&self, alloc: Global) -> Result<Locations, NoMemory>
         ensures { IfOk result (λ copy. copy ≡ self.now) }
     {
@@ -113,7 +113,7 @@ impl Locations {
         self.items.truncate(kept);
     }
 
-    /// This location in place of that one.
+    /// Puts this location in place of that of this number; without such a number nothing changes.
     pub fn put(&mut self, number: usize, location: Location)
         ensures { self.new ≡ slice_set self.old number (Some location) }
     {

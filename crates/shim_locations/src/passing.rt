@@ -90,7 +90,7 @@ fn call_location(
     }
 }
 
-/// The locations that a call makes, behind so many channels.
+/// The locations that a call makes for its arguments. The calling process has made `made` channels before.
 #[tactic(auto, using(crate::proofs::OneMore::one_more_call, crate::proofs::OneMore::one_more_made))]
 pub fn call_locations(
     alloc: Global,

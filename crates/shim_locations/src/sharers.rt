@@ -24,8 +24,8 @@ pub fn is_among(given: &[Chan], c: &Chan) -> bool
     false
 }
 
-/// Whether a process of this path, which made so many channels, declared this one: no handler's variable
-/// that waits for a number is on it.
+/// Whether the process of this path declared the channel: the path is the channel's home, the serial number is
+/// below `made`, and no `try` made the channel for a handler that hasn't taken it.
 pub fn declared(home: &Arc<Path>, made: u32, untaken: &SerialRuns, c: &Chan) -> bool
     ensures { result ≡ same_path c.now.channel.home (arc_value home.now) && (nat_lt c.now.channel.serial made && not (is_in_runs c.now.channel.serial untaken.now.runs)) }
 {

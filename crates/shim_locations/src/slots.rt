@@ -35,7 +35,7 @@ fn call_slot(slots: &mut List<usize>, next: usize, argument: &Argument) -> Resul
     }
 }
 
-/// These, and one number after the other for each declaration.
+/// These numbers, and then one for each declaration, which count up from `first`.
 pub fn with_declared(
     slots: List<usize>,
     first: usize,
@@ -52,7 +52,7 @@ pub fn with_declared(
     Ok(all.into_vec())
 }
 
-/// Those of a called unit, where the first new location has this number.
+/// The numbers of the locations of a called unit's slots. The first new location has the number `first`.
 #[tactic(auto, using(crate::proofs::OneMore::one_more_slot))]
 pub fn call_slots(
     alloc: Global,

@@ -14,20 +14,20 @@ pub data JumpsTo (u : CodedUnit) : ℕ → ℕ → ℕ → Type 0 where
   past_jump : (pc t blocks to : ℕ) → fetch u pc ≡ Some (Jump t) → JumpsTo u t blocks to → JumpsTo u pc blocks to
   past_block : (pc blocks to : ℕ) → fetch u pc ≡ Some Untry → JumpsTo u (pc + 1) blocks to → JumpsTo u pc (suc blocks) to
 
--- both places lead to the same one, past as many ends
+-- both places lead to the same mark or end of the unit, past equally many ends of `try` blocks
 pub record LeadAlike (u : CodedUnit) (a b : ℕ) : Type 0 where
   pub blocks : ℕ
   pub to : ℕ
   pub first : JumpsTo u a blocks to
   pub second : JumpsTo u b blocks to
 
--- so do the places of the handlers, each with its counterpart
+-- each handler's places in the two lists lead to the same mark or end of the unit
 abbrev pub AllLeadAlike : CodedUnit → List ℕ → List ℕ → Type 0
 AllLeadAlike u [] [] = Unit {0}
 AllLeadAlike u (x ∷ xs) (y ∷ ys) = LeadAlike u x y × AllLeadAlike u xs ys
 AllLeadAlike u _ _ = ⊥
 
--- so do the places of the callers, and of their handlers
+-- The two return places of each caller lead to the same mark or end of its unit. So do the two places of each of the caller's handlers.
 abbrev pub ReturnAlike : Codes → List Frame → List ReturnPlace → List ReturnPlace → Type 0
 ReturnAlike codes [] [] [] = Unit {0}
 ReturnAlike codes (f ∷ callers) (x ∷ xs) (y ∷ ys) = LeadAlike (codes f.unit) x.place y.place × (AllLeadAlike (codes f.unit) x.handlers y.handlers × ReturnAlike codes callers xs ys)

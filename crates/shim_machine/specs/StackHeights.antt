@@ -4,7 +4,7 @@ use Rattle.shim_code.specs.declared.machine_instr.MachineInstr.{MachineInstr}
 use Rattle.shim_code.specs.declared.machine_instr.MachineInstr.TheVariants.{Mark, Num, Var, Un, Bin, Bool, Jump, JumpZ, Declare, Set, Get, Put, Fresh, Call, Try, TryInto, Untry, Throw, End}
 use Rattle.shim_machine.specs.Machine.{CodedUnit}
 
--- At the next place, where so many are at this instruction. Behind a jump stands the other one of two pieces, which begins without the number that the first has left.
+-- How many numbers are on the stack at the next place, if `h` are at this instruction. The place after a forward jump begins the second of two pieces. A number that the first piece leaves isn't on the stack there.
 abbrev pub height_after : ℕ → MachineInstr → ℕ
 height_after h (Num n) = h + 1
 height_after h (Var x) = h + 1
@@ -19,12 +19,12 @@ height_after h (Throw x) = h - 1
 height_after h (Fresh s name) = h - 1
 height_after h _ = h
 
--- behind these instructions
+-- how many numbers are on the stack after these instructions, if `h` are before them
 abbrev pub height_of : ℕ → List MachineInstr → ℕ
 height_of h [] = h
 height_of h (i ∷ is) = height_of (height_after h i) is
 
--- at a place of a unit
+-- how many numbers are on the stack at a place of the unit
 abbrev pub height_at : CodedUnit → ℕ → ℕ
 height_at u pc = height_of 0 (take pc u.code)
 

@@ -12,7 +12,7 @@ use Rattle.shim_tool.specs.Call.{Ran, Writes}
 abbrev pub EndsWithWords : List (String Global) → FilesAt → FilesAt → SinkAt → SinkAt → ℕ → Type 0
 EndsWithWords words before now out_before out_now result = Ran (job (texts_of words)) before now out_before out_now result
 
--- There were no words, and the system gave this kind of error: where memory ran out, the answer for that was written, and else the tool ran on words that ask for nothing.
+-- The system gave no words, but an error of this kind. Where memory ran out, the answer for out of memory was written. Else the tool ran as on words that have no job.
 pub record EndsWithoutWords (kind : ErrorKind) (before now : FilesAt) (out_before out_now : SinkAt) (result : ℕ) : Type 0 where
   pub memory : kind ≡ OutOfMemory → Writes out_before out_now no_memory result
   pub nothing : kind ≢ OutOfMemory → Ran None before now out_before out_now result

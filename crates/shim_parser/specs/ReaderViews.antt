@@ -41,7 +41,7 @@ Blames (TooDeep line) cause t = (cause ≡ Past Nesting) × ((terminal_place t).
 Blames (TooMany what line) cause t = (cause ≡ Past (Count what)) × ((terminal_place t).line ≡ line)
 Blames NoMemory cause t = ⊥
 
--- the machine, with these symbols to come and whatever behind them, halts at the terminals that are left
+-- The parser's machine, with these symbols to come and any others after them, halts at the terminals that are left. The fault is the machine's cause and place.
 pub record Halts (stack : SymbolStack) (old new : ReaderView) (fault : ParseFault) : Type 0 where
   pub cause : Cause
   pub blames : Blames fault cause (first new.rest)
@@ -51,7 +51,7 @@ abbrev pub Fails : SymbolStack → ReaderView → ReaderView → ParseFault → 
 Fails stack old new NoMemory = Unit {0}
 Fails stack old new fault = Halts stack old new fault
 
--- what was read has the relation, or where these symbols are to come, the text goes wrong at what is left
+-- A value that was read has the relation to what was left before and after. Of a fault, the machine with these symbols to come halts at the terminals that are left. `NoMemory` claims nothing.
 abbrev pub Reads : {V : Type 0} → (TextCounts → TextCounts → List Terminal → List Terminal → V → Type 0) → SymbolStack → Result V ParseFault → ReaderView → ReaderView → Type 0
 Reads X stack (Ok x) old new = X old.counts new.counts old.rest new.rest x
 Reads X stack (Err fault) old new = Fails stack old new fault

@@ -17,14 +17,14 @@ OnChannels slots n (Ref x ∷ rest) child locations = (channel_at child n ≡ ch
 OnChannels slots n (Pass x ∷ rest) child locations = (channel_at child n ≡ channel_at locations (number_of slots x)) × OnChannels slots (n + 1) rest child locations
 OnChannels slots n (Fresh e ∷ rest) child locations = OnChannels slots (n + 1) rest child locations
 
--- This is in the branch at place i of the fork of number f. It has a parameter for each of the branch's arguments, on the channels of those that are variables.
+-- The process k has the path and the base of the child in branch i of fork f of the process l. It has a parameter for each argument of the branch. The location of a parameter whose argument is a variable is on that variable's channel.
 pub record InBranch (l : LocalState) (f i : ℕ) (b : UBranch) (k : LocalState) : Type 0 where
   pub path : k.path ≡ l.path ++ (f, i) ∷ []
   pub base : k.base ≡ handlers l
   pub many : parameters_of k ≡ length b.call.args
   pub channels : OnChannels l.frame.slots 0 b.call.args k.locations l.locations
 
--- these are in these branches, of which the first has this place, one in each
+-- the processes are in the branches, one in each and in order; the first branch is branch i
 abbrev pub InBranches : LocalState → ℕ → ℕ → List UBranch → List LocalState → Type 0
 InBranches l f i [] [] = Unit {0}
 InBranches l f i (b ∷ branches) (k ∷ ks) = InBranch l f i b k × InBranches l f (i + 1) branches ks

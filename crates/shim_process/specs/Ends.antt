@@ -21,7 +21,7 @@ abbrev pub is_over : List Item → Bool
 is_over [] = true
 is_over (i ∷ k) = false
 
--- The process in this frame, with these callers. Where nothing is left in it, it returns: its locations go, and its caller goes on behind the call.
+-- The process in this frame, with these callers. If nothing is left to do in a frame that has a caller, the process leaves it: it drops the frame's own locations, and the caller goes on after the call.
 abbrev pub settled : List Frame → Frame → LocalState → LocalState
 settled [] f l = record l { frame = f; callers = [] }
 settled (caller ∷ callers) f l =

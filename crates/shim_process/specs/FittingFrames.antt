@@ -9,7 +9,7 @@ use Rattle.shim_process.specs.declared.handler_variable.HandlerVariable.{Handler
 use Rattle.shim_process.specs.Todo.{Item, Do, Leave}
 use Rattle.shim_process.specs.OwnSlots.{is_own_slot, fits, UsesOwnSlots}
 
--- what is still to do is of such statements of the unit
+-- each statement that is still to do fits the unit: it declares own slots of the unit alone, and its calls and branches have an argument for each parameter
 abbrev pub ItemsFit : Form → UnitOf → List Item → Type 0
 ItemsFit program u [] = Unit {0}
 ItemsFit program u (Leave ∷ k) = ItemsFit program u k
@@ -20,12 +20,12 @@ abbrev pub VariableFits : UnitOf → Option HandlerVariable → Type 0
 VariableFits u None = Unit {0}
 VariableFits u (Some y) = is_own_slot u y.slot ≡ true
 
--- and so is what there was to do at each exception place in force, and the variable of its handler
+-- at each exception place in force, what there was to do fits the unit, and so does the variable of the handler
 abbrev pub PlacesFit : Form → UnitOf → List ExceptionPlace → Type 0
 PlacesFit program u [] = Unit {0}
 PlacesFit program u (p ∷ places) = ItemsFit program u p.todo × VariableFits u p.variable × PlacesFit program u places
 
--- The own slots of a frame's unit have their locations behind those that the process had when the unit was entered, and behind its first ones, of which this many are kept.
+-- The location of each own slot of the frame's unit has a number of at least the frame's floor and of at least `kept`.
 abbrev pub SlotsFit : Form → ℕ → Frame → Type 0
 SlotsFit program kept f = (x : ℕ) → is_own_slot (unit_at program f.unit) x ≡ true → (f.floor ≤ number_of f.slots x) × (kept ≤ number_of f.slots x)
 
@@ -34,7 +34,7 @@ pub record FrameFits (program : Form) (kept : ℕ) (f : Frame) : Type 0 where
   pub places : PlacesFit program (unit_at program f.unit) f.places
   pub slots : SlotsFit program kept f
 
--- each unit was entered after those that wait for it, with its locations behind theirs
+-- Each frame fits. The floor of a frame that has a caller is at least `kept`, and at least the caller's floor.
 abbrev pub FramesFit : Form → ℕ → Frame → List Frame → Type 0
 FramesFit program kept f [] = FrameFits program kept f
 FramesFit program kept f (caller ∷ callers) = FrameFits program kept f × (kept ≤ f.floor) × (caller.floor ≤ f.floor) × FramesFit program kept caller callers
@@ -44,19 +44,19 @@ abbrev first_unit : Frame → List Frame → ℕ
 first_unit f [] = f.unit
 first_unit f (caller ∷ callers) = first_unit caller callers
 
--- of a child; of the root nothing is given back
+-- n for the path of a child, and 0 for the path of the root, which gives no location back
 abbrev pub of_child : Path → ℕ → ℕ
 of_child [] n = 0
 of_child (x ∷ path) n = n
 
--- how many parameters that unit has, whose locations a child gives back; they are the process's first ones
+-- How many of its first locations a process gives back at the join: a child as many as the unit that it entered first has parameters, the root none.
 abbrev pub parameters : Path → Form → Frame → List Frame → ℕ
 parameters path program f callers = of_child path (length (unit_at program (first_unit f callers)).params)
 
 abbrev pub parameters_of : LocalState → ℕ
 parameters_of l = parameters l.path l.program l.frame l.callers
 
--- The frames declare behind the locations of the process's parameters, which are there, and no unit's end takes these away.
+-- The program's units use slots of their own, and the frames fit. The process has the locations of its parameters, and at least as many locations as the innermost frame's floor.
 pub record Fitting (path : Path) (program : Form) (f : Frame) (callers : List Frame) (locations : Locations) : Type 0 where
   pub uses : UsesOwnSlots program
   pub fit : FramesFit program (parameters path program f callers) f callers

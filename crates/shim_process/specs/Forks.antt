@@ -138,7 +138,7 @@ keeping l unit locations =
 abbrev pub lending : LocalState → UBranch → LocalState
 lending l b = keeping l b.call.unit (lent l.frame.slots (unit_at l.program b.call.unit).params b.call.args l.locations)
 
--- and of what a branch to this unit takes with these arguments
+-- what a process keeps when a branch that calls this unit takes these computed arguments
 abbrev pub lending_given : LocalState → ℕ → List Argument → LocalState
 lending_given l unit given = keeping l unit (lent_by given l.locations)
 
@@ -157,7 +157,7 @@ all_lending l (b ∷ branches) = all_lending (lending l b) branches
 abbrev pub parent : LocalState → List UBranch → LocalState
 parent l branches = record (all_lending l branches) { forks = l.forks + 1 }
 
--- 64 forks are on the way from the root
+-- at least 64 forks lead from the root to the process
 abbrev pub is_far : LocalState → Bool
 is_far l = nat_le 64 (length l.path)
 
@@ -169,7 +169,7 @@ fork_outcome (Err t) l branches = Trapped (trapped t (line_of l.frame.todo) l)
 abbrev pub fork_result : Result (List (List Argument)) Trap → LocalState → List UBranch → ForkedView LocalState
 fork_result given l branches = fork_outcome (on_value (λ gs. Ok (children_from l 0 branches gs)) given) l branches
 
--- after the fork at which the process stands
+-- what the process's fork gives: the parent with its children, or the trapped process
 unfoldable pub fork : LocalState → ForkedView LocalState
 fork l = fork_result (all_arguments l (item_branches l.frame.todo)) l (item_branches l.frame.todo)
 
@@ -198,7 +198,7 @@ abbrev pub output_back : List LocalState → Bool → Bool
 output_back [] holds = holds
 output_back (c ∷ children) holds = output_back children (c.holds_output || holds)
 
--- the values of the children are back
+-- the parent, still at the fork, with what its children give back: variables by reference, the input and the output
 abbrev pub joined : LocalState → List LocalState → LocalState
 joined l children = record l {
   locations = all_back l.frame.slots (item_branches l.frame.todo) children l.locations;

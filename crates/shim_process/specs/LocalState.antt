@@ -68,7 +68,7 @@ pub record LocalState : Type 0 where
   pub program : Form
   pub input : List ℕ
 
--- A number that an accepted program has no use for; what is looked up is always there.
+-- The number, or 0 if there is none. In an accepted program each number that is looked up is in its list.
 abbrev pub number_or_any : Option ℕ → ℕ
 number_or_any None = 0
 number_or_any (Some n) = n
@@ -108,7 +108,7 @@ handlers l = l.base + (l.frame.outer + length l.frame.places)
 abbrev pub is_full : LocalState → Bool
 is_full l = nat_le 4000000000 l.made || nat_le 4000000000 l.forks
 
--- 200 calls are in force
+-- at least 200 calls are in force
 abbrev pub is_deep : LocalState → Bool
 is_deep l = nat_le 200 (length l.callers)
 

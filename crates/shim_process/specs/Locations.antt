@@ -63,13 +63,13 @@ kept Own = Lent
 kept Lent = Lent
 kept Copy = Copy
 
--- the ownership that the branch has of it
+-- the ownership that the child's location has if a branch takes a location of this ownership by reference
 abbrev pub moved : Ownership → Ownership
 moved Own = Own
 moved Lent = Copy
 moved Copy = Copy
 
--- the ownership afterwards of what a branch took by reference, from that which the child's location has then, and that which was kept
+-- The ownership after the join of a location that a branch took by reference. The first argument is the ownership of the child's location, the second the ownership that the process kept.
 abbrev pub restored : Ownership → Ownership → Ownership
 restored Own Own = Own
 restored Own Lent = Own
@@ -82,7 +82,7 @@ abbrev pub with_kept : Option Location → Option Location
 with_kept None = None
 with_kept (Some l) = Some (record l { ownership = kept l.ownership })
 
--- what the branch has of it: the value, and the ownership with it
+-- the child's location if a branch takes this location by reference: it has the same channel, type and value, and the ownership `moved`
 abbrev pub with_moved : Option Location → Option Location
 with_moved None = None
 with_moved (Some l) = Some (record l { ownership = moved l.ownership })

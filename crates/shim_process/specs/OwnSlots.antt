@@ -20,7 +20,7 @@ all_suit program (b ∷ branches) = has_arguments program b.call && all_suit pro
 abbrev pub is_own_slot : UnitOf → ℕ → Bool
 is_own_slot u x = nat_le (length u.params) x && nat_lt x (length u.slots)
 
--- so is that of a handler's variable, where it has one
+-- the slot of a handler's variable is one of the unit's own, or the handler has no variable
 abbrev pub is_own_variable : UnitOf → Option ℕ → Bool
 is_own_variable u None = true
 is_own_variable u (Some x) = is_own_slot u x
@@ -29,7 +29,7 @@ abbrev all_true : List Bool → Bool
 all_true [] = true
 all_true (b ∷ bs) = b && all_true bs
 
--- where this holds of the statements in it
+-- whether a statement fits the unit, from the answers for the statements inside it
 abbrev pub what_fits : Form → UnitOf → UWhat-F Bool Bool → Bool
 what_fits program u (UWhat-F.Declare t x e) = is_own_slot u x
 what_fits program u (UWhat-F.If e first second) = all_true first && all_true second
@@ -48,6 +48,6 @@ fits program u = fold-UStmt Bool Bool (what_fits program u) (λ s. s.what)
 abbrev pub all_fit : Form → UnitOf → List UStmt → Bool
 all_fit program u ss = all_true (map (fits program u) ss)
 
--- So do all statements of all units. A unit that declared the slot of a parameter by reference would put another channel in the place of its caller's variable, of which a copy may stand beside it.
+-- All statements of all units fit their units. A unit that declared the slot of a parameter by reference would put another channel in the place of its caller's variable, of which a copy may stand beside it.
 abbrev pub UsesOwnSlots : Form → Type 0
 UsesOwnSlots program = (n : ℕ) → all_fit program (unit_at program n) (unit_at program n).body ≡ true

@@ -13,12 +13,12 @@ abbrev pub is_in_runs : ℕ → List SerialRun → Bool
 is_in_runs n [] = false
 is_in_runs n (r ∷ rs) = is_in_run n r || is_in_runs n rs
 
--- with one that is greater than all of them
+-- the runs with the number n, which is greater than all of theirs
 abbrev pub with_serial : ℕ → List SerialRun → List SerialRun
 with_serial n [] = record { first = n; more = 0 } ∷ []
 with_serial n (r ∷ rs) = if eqb n (suc (last_serial r)) then record { first = r.first; more = suc r.more } ∷ rs else record { first = n; more = 0 } ∷ r ∷ rs
 
--- what stands above a number of a run, and what stands below it
+-- the numbers of a run that are greater than n, as at most one run; `run_below` has the lesser ones
 abbrev pub run_above : ℕ → SerialRun → List SerialRun
 run_above n r = if nat_lt n (last_serial r) then record { first = suc n; more = last_serial r - suc n } ∷ [] else []
 

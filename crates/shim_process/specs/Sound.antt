@@ -1,4 +1,4 @@
--- What all states have that a process comes to; other states may have it, too.
+-- The invariant of the states of a process (`Sound`). Each state that a process comes to is sound; other states may be sound, too.
 use Rattle.std.specs.Prelude.{◌≡◌, ◌<◌, ◌≤◌, ℕ, ◌+◌, true, false, List, [], ◌∷◌, ◌++◌, Option, Some, None, slice_get}
 use Rattle.shim_base.specs.Paths.{Path, NamedChannel}
 use Rattle.shim_process.specs.Locations.{Location, Ownership, Own, Lent, Copy, at_number}
@@ -19,7 +19,7 @@ IsOwned Own = Unit {0}
 IsOwned Lent = Unit {0}
 IsOwned Copy = ⊥
 
--- each label that a unit was given is that of a place in force around it
+-- each of these labels is below the bound; of a unit's labels the bound is the number of exception places in force around the unit
 abbrev pub LabelsBelow : ℕ → List ℕ → Type 0
 LabelsBelow bound [] = Unit {0}
 LabelsBelow bound (x ∷ xs) = (x < bound) × LabelsBelow bound xs
@@ -65,10 +65,10 @@ pub record Sound (l : LocalState) : Type 0 where
   -- the channels that it was given are of processes on the way from the root, and those of its own are among the first that it made
   pub homes : (at : ℕ) (c : NamedChannel) → slice_get l.given at ≡ Some c → IsPathPrefix c.channel.home l.path
   pub serials : (at : ℕ) (c : NamedChannel) → slice_get l.given at ≡ Some c → c.channel.home ≡ l.path → c.channel.serial < l.made
-  -- those that no handler has taken are among the first that it made, and it was given none of them
+  -- Each untaken serial number is below the number of channels that the process made. The process was given none of the untaken channels.
   pub made : (n : ℕ) → is_in_runs n l.untaken ≡ true → n < l.made
   pub taken : (at : ℕ) (c : NamedChannel) → slice_get l.given at ≡ Some c → c.channel.home ≡ l.path → is_in_runs c.channel.serial l.untaken ≡ false
-  -- the variable of each handler in force is on one of them, and a handler inside another one has a greater one
+  -- The variable of each handler in force is on an untaken channel. A handler inside another one has the greater serial number.
   pub places : PlacesGrow l.path l.untaken l.made (l.frame ∷ l.callers)
   -- a root was given no channels
   pub root : l.path ≡ [] → l.given ≡ []

@@ -48,7 +48,7 @@ statement_view l = record {
 abbrev pub unit_in : StatementView → ℕ → UnitOf
 unit_in s n = unit_or (slice_get s.units n)
 
--- the label of exception x, where places of these exceptions are in force, of which the first has this label: that of the innermost one, or else the one that is given
+-- The label of exception x. The places in force are of these exceptions, and the outermost has the label `first`. The innermost place of x gives the label; without such a place it is `given`.
 abbrev pub label_among : ℕ → ℕ → List ℕ → ℕ → ℕ
 label_among x first [] given = given
 label_among x first (e ∷ es) given = label_among x (first + 1) es (if nat_eq e x then first else given)

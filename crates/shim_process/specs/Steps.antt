@@ -35,10 +35,10 @@ pub data Action : Type 0 where
   -- the exception of this number comes into force, by this name, with a variable of its handler in this slot, where it has one
   Install : ℕ → ℕ → Option ℕ → Action
   Trapped : Trap → Action
-  -- it isn't quiet
+  -- no action, since the statement isn't quiet
   Wait : Action
 
--- of a number, or of why there is none
+-- the action for a computed value, or the trap
 abbrev pub action : {A : Type 0} → (A → Action) → Result A Trap → Action
 action f (Ok v) = f v
 action f (Err t) = Trapped t
@@ -95,7 +95,7 @@ line_of todo = stmt_line (next_stmt todo)
 abbrev pub stored_in : ℕ → ℤ → LocalState → LocalState
 stored_in x v l = record l { locations = store_at l.locations (number_of l.frame.slots x) v }
 
--- the slot's location is on a new channel, which it is the own variable of; an earlier one is forgotten
+-- The slot gets a new location, which is the own variable of a new channel. The process drops the slot's earlier location.
 abbrev pub made_in : Ty → ℕ → ℤ → LocalState → LocalState
 made_in t x v l = record l {
   locations = slice_set l.locations (number_of l.frame.slots x) (Some (new_location l.path l.made (number_of (unit_at l.program l.frame.unit).slot_names x) t v));

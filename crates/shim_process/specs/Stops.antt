@@ -1,4 +1,4 @@
--- At what a process stands, and its steps that aren't quiet: a put, and a meeting.
+-- The stop of a process, and its calls at a `put`, at a `next` and at a throw.
 use Rattle.std.specs.Prelude.{ℕ, ℤ, pos, Bool, true, false, List, [], ◌∷◌, Option, Some, None, Ok, Err, if◌then◌else◌, unsigned_abs}
 use Rattle.std.specs.Int.{int_rem_euclid}
 use Rattle.shim_local.specs.Process.{StopView, AtQuiet, AtNext, AtPut, AtFork, AtFinish, AtThrow, AtTrap}

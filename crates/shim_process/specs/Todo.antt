@@ -20,7 +20,7 @@ items_of (s ∷ ss) n = s.1 n ++ items_of ss (n + size_of s.0)
 abbrev pub whole_size : List (UStmt × ItemsFrom) → ℕ
 whole_size ss = size_all (map (λ s. s.0) ss)
 
--- A block is what stands in it. A `for` is its first part, and then a loop.
+-- The items of a statement s of number n. The items of a block are those of its statements. The items of a `for` are those of its first part, and then the loop. Any other statement is one item.
 abbrev pub what_items : UWhat-F (UWhat × (UStmt → ItemsFrom)) (UStmt × ItemsFrom) → UStmt → ItemsFrom
 what_items (UWhat-F.Block body) s n = items_of body n
 what_items (UWhat-F.For first test step body) s n = items_of first n ++ Do (n + whole_size first) s ∷ []
@@ -43,7 +43,7 @@ pub data Successor : Type 0 where
   First : Successor
   Second : Successor
 
--- What is to be done then, where n is the number of the statement s, and k comes behind it. The body of a loop is followed by the loop, and the block of a `try` by its end.
+-- What is to be done after the process goes from statement s, which has number n, to this successor; k is what follows s. The body of a loop is followed by the loop, and the block of a `try` by its end.
 abbrev pub follow_what : UWhat-F UWhat UStmt → Successor → ℕ → UStmt → List Item → List Item
 follow_what (UWhat-F.If e first second) First n s k = items_all first (n + 1) ++ k
 follow_what (UWhat-F.If e first second) Second n s k = items_all second (n + 1 + size_all first) ++ k

@@ -52,6 +52,6 @@ abbrev pub name_and_line : Option ExceptionPlace → ℕ × ℕ
 name_and_line None = (0, 0)
 name_and_line (Some p) = (p.name, p.line)
 
--- those of the exception place of this label
+-- the name and the line of the `try` whose exception place has this label
 unfoldable pub handler : LocalState → ℕ → ℕ × ℕ
 handler l label = name_and_line (exception_place_in l.frame (label - l.base) l.callers)

@@ -11,13 +11,13 @@ ghost use Rattle.shim_process.specs.SerialRuns.{is_in_runs, with_serial, without
 ghost use Rattle.shim_process.specs.Sound.{Sound};
 ghost use Rattle.shim_process.specs.declared.serial_run.SerialRun.{SerialRun};
 
-/// What holds of every kind of process holds of that which the definition describes.
+/// The functions of the definition meet the laws of each kind of process.
 pub fn process_obeys_the_laws()
     ensures { LocalLaws process_ops }
 {}
 
-/// The state in which the process that runs `main` begins has what all states have that a process comes
-/// to, where the units of the program use slots of their own, as those of each accepted program do.
+/// The state in which the process that runs `main` begins is sound if the units of the program use slots of
+/// their own. Those of each accepted program do.
 pub fn root_is_sound()
     ensures { (program : Form) (input : List ℕ) → UsesOwnSlots program → Sound (root program input) }
 {}

@@ -13,6 +13,6 @@ pub record IsChanged {S : Type 0} (o : Ops S) (numbers : List ℕ) (before behin
   pub only : (i g : ℕ) (t : S) (h : ProcessStatus) → HasProcessState behind i g t h → (f : ℕ) × (s : S) × (k : ProcessStatus) × HasProcessState before i f s k × (o.path t ≡ o.path s)
   pub living : (i f : ℕ) (l : S) → HasProcessState behind i f l lives → IsAmong i numbers ⊎ HasProcessState before i f l lives
 
--- it is so where they show a tree
+-- if the records represent a tree before, the processes have changed as `IsChanged` defines
 abbrev pub ChangesEach : {S : Type 0} → Ops S → List ℕ → TableView S → TableView S → Type 0
 ChangesEach {S} o numbers before behind = (rp : Path) (root : Node S) → TableInvariant o rp before root → IsChanged o numbers before behind

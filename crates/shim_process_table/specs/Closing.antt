@@ -42,7 +42,7 @@ ClosedAs (Threw (thrown.Caught name line)) k = k ≡ lives
 ClosedAs (Threw (thrown.Died d)) k = k ≡ dies d
 ClosedAs (Threw thrown.Trapped) k = k ≡ lives
 
--- The process with this number had forked, and its fork closed: this came of it, the tree moves by that event, and of all others its children alone are no more. Of the records that are still in use none has changed but its own and those of the first n forks above.
+-- The fork of the process with this number closed with this outcome. The close leads from the tree before to the tree after. No processes but its children are gone. Of the records that are still in use none has changed but its own and those of the first n forks above.
 pub record ClosesAt {S : Type 0} (o : Ops S) (n number : ℕ) (outcome : CloseOutcome) (before behind : TableView S) : Type 0 where
   pub first : ℕ
   pub many : ℕ
@@ -78,7 +78,7 @@ status_by_close (Threw t) = status_by_throw t
 abbrev pub HasJoined : {S : Type 0} → Ops S → ℕ → ℕ → ℕ → Bool → List S → List S → Type 0
 HasJoined {S} o p g n goes_on before behind = (l : S) → slice_get before p ≡ Some l → behind ≡ slice_set before p (o.join l (segment g n before) goes_on)
 
--- and where this death prevailed, its exception was thrown in it
+-- The process p has the values of its children again. If a death prevailed among them, its exception was thrown in p. The outcome is that of this close.
 abbrev pub TakesBack : {S : Type 0} → Ops S → ℕ → ℕ → ℕ → Option Death → CloseOutcome → List S → List S → Type 0
 TakesBack {S} o p g n death outcome before behind = (l : S) → slice_get before p ≡ Some l → (s : S) × (behind ≡ slice_set before p s) × (acted_by outcome s ≡ closed o l (segment g n before) death)
 

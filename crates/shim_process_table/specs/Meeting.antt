@@ -36,7 +36,7 @@ pub record HasReceived {S : Type 0} (o : Ops S) (c : Channel) (x : ℤ) (number 
   pub newly_ready : ReadiesAbove o to_requeue.forks number before behind
   pub queue : QueueIs o behind number to_requeue.queue
 
--- it has done so and come there, or it doesn't wait there and nothing has changed
+-- Some: the process received the value and is to be put in this queue; None: it doesn't wait at the channel, and nothing has changed
 abbrev pub ReceivesHere : {S : Type 0} → Ops S → Channel → ℤ → ℕ → Option Requeue → TableView S → TableView S → Type 0
 ReceivesHere o c x number None before behind = (behind ≡ before) × WaitsAt o c number before false
 ReceivesHere o c x number (Some to_requeue) before behind = HasReceived o c x number to_requeue before behind

@@ -7,7 +7,7 @@ use Rattle.shim_process_table.specs.Stepping.{LivesAt, IsBeforeQuiet}
 use Rattle.shim_process_table.specs.declared.queue.Queue.{Queue}
 use Rattle.shim_process_table.specs.declared.queue.Queue.TheVariants as code
 
--- what an answer says of the process with this number; `Event` may be said too often, of one at which nothing can happen
+-- What the queue means for the process with this number. `Event` means only that the process isn't before a quiet step: perhaps nothing is due at it.
 abbrev pub QueueIs : {S : Type 0} → Ops S → TableView S → ℕ → Queue → Type 0
 QueueIs o v i code.Neither = HasNothingDue o v i × IsBeforeQuiet o i v false
 QueueIs o v i code.Ready = LivesAt o v i AtQuiet

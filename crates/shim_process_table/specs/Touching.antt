@@ -60,18 +60,18 @@ pub record ChangesOnlyRecords (n x : ℕ) (before behind : List Record) : Type 0
 abbrev pub HasReadied : (Channel → Type 0) → Channel → ℕ → List Record → List Record → ℕ → Type 0
 HasReadied mine c x before behind j = ((j ≡ x) × mine c) ⊎ ((counts_ready (counts_in c behind j) ≡ true) × (counts_ready (counts_in c before j) ≡ false))
 
--- Each record says of its process and by its labels what it said. The process of the record x became ready for such channels, and others with it; beyond the first n forks above it none has, and none of these has a label for a channel for which a child has.
+-- Nothing in the records has changed but counts. The process of the record x became ready for the channels of `mine`. Beyond the first n forks above x no record became ready by its counts. Beyond these forks no record has a label for a channel for which a child became ready.
 pub record ReadiesRecords (mine : Channel → Type 0) (n x : ℕ) (before behind : List Record) : Type 0 where
   pub rest : map rest_of behind ≡ map rest_of before
   pub labels : (c : Channel) (i : ℕ) → min_labels_in c behind i ≡ min_labels_in c before i
   pub counts : (c : Channel) (i : ℕ) → (IsAbove (up_in before) n x i → ⊥) → counts_ready (counts_in c behind i) ≡ true → counts_ready (counts_in c before i) ≡ true
   pub children : (c : Channel) (i j : ℕ) → up_in before j ≡ Some i → (IsAbove (up_in before) n x i → ⊥) → HasReadied mine c x before behind j → min_labels_in c before i ≡ None
 
--- so it is where the process of the record x came to the stop of this state
+-- the process of the record x came to the stop of the state s: `ReadiesRecords` holds for the channel of that stop
 abbrev pub StopReadies : {S : Type 0} → Ops S → S → ℕ → ℕ → List Record → List Record → Type 0
 StopReadies o s n x before behind = ReadiesRecords (λ c. is_next (o.stop s) c ≡ true) n x before behind
 
--- and so it is where it came there from this channel, for which it hasn't become ready
+-- the process of the record x came from the channel c to the stop of the state s: `ReadiesRecords` holds for that stop's channel, unless it is c
 abbrev pub MoveReadies : {S : Type 0} → Ops S → S → Channel → ℕ → ℕ → List Record → List Record → Type 0
 MoveReadies o s c n x before behind = ReadiesRecords (λ d. (is_next (o.stop s) d ≡ true) × (d ≢ c)) n x before behind
 

@@ -262,8 +262,8 @@ fn used_end(records: &[Record]) -> usize
 impl<L: Local> ProcessTable<L> {
     /// Closes the fork of the process with this number, of which no child goes on: it takes back its
     /// children's values, and goes on behind the fork, or the exception of the prevailing death of its
-    /// children is thrown in it. The children's records are free, and those at the end are cut off. The answer says
-    /// how many forks above the process say something else now, too, at most. It takes no memory.
+    /// children is thrown in it. The children's records are free, and those at the end are cut off. The number in
+    /// the answer bounds how many forks above the process have changed records. It takes no memory.
     pub fn close(&mut self, number: u32) -> (CloseOutcome, u32)
         requires { CanClose self.old number }
         ensures closes { ClosesAt L.ops result.1 number result.0 self.old self.new }

@@ -9,7 +9,7 @@ use Rattle.shim_waits.specs.declared.explained.Wait.{Wait}
 unfoldable pub spaced_path : Path → List ℕ
 spaced_path p = codes " " ++ path_text p
 
--- `because PATH HOLDER BY HOME#SERIAL`: who waits, who holds him up, whom he waits for, and the channel at which that one waits
+-- `because PATH HOLDER BY HOME#SERIAL`: the process PATH waits, and HOLDER holds it up. BY is the live process at or below HOLDER for which PATH waits, and HOME#SERIAL is the channel at which BY waits.
 unfoldable pub because_line : Wait → List ℕ
 because_line w = codes "because" ++ (spaced_path w.path ++ (spaced_path w.holder ++ (spaced_path w.by ++ (codes " " ++ (channel_text w.at.channel ++ codes "\n")))))
 

@@ -6,8 +6,9 @@ use shim_base::{List, NoMemory, Path};
 use shim_report::{push_channel, push_path};
 use shim_waits::{Explained, Wait};
 
-/// Adds a line for each process that waits, with the process that holds it up and the one that it waits
-/// for, and the channel at which that one waits in turn; and then a line with a cycle of waits.
+/// Adds a line for each process that waits, and then a line with a cycle of waits. The line of a process
+/// has its path, the process that holds it up, and the process that it waits for. It ends with the channel
+/// at which this last process waits.
 #[tactic(auto, unfolding(crate::specs::Reasons::reasons))]
 pub fn push_reasons(text: &mut List<u8>, explained: &Explained) -> Result<(), NoMemory>
     ensures { OnOk result (text.new ≡ text.old ++ reasons explained.now) }

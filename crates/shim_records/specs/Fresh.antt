@@ -50,14 +50,14 @@ pub record FreshSharing {S : Type 0} (o : Ops S) (c : Channel) (ks : List S) (k 
   pub carrier : (b : ℕ) (s : S) → slice_get ks b ≡ Some s → o.shares s c ≡ true → o.carries s c ≡ true → (t : S) × (slice_get ks k.source ≡ Some t) × (o.carries t c ≡ true)
   pub nobody : ((b : ℕ) (s : S) → slice_get ks b ≡ Some s → o.carries s c ≡ false) → length ks ≤ k.source
 
--- the same, of those that were looked at so far
+-- What is known of the sharing after the first i children: `between` and `carrier` concern these alone. If none of all children carries the channel, `source` is at least 4,294,967,295.
 pub record SharingSoFar {S : Type 0} (o : Ops S) (c : Channel) (ks : List S) (i : ℕ) (k : Sharing) : Type 0 where
   pub last : k.last ≤ i - 1
   pub between : (b : ℕ) (s : S) → b < i → slice_get ks b ≡ Some s → o.shares s c ≡ true → (k.first ≤ b) × (b ≤ k.last)
   pub carrier : (b : ℕ) (s : S) → b < i → slice_get ks b ≡ Some s → o.shares s c ≡ true → o.carries s c ≡ true → (t : S) × (slice_get ks k.source ≡ Some t) × (o.carries t c ≡ true)
   pub nobody : ((b : ℕ) (s : S) → slice_get ks b ≡ Some s → o.carries s c ≡ false) → 4294967295 ≤ k.source
 
--- one child more was looked at, which has this branch
+-- How a look at the child of the branch b changes what is known of the sharing. The child doesn't share the channel, or shares it without carrying it, or carries it.
 pub data LooksAt {S : Type 0} (o : Ops S) (c : Channel) (b : ℕ) (s : S) (before behind : Sharing) : Type 0 where
   unshared : o.shares s c ≡ false → behind ≡ before → LooksAt o c b s before behind
   shares : behind.first ≤ b → behind.first ≤ before.first → behind.last ≡ b → o.carries s c ≡ false → behind.source ≡ before.source → LooksAt o c b s before behind

@@ -49,13 +49,13 @@ pub record MovesParent (c : Channel) (before : List Record) (here : CountChange)
 abbrev pub Falls : CountChange → Type 0
 Falls here = (child_status_of here.was ≡ live_child_status true) × (child_status_of here.is ≡ live_child_status false)
 
--- How the parent is read by its counts behind a step up, by which it is due or not: all are there, or it has a label.
+-- What one step of an update gives for the parent: whether more may be due at it, and whether it is ready by its counts.
 pub record ReadsParent (c : Channel) (before : List Record) (here : CountChange) (next : Option CountChange) (due : Bool) (behind : List Record) : Type 0 where
-  -- where it isn't due, neither is so
+  -- if the parent isn't due, it isn't ready by its counts after the step, and it has no label for the channel
   pub closed : due ≡ false → (i : ℕ) → up_in before here.at ≡ Some i → (counts_ready (counts_in c behind i) ≡ false) × (min_labels_in c before i ≡ None)
-  -- where the walk ends, it is read as before
+  -- if the update ends here, the parent is ready by its counts exactly if it was before
   pub same : next ≡ None → (i : ℕ) → up_in before here.at ≡ Some i → counts_ready (counts_in c behind i) ≡ counts_ready (counts_in c before i)
-  -- where a child isn't ready any more, it isn't ready either, and whatever goes on does so for that
+  -- If the child was ready and isn't any more, the parent isn't ready by its counts. If the update goes on, the parent was ready and isn't any more, too.
   pub unready : Falls here → (i : ℕ) → up_in before here.at ≡ Some i → counts_ready (counts_in c behind i) ≡ false
   pub falls : Falls here → (above : CountChange) → next ≡ Some above → Falls above
 
@@ -82,7 +82,7 @@ ComesTo c n x before behind = (was : ChildStatus) × (is : ChildStatus) × (chil
 abbrev pub HasReadied : Channel → ℕ → List Record → List Record → ℕ → Type 0
 HasReadied c x before behind j = (j ≡ x) ⊎ ((counts_ready (counts_in c behind j) ≡ true) × (counts_ready (counts_in c before j) ≡ false))
 
--- With the process of the record x others have become ready for the channel. Beyond the first n forks above it none has, and none has a label for it whose child has.
+-- Beyond the first n forks above the record x no record became ready for the channel by its counts. Beyond these forks no record has a label for the channel if a child became ready for it.
 pub record ReadiesWithin (c : Channel) (n x : ℕ) (before behind : List Record) : Type 0 where
   pub counts : (i : ℕ) → (IsAbove (up_in before) n x i → ⊥) → counts_ready (counts_in c behind i) ≡ true → counts_ready (counts_in c before i) ≡ true
   pub labels : (i j : ℕ) → up_in before j ≡ Some i → (IsAbove (up_in before) n x i → ⊥) → HasReadied c x before behind j → min_labels_in c before i ≡ None

@@ -14,6 +14,6 @@ use Rattle.shim_reference.specs.Naming.{named}
 unfoldable pub meaning_of : Form → List ℕ → ℕ → Tree LocalState
 meaning_of program input budget = meaning process_ops budget (start (root program input))
 
--- what is read off it, with the name of an exception that nobody caught
+-- what is read off the tree of `meaning_of`, with the name of an exception that nobody caught
 unfoldable pub reference_of : Form → List ℕ → ℕ → Ended
 reference_of program input budget = named program.main_throws (ended process_ops (meaning_of program input budget))

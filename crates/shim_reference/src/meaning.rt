@@ -14,8 +14,8 @@ use shim_walk::Walk;
 use std::alloc::Global;
 
 /// The tree to which a program comes on an input after at most `budget` events, each the first that is
-/// enabled. The answer says, too, that nothing can happen any more in that tree, or that just so many events
-/// led to it and one more can happen.
+/// enabled. By `end` and `ran` either no event is enabled in that tree, or the tree has `budget` steps and
+/// an event is enabled.
 pub fn meaning_of(
     alloc: Global,
     program: Shared<Accepted>,
@@ -32,9 +32,8 @@ pub fn meaning_of(
 }
 
 /// What a program means on an input: what is read off that tree, with the name of an exception that nobody
-/// caught, which is one of those behind the `throws` of `main`. The answer says, too, that nothing can
-/// happen any more in that tree, or that just so many events led to it and one more can
-/// happen.
+/// caught, which is one of those behind the `throws` of `main`. By `ran` either no event
+/// is enabled in that tree, or the tree has `budget` steps and an event is enabled.
 pub fn reference(
     alloc: Global,
     program: Shared<Accepted>,

@@ -84,5 +84,5 @@ pub record IsFaultyLine (text : List ℕ) (number : ℕ) : Type 0 where
   pub number_is : length before + 1 ≡ number
   -- some journal's text has the lines before it
   pub begun : (more : List ℕ) × (b : ℕ) × (es : List Entry) × IsJournalText (joined_lines before ++ more) b es
-  -- and none has this line behind them
+  -- no journal's text has this line after the lines before it
   pub wrong : (other : List ℕ) (b : ℕ) (es : List Entry) → first_line other ≡ first_line rest → IsJournalText (joined_lines before ++ other) b es → ⊥

@@ -21,12 +21,12 @@ OneJournal = (text : List ℕ) (b c : ℕ) (es fs : List Entry) → line_feeds t
 abbrev pub OneText : Type 0
 OneText = (text other : List ℕ) (b : ℕ) (es : List Entry) → IsJournalText text b es → IsJournalText other b es → text ≡ other
 
--- this budget and these entries come out, unless memory is wanted
+-- the answer is a journal of this budget and these entries, or out of memory
 abbrev pub ComesBack : ℕ → List Entry → Result Journal JournalFault → Type 0
 ComesBack b es (Ok j) = (j.budget ≡ b) × (entries_of j.entries ≡ es)
 ComesBack b es (Err (faults.Malformed line)) = ⊥
 ComesBack b es (Err faults.NoMemory) = Unit {0}
 
--- what reading a text answers, which is that of a budget and of entries, is these
+-- reading the text of a budget and of entries answers that budget and those entries, or out of memory
 abbrev pub WrittenIsRead : Type 0
 WrittenIsRead = (text : List ℕ) (b : ℕ) (es : List Entry) (r : Result Journal JournalFault) → IsJournalText text b es → ReadAnswers text r → ComesBack b es r

@@ -15,12 +15,12 @@ ReplayAnswers o root b es (Err (faults.NotEnabled line)) = IsRefusedJournal o ro
 ReplayAnswers o root b es (Err (faults.Unfinished line)) = IsRefusedJournal o root b es (Unfinished line)
 ReplayAnswers o root b es (Err faults.NoMemory) = Unit {0}
 
--- the entry was done, or can't be
+-- Where the answer is true, the entry leads from the tree before to the tree after. Where it is false, the entry can't be done in the tree before.
 abbrev pub DoesEntry : {S : Type 0} → Ops S → Entry → Tree S → Tree S → Bool → Type 0
 DoesEntry o e before after true = entry_after o e before ≡ Some after
 DoesEntry o e before after false = entry_after o e before ≡ None
 
--- the tree comes out where no event is enabled or the budget is spent, and else the answer is this line of the end
+-- The answer once all entries are done. It is the tree where no event is enabled in it or the budget is spent. Else it is `Unfinished` with this line, the last one.
 abbrev pub AnswersEnd : {S : Type 0} → Ops S → Tree S → Bool → ℕ → Result (Tree S) ReplayFault → Type 0
 AnswersEnd o t spent line (Ok u) = (u ≡ t) × (IsQuiescent o t ⊎ ((spent ≡ true) × (IsQuiescent o t → ⊥)))
 AnswersEnd o t spent line (Err (faults.OverBudget l)) = ⊥

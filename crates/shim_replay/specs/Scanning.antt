@@ -1,4 +1,4 @@
--- What comes first in a text, read from left to right, and what is behind it.
+-- A journal's text, read from left to right: each definition gives what the text begins with, and the bytes after that.
 use Rattle.std.specs.Prelude.{◌≡◌, ℕ, zero, suc, ◌+◌, ◌*◌, ◌-◌, List, [], ◌∷◌, ◌++◌, Option, Some, None, Result, Ok, Err, nat_lt, nat_eq, eqb, codes, decimal, drop, length, if◌then◌else◌}
 use Rattle.std.specs.List.{starts_with}
 use Rattle.shim_base.specs.Paths.{Path, Channel}
@@ -16,7 +16,7 @@ abbrev pub ◌>>=◌ : {A B : Type 0} → Option A → (A → Option B) → Opti
 (Some x) >>= f = f x
 None >>= f = None
 
--- what the code reads, seen by view, is what stands there, or it finds nothing where nothing stands; unless memory is wanted
+-- The code's fault fits what the definition reads. `Malformed` comes only where the definition reads nothing, and `NoMemory` may come at any text. By `ReadsAs` a value of the code is, through `view`, what the definition reads.
 abbrev pub FailsAs : {Y : Type 0} → ReadFault → Option Y → Type 0
 FailsAs faults.NoMemory read = Unit {0}
 FailsAs faults.Malformed read = read ≡ None
@@ -25,11 +25,11 @@ abbrev pub ReadsAs : {X Y : Type 0} → (X → Y) → Result X ReadFault → Opt
 ReadsAs view (Ok x) read = read ≡ Some (view x)
 ReadsAs view (Err e) read = FailsAs e read
 
--- what is behind these bytes
+-- the bytes after `word`, where the text begins with it
 abbrev pub scan_word : List ℕ → List ℕ → Option (List ℕ)
 scan_word word bytes = if starts_with eqb bytes word then Some (drop (length word) bytes) else None
 
--- digits behind a number, which stays below the limit
+-- The number that n and all digits at the front make, with the bytes after them. Where the number reaches the limit, there is none.
 abbrev pub scan_digits : ℕ → ℕ → List ℕ → Option (ℕ × List ℕ)
 scan_digits limit n [] = Some (n, [])
 scan_digits limit n (c ∷ cs) =
@@ -41,7 +41,7 @@ unfoldable pub scan_number : ℕ → List ℕ → Option (ℕ × List ℕ)
 scan_number limit [] = None
 scan_number limit (c ∷ cs) = if nat_eq c 48 then Some (0, cs) else (if is_digit c then scan_digits limit 0 (c ∷ cs) else None)
 
--- one from 1 on
+-- a number from 1 on, without leading zeros and below the limit
 unfoldable pub scan_count : ℕ → List ℕ → Option (ℕ × List ℕ)
 scan_count limit bytes = do
   n ← scan_number limit bytes
@@ -62,7 +62,7 @@ scan_pair bytes = do
   branch ← scan_number number_limit behind
   Some ((fork.0, branch.0), branch.1)
 
--- pairs, each behind a `/`, so many at most
+-- at most so many pairs, each after a `/`, and the bytes after them
 unfoldable pub scan_pairs : ℕ → List ℕ → Option (Path × List ℕ)
 scan_pairs zero bytes = Some ([], bytes)
 scan_pairs (suc n) bytes = if starts_with eqb bytes (codes "/") then
@@ -133,7 +133,7 @@ scan_budget bytes = do
   rest ← scan_word (codes "\n") budget.1
   Some (budget.0, rest)
 
--- behind the last line nothing may stand
+-- The end of a journal's text, whose last line has this number. Where that line is faulty, the fault has its number. Where bytes follow the line, the fault has the number of the next line.
 abbrev pub ends_at : ℕ → Option (List ℕ) → Result (List Entry) ℕ
 ends_at line None = Err line
 ends_at line (Some []) = Ok []
@@ -151,7 +151,7 @@ abbrev pub ok_or_line : {A : Type 0} → ℕ → Option A → Result A ℕ
 ok_or_line line (Some x) = Ok x
 ok_or_line line None = Err line
 
--- the entries behind these ones
+-- the entries of the result with `front` before them, or the line of the result's fault
 abbrev pub with_front : List Entry → Result (List Entry) ℕ → Result (List Entry) ℕ
 with_front front (Ok es) = Ok (front ++ es)
 with_front front (Err line) = Err line
@@ -160,7 +160,7 @@ abbrev pub behind_entry : (ℕ → List ℕ → Result (List Entry) ℕ) → ℕ
 behind_entry on line sum None = Err line
 behind_entry on line sum (Some e) = with_front (e.0 ∷ []) (on (sum + steps_in e.0) e.1)
 
--- so many lines at most, the first of which has this number, with so many steps before them
+-- The entries of at most so many lines, the last of which is `stop S`. The first of the lines has this number, and the entries before it have `sum` steps.
 unfoldable pub scan_lines : ℕ → ℕ → ℕ → List ℕ → Result (List Entry) ℕ
 scan_lines zero line sum bytes = Err line
 scan_lines (suc n) line sum bytes =
@@ -178,7 +178,7 @@ behind_budget (Some b) = with_budget b.0 (scan_lines 4294967295 2 0 b.1)
 unfoldable pub scan_journal : List ℕ → Result (ℕ × List Entry) ℕ
 scan_journal bytes = behind_budget (scan_budget bytes)
 
--- what the code reads, seen by view, is what stands there, or it gives the line; unless memory is wanted
+-- The code's fault fits what the definition reads. `Malformed` has the line of the definition's fault, and `NoMemory` may come at any text. By `ReadsTextAs` a value of the code is, through `view`, what the definition reads.
 abbrev pub FailsTextAs : {Y : Type 0} → TextFault → Result Y ℕ → Type 0
 FailsTextAs texts.NoMemory read = Unit {0}
 FailsTextAs (texts.Malformed line) read = read ≡ Err line

@@ -57,13 +57,13 @@ impl From<NoMemory> for TextFault {
     }
 }
 
-/// Why a journal isn't accepted, with the number of the line, counted from 1. Of one entry `OverBudget` stands before
-/// `NotEnabled`.
+/// Why a journal isn't accepted, with the number of the line, counted from 1. Where an entry is both over budget and
+/// not enabled, the fault is `OverBudget`.
 #[derive(Clone, Copy, Debug, PartialEq, Eq)]
 pub enum ReplayFault {
     /// The steps of the entry of this line, and those before it, pass the budget.
     OverBudget { line: u32 },
-    /// A step of the entry of this line isn't enabled in its turn, or is no quiet step in an entry of these.
+    /// A step of the entry of this line isn't enabled in its turn, or it is no quiet step in an entry of quiet steps.
     NotEnabled { line: u32 },
     /// All entries are done, and an event is enabled, with steps of the budget left. It is the last line.
     Unfinished { line: u32 },

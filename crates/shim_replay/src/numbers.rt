@@ -18,7 +18,7 @@ fn is_digit(c: u8) -> bool
     b'0' <= c && c <= b'9'
 }
 
-/// What is behind these bytes.
+/// The bytes after `word`, where the text begins with it.
 pub(crate) fn scan_word<'a>(word: &[u8], bytes: &'a [u8]) -> Result<&'a [u8], ReadFault>
     ensures { ReadsAs (λ x. x.now) result (lists.scan_word word.now bytes.now) }
 {

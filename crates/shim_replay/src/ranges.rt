@@ -57,7 +57,7 @@ fn entry_fits(entry: &Entry)
     }
 }
 
-/// The entries are such as a text has.
+/// Proves that entries whose step counts are in range can be entries of a journal's text.
 pub(crate) fn entries_fit(entries: &[Entry])
     requires { All (λ e. HasStepsInRange (entry_of e)) entries.now }
     ensures { AllByRecursion FitsEntry (entries_of entries.now) }

@@ -86,13 +86,13 @@ AnswersProgram records program x answer = AnswersRecord x answer
 AnswersProgram (replays journal) program x answer = AnswersReplay x.source x.input journal answer
 AnswersProgram (runs_each names inputs) program x answer = AnswersEach names x inputs answer
 
--- What comes of a program: this of it and of its units, where it is accepted, and else that of its first fault.
+-- `OfSource` holds of the program, its source and a, where the program is accepted. Else `OfFault` holds of its first fault and a.
 abbrev pub OfProgram : {A : Type 0} → (Program → Source → A → Type 0) → (SourceFault → A → Type 0) → Program → A → Type 0
 OfProgram OfSource OfFault program a =
     ((source : Source) × (checked program ≡ Ok source) × OfSource program source a)
     ⊎ ((fault : SourceFault) × (checked program ≡ Err fault) × OfFault fault a)
 
--- What comes of bytes: of the text of a program what comes of that, and of other bytes what comes of their fault.
+-- `OfProgram` holds of a and the one program whose text the bytes are. Where they are the text of no program, `OfFault` holds of their fault and a.
 abbrev pub OfBytes : {A : Type 0} → (Program → Source → A → Type 0) → (SourceFault → A → Type 0) → List ℕ → A → Type 0
 OfBytes OfSource OfFault bytes a =
     ((program : Program) × IsOnlyText bytes program × OfProgram OfSource OfFault program a)
@@ -102,10 +102,10 @@ OfBytes OfSource OfFault bytes a =
 abbrev pub AnswersSource : SourceAction → (Source → Execution) → List ℕ → Answer → Type 0
 AnswersSource action as_run bytes answer = OfBytes (λ program source a. AnswersProgram action program (as_run source) a) (λ fault a. a ≡ refused fault) bytes answer
 
--- a source whose meaning is printed, by this text
+-- The answer to bytes whose meaning is printed. A source is answered with the text that `shown` gives of its meaning's end, and other bytes with the line of their first fault.
 abbrev pub AnswersMeaning : (Execution → Ended → List ℕ) → Job → List ℕ → List ℕ → Answer → Type 0
 AnswersMeaning shown job input bytes answer = OfBytes (λ program source a. AnswersRun ByFirstEvents shown (executed job input source) a) (λ fault a. a ≡ refused fault) bytes answer
 
--- a source that is run as a journal records it
+-- The answer to bytes that are replayed. A source is answered as `AnswersReplay` has it, and other bytes are answered with the line of their first fault.
 abbrev pub AnswersReplaySource : List ℕ → List ℕ → List ℕ → Answer → Type 0
 AnswersReplaySource input journal bytes answer = OfBytes (λ program source a. AnswersReplay source input journal a) (λ fault a. a ≡ refused fault) bytes answer

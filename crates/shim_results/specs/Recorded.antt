@@ -1,4 +1,4 @@
--- Runs whose journal is printed, and runs that go as a journal says.
+-- Runs whose journal is printed, and runs that a journal records.
 use Rattle.std.specs.Prelude.{ℕ, ◌≡◌, ◌⊎◌, List, ◌++◌, codes, decimal}
 use Rattle.shim_process.specs.Forks.{root}
 use Rattle.shim_process.specs.LocalState.{LocalState}

@@ -32,11 +32,11 @@ pub record Execution : Type 0 where
 unfoldable pub tree_of : Execution → Tree LocalState
 tree_of x = meaning_of x.source x.input x.budget
 
--- what is read off it, with the name of an exception that nobody caught
+-- what is read off the tree of the meaning, with the name of an exception that nobody caught
 unfoldable pub end_of : Execution → Ended
 end_of x = reference_of x.source x.input x.budget
 
--- the same of any tree
+-- what is read off this tree, with the name of an exception that nobody caught
 abbrev pub read_off : Execution → Tree LocalState → Ended
 read_off x t = named x.source.main_throws (ended process_ops t)
 
@@ -106,12 +106,12 @@ pub record BeginAlike (t u : Tree LocalState) : Type 0 where
   pub output : AreComparable t.output u.output
   pub histories : (c : Channel) (h k : Met) → finite.get t.histories c ≡ Some h → finite.get u.histories c ≡ Some k → (h.name ≡ k.name) × AreComparable h.values k.values
 
--- this may be read off a run that is stopped: of the meaning its own tree, and of another run a tree at which that is stopped
+-- e may be read off a run of x by this course. `ByFirstEvents` reads the tree of the meaning. `InSomeOrder` reads a tree at which the budget stops a run of x.
 abbrev pub IsStoppedEnd : Course → Execution → Ended → Type 0
 IsStoppedEnd ByFirstEvents x e = e ≡ end_of x
 IsStoppedEnd InSomeOrder x e = (t : Tree LocalState) × IsStoppedAt x t × (e ≡ read_off x t)
 
--- What a run comes to: what the meaning comes to, whatever the order of its events, unless the meaning is stopped by the budget. Then this run is stopped, too, and its status says so.
+-- What a run comes to. Where the budget doesn't stop the meaning, the run comes to the end of the meaning, whatever the order of its events. Where the budget stops the meaning, it stops this run, too, and the status is 4.
 pub data IsEnd (course : Course) (x : Execution) (e : Ended) : Type 0 where
   as_meant : status_of x ≢ 4 → e ≡ end_of x → IsEnd course x e
   stopped : status_of x ≡ 4 → IsStoppedEnd course x e → status_of_outcome e.outcome ≡ 4 → IsEnd course x e

@@ -9,7 +9,7 @@ use Rattle.shim_results.specs.RunEnds.{Execution, end_of, read_off, report_of, s
 use Rattle.shim_results.specs.Recorded.{IsJournalOf, IsJournalRefused, IsRecordOf}
 use Rattle.shim_results.specs.SourceActions.{SourceAction, runs, describes, records, replays, runs_each}
 
--- The execution that is done, where this one is asked for: just that; and where a journal is replayed one of the same source on the same input, of which that is a journal, and so within the budget of the journal. A source that is run on each of several inputs has none that is the one: what is said below of an execution is never said of those (`Batches` has what is).
+-- The execution x is done where `asked` is asked for. The two are equal, unless a journal is replayed. Then x has the same source and the same input, and the journal's budget; the journal is that of a run of x. For a source that is run on several inputs this is false: it has no one execution, and `Batches` has its executions.
 abbrev pub IsRunBy : SourceAction → Execution → Execution → Type 0
 IsRunBy (runs course shown) asked x = x ≡ asked
 IsRunBy (describes relation) asked x = x ≡ asked
@@ -25,7 +25,7 @@ IsRefusedBy records asked line = ⊥
 IsRefusedBy (replays journal) asked line = IsJournalRefused asked.source asked.input journal line
 IsRefusedBy (runs_each names inputs) asked line = ⊥
 
--- The status for how the meaning ended; a source that isn't run has 0. Of a source that is run on several inputs it is asked of no execution, and the 0 says nothing.
+-- The status for how the meaning of x ended. A source that is described has 0. A source that is run on several inputs has no one execution, so `IsRunBy` gives no x for which its 0 is used.
 abbrev pub status_by : SourceAction → Execution → ℕ
 status_by (runs course shown) x = status_of x
 status_by (describes relation) x = 0
@@ -41,7 +41,7 @@ IsTextBy records program x text = IsRecordOf x (tree_of x) text
 IsTextBy (replays journal) program x text = IsJournalOf x (tree_of x) journal × (text ≡ report_of x.source (end_of x))
 IsTextBy (runs_each names inputs) program x text = ⊥
 
--- this may be read off a run that is stopped; no description of a source is
+-- e may be read off a run of x where the budget stops it. For a source that is described or run on several inputs this is false.
 abbrev pub IsStoppedBy : SourceAction → Execution → Ended → Type 0
 IsStoppedBy (runs course shown) x e = IsStoppedEnd course x e
 IsStoppedBy (describes relation) x e = ⊥
@@ -49,7 +49,7 @@ IsStoppedBy records x e = IsStoppedEnd InSomeOrder x e
 IsStoppedBy (replays journal) x e = IsStoppedEnd InSomeOrder x e
 IsStoppedBy (runs_each names inputs) x e = ⊥
 
--- The text shows a run that was stopped at this tree: it reports what was read off, or is the journal of a run to the tree; and where a journal was replayed that is one. Of a source that isn't run none does.
+-- What is printed where the budget stops a run of x at this tree. A run has the text of what is read off the tree, and `records` has the journal of a run to the tree. With `replays` the journal in the action is that of a run to the tree. For a source that is described or run on several inputs this is false.
 abbrev pub IsShownAt : SourceAction → Execution → Tree LocalState → List ℕ → Type 0
 IsShownAt (runs course shown) x t text = text ≡ shown x (read_off x t)
 IsShownAt (describes relation) x t text = ⊥
@@ -57,7 +57,7 @@ IsShownAt records x t text = IsRecordOf x t text
 IsShownAt (replays journal) x t text = IsJournalOf x t journal × (text ≡ report_of x.source (read_off x t))
 IsShownAt (runs_each names inputs) x t text = ⊥
 
--- the text shows a run that was stopped, of which this was read off
+-- What is printed where the budget stops a run of x, off whose tree e is read. A journal, printed or replayed, is that of a run to such a tree. For a source that is described or run on several inputs this is false.
 abbrev pub IsShown : SourceAction → Execution → Ended → List ℕ → Type 0
 IsShown (runs course shown) x e text = text ≡ shown x e
 IsShown (describes relation) x e text = ⊥
@@ -65,7 +65,7 @@ IsShown records x e text = (t : Tree LocalState) × IsStoppedAt x t × (e ≡ re
 IsShown (replays journal) x e text = (t : Tree LocalState) × IsStoppedAt x t × (e ≡ read_off x t) × IsJournalOf x t journal × (text ≡ report_of x.source e)
 IsShown (runs_each names inputs) x e text = ⊥
 
--- The meaning ends for this cause; of a source that isn't run, that comes with 0. A source that is run on several inputs has no one execution: nothing is said of it here.
+-- The meaning of x ends for this cause. For a source that is described the status is 0, whatever the cause. For a source that is run on several inputs this is false: it has no one execution.
 abbrev pub EndsBy : ℕ → (Execution → Type 0) → SourceAction → Execution → Type 0
 EndsBy status Cause (runs course shown) x = Cause x
 EndsBy status Cause (describes relation) x = status ≡ 0
@@ -77,7 +77,7 @@ EndsBy status Cause (runs_each names inputs) x = ⊥
 abbrev pub IsReachedWithin : Execution → Type 0
 IsReachedWithin x = (n : ℕ) × (n ≤ x.budget) × IsReachedIn n x
 
--- So it is of a source that is run once. A source that is run on several inputs has no one execution: nothing is said of it here.
+-- A run of x within the budget leads to the tree of the meaning, where the source is run once. Of a source that is described nothing is asked. For a source that is run on several inputs this is false: it has no one execution.
 abbrev pub IsReached : SourceAction → Execution → Type 0
 IsReached (runs course shown) x = IsReachedWithin x
 IsReached (describes relation) x = Unit {0}

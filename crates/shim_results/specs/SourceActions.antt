@@ -17,7 +17,7 @@ use Rattle.shim_results.specs.RunEnds.{Execution, report_of}
 abbrev pub executed : Job → List ℕ → Source → Execution
 executed job input source = record { source = source; input = input; budget = job.budget }
 
--- The units of the functions come first, each at the number of its function; those behind them were lifted out of functions, and stand at no such number. So this many functions are there, of which the first has the number `n`.
+-- How many of these units are units of functions, where the first unit has the number `n`. The units of the functions come first, each at the number of its function. The units after them were lifted out of functions, and none of these is at the number of its function.
 abbrev pub functions_from : ℕ → List UnitOf → ℕ
 functions_from n [] = n
 functions_from n (u ∷ us) = if nat_eq u.function n then functions_from (n + 1) us else n

@@ -43,7 +43,8 @@ impl Recent {
         }
     }
 
-    /// Sees to a place for each of so many channels. Some share one, but hardly ever more than it has numbers.
+    /// Makes a table of twice the size, with nothing noted, if there are fewer places than so many channels. Channels
+    /// may share a place, but hardly ever more of them than the place has numbers.
     pub(crate) fn make_room(&mut self, alloc: Global, channels: usize) -> Result<(), NoMemory> {
         if channels > self.places.len() {
             let wanted = self.places.len().saturating_mul(2).max(FEWEST_PLACES);

@@ -30,7 +30,7 @@ pub record SameTree {S : Type 0} (o : Ops S) (before after : RunStateView S) : T
   pub table : after.table ≡ before.table
   pub checked_out : after.process_lists.checked_out ≡ before.process_lists.checked_out
 
--- Nothing but a queue has changed. Whoever is before a quiet step is checked out; or the process with this number does, and isn't.
+-- Nothing but a queue has changed. None: each process before a quiet step is checked out. Some: the process with this number is before a quiet step, and isn't checked out.
 abbrev pub IsNextQuiet : {S : Type 0} → Ops S → RunStateView S → RunStateView S → Option ℕ → Type 0
 IsNextQuiet {S} o before after None = SameTree o before after × ((l : S) → IsGrantable o (tree_in o before) l → (i : ℕ) × IsCheckedOut o before i l)
 IsNextQuiet {S} o before after (Some number) = SameTree o before after × ((l : S) × IsHomeAt o before number l)

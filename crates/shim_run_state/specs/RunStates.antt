@@ -53,7 +53,7 @@ abbrev pub or_begun : {S : Type 0} → S → Option (Node S) → Node S
 or_begun l None = Live l
 or_begun l (Some n) = n
 
--- the tree that it is
+-- the tree that a run state represents
 abbrev pub tree_in : {S : Type 0} → Ops S → RunStateView S → Tree S
 tree_in o v = record { root = or_begun v.begun (represented_tree o v.table.states (views v.table)); output = v.output; histories = v.histories; logs = v.logs; counts = counted (counts_from (path_at o v.table) v.process_lists.own ++ v.past); events = v.events }
 
@@ -72,7 +72,7 @@ pub record IsCheckedOut {S : Type 0} (o : Ops S) (v : RunStateView S) (i : ℕ) 
 abbrev pub QuietAreListed : {S : Type 0} → Ops S → TableView S → List Bool → List Bool → Type 0
 QuietAreListed {S} o v ready_queue checked_out = (i : ℕ) (l : S) → IsQuietAt o v i l → (is_listed ready_queue i ≡ true) ⊎ (is_listed checked_out i ≡ true)
 
--- The records show the tree, and what may happen next is listed: whatever event is enabled is looked for at a number that is listed, and whoever is before a quiet step is listed or checked out. Who is checked out is before a quiet step.
+-- The records represent the tree. The event queue has the number at which each enabled event that is no quiet step is looked for. Each process before a quiet step is in the ready queue or checked out. Each checked out process is before a quiet step. The tree has at most 4,000,000 steps.
 pub record RunStateInvariant {S : Type 0} (o : Ops S) (v : RunStateView S) : Type 0 where
   pub represents : TableInvariant o [] v.table (tree_in o v).root
   pub event_queue : AreListed o v.table (tree_in o v) v.process_lists.event_queue

@@ -29,7 +29,7 @@ pub record ListsEachQuiet {S : Type 0} (o : Ops S) (v : TableView S) (numbers : 
   pub only : (i : ℕ) → is_listed new i ≡ true → (is_listed old i ≡ true) ⊎ IsAmong i numbers
   pub as_many : length new ≡ length old
 
--- so it is with all lists together, and neither counts nor who is checked out have changed
+-- For these numbers both queues have changed as `ListsEach` and `ListsEachQuiet` define. Counts and checked out flags are as before.
 pub record RequeuesEach {S : Type 0} (o : Ops S) (v : TableView S) (numbers : List ℕ) (before behind : ProcessListsView) : Type 0 where
   pub own : behind.own ≡ before.own
   pub event_queue : ListsEach o v numbers before.event_queue behind.event_queue

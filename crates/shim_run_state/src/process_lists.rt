@@ -117,7 +117,7 @@ impl ProcessLists {
         );
     }
 
-    /// So it is where the process did no step of its own.
+    /// Does what `acted` does, for a process that did no step of its own.
     pub(crate) fn requeue<L: Local>(
         &mut self,
         table: &ProcessTable<L>,

@@ -1,4 +1,4 @@
--- The first place that is refused: what is asked first stands first.
+-- A place that is refused. Of several, the first to be asked about is the one reported.
 use Rattle.std.specs.Prelude.{ℕ, ◌≡◌, List, Option, Some, None, Result, Ok, Err}
 use Rattle.shim_scopes.specs.declared.fault.ScopeKind.{ScopeKind}
 use Rattle.shim_scopes.specs.declared.fault.ScopeFault.{ScopeFault}

@@ -1,4 +1,4 @@
--- What the code's scope says of a place, and how the answers of the code show what is meant.
+-- The declarations and exceptions that the code's `Scope` has for a place, and which of the code's answers are the ones meant.
 use Rattle.std.specs.Prelude.{◌≡◌, ℕ, ◌+◌, ◌≤◌, List, [], ◌∷◌, ◌++◌, Option, Some, None, Result, Ok, Err, take, drop, length}
 use Rattle.shim_syntax.specs.declared.tree.Sort.{Sort}
 use Rattle.shim_syntax.specs.declared.tree.Function.{Function}
@@ -23,12 +23,12 @@ whole functions names = record { functions = functions; names = names }
 abbrev pub IsNumber : ℕ → Type 0
 IsNumber count = count ≤ 4294967295
 
--- the counts of a program's functions and names do
+-- the counts of a program's functions and of its names fit numbers of the tree
 pub record AreNumbers (w : Whole) : Type 0 where
   pub functions : IsNumber (length w.functions)
   pub names : IsNumber (length w.names)
 
--- the count of a function's exceptions and slots does, with so many more that are still to come
+-- the function's exceptions and slots so far, and `more` that are still to come, together fit a number of the tree
 unfoldable pub HasRoom : ℕ → Scope → Type 0
 HasRoom more s = IsNumber (s.throws + (length s.slots + (length s.tries + more)))
 
@@ -45,7 +45,7 @@ GivesBound (Ok t) now meant = meant ≡ Ok (record { tree = t; before = now })
 GivesBound (Err (Refused line kind name)) now meant = meant ≡ Err (record { line = line; kind = kind; name = name })
 GivesBound (Err NoMemory) now meant = Unit {0}
 
--- what encloses the block is as it was
+-- the declarations around the block, which begins at `start`, and the exceptions in force are as before
 pub record Kept (start : ℕ) (old now : Scope) : Type 0 where
   pub outer : take start now.visible ≡ take start old.visible
   pub long : start ≤ length now.visible
@@ -57,7 +57,7 @@ abbrev pub storing_stmt : Store → ℕ → UExpr → RWhat
 storing_stmt store.Assign = Assign
 storing_stmt store.NextAssign = NextAssign
 
--- some results before those that are meant
+-- the results that are already done, before those that are meant; a refusal stays
 abbrev pub with_done : {T : Type 0} → List T → Meant (List T) → Meant (List T)
 with_done done (Ok r) = Ok (record { tree = done ++ r.tree; before = r.before })
 with_done done (Err r) = Err r
@@ -70,7 +70,7 @@ abbrev pub RefusesWith : ScopeFault → ℕ → ScopeKind → List ℕ → Type 
 RefusesWith (Refused l k n) line kind name = (l ≡ line) × ((k ≡ kind) × (n ≡ name))
 RefusesWith NoMemory line kind name = Unit {0}
 
--- the check of a place passes where there is no name to refuse it for
+-- The check of a place passes if no name is refused there. Otherwise it refuses that name with the line and the kind. `NoMemory` claims nothing.
 abbrev pub Passes : {T : Type 0} → Result T ScopeFault → ℕ → ScopeKind → Option (List ℕ) → Type 0
 Passes (Ok t) line kind name = name ≡ None
 Passes (Err (Refused l k n)) line kind name = (name ≡ Some n) × ((l ≡ line) × (k ≡ kind))

@@ -10,6 +10,6 @@ abbrev pub run : {E T : Type 0} → (E → T → Option T) → List E → T → 
 run step [] t = Some t
 run step (e ∷ es) t = on_some (run step es) (step e t)
 
--- an event keeps what is said of the states
+-- each event keeps what holds of a state
 abbrev pub IsInvariant : {E T : Type 0} → (E → T → Option T) → (T → Type 0) → Type 0
 IsInvariant {E} {T} step sound = (t : T) → sound t → (e : E) (a : T) → step e t ≡ Some a → sound a

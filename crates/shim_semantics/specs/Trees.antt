@@ -125,7 +125,7 @@ change_nodes t (Some n) = Some (record { root = n; output = t.output; histories 
 abbrev pub poisons : {S : Type 0} → Ops S → Path → Channel → Node S → Option (Node S)
 poisons o p c root = cond (has_path o p (led_to o root p)) (poison_route o c root (route (o.path (state root)) p)) None
 
--- One value more. The first one brings the name.
+-- The history with one value more. The first rendezvous of a channel gives the name.
 abbrev pub with_met : ℕ → ℤ → Option Met → Met
 with_met name v None = record { name = name; values = v ∷ [] }
 with_met name v (Some h) = record { name = h.name; values = h.values ++ v ∷ [] }

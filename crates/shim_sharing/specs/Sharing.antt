@@ -28,7 +28,7 @@ abbrev pub clash_at : ℕ → ℕ → Option ℕ → Option Clash
 clash_at i j None = None
 clash_at i j (Some x) = Some (record { first = i; second = j; slot = x })
 
--- of branch i with those behind it, the first of which is j
+-- the first clash of branch `i` with a branch after it, of which the first in the list is `j`
 abbrev pub clash_with : ℕ → ℕ → Captures → ℕ → List Captures → Option Clash
 clash_with n i s j [] = None
 clash_with n i s j (t ∷ ts) = option_or (clash_at i j (common n s t)) (clash_with n i s (j + 1) ts)
@@ -61,7 +61,7 @@ abbrev pub offence_at : List Sort → SharingPlace → Option Offence
 offence_at sorts (Fork line branches) = clash_offence line (clash_from (length sorts) 0 (map (captures sorts) branches))
 offence_at sorts (Called line gs) = alias line (given_again [] gs)
 
--- the first in textual order
+-- the offence of the first place, in textual order, that the sharing rule refuses
 abbrev pub first_offence : List Sort → List SharingPlace → Option Offence
 first_offence sorts [] = None
 first_offence sorts (p ∷ ps) = option_or (offence_at sorts p) (first_offence sorts ps)

@@ -56,10 +56,10 @@ module _ {T : Type 0} where
   abbrev pub IsSameLane : Lane T → Lane T → Type 0
   IsSameLane old new = (home_of new ≡ home_of old) × (lanes_of new ≡ lanes_of old) × IsSameDeque old.own new.own × AreSameDeques old.others.items new.others.items
 
-  -- an empty own deque is allowed beside what it has done
+  -- the rule of deques allows that the lane's own deque is empty, after what the lane did at it
   abbrev pub OwnWasEmpty : Lane T → Type 0
   OwnWasEmpty l = WasEmptyAt 0 (view_of l.own)
 
-  -- an empty deque of that lane is allowed beside what this one has done
+  -- the rule of deques allows that the deque of the lane `from` is empty, after what this lane took from it
   abbrev pub OtherWasEmpty : Lane T → ℕ → Type 0
   OtherWasEmpty l from = (t : OtherDeque T) × (get_elem? l.others.items (deque_index l.home from) ≡ some t) × WasEmpty (view t.pass)

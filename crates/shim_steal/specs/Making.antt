@@ -37,12 +37,12 @@ module _ {T : Type 0} where
   abbrev pub IsNewWayTo : OwnDeque T → OtherDeque T → Type 0
   IsNewWayTo own t = IsSameAsOwn t own × (view {V = View T} t.pass ≡ fresh)
 
-  -- the lane may take from this deque, too, and who has `mine` from that of the lane
+  -- The lane `old` becomes `new`, which may take from the deque d, too; d becomes e. The owner of `mine` may take from the lane's own deque.
   abbrev pub IsLinked : Lane T → Lane T → OwnDeque T → OwnDeque T → OtherDeque T → Type 0
   IsLinked old new d e mine = (home_of new ≡ home_of old) × IsAsBefore old.own new.own × IsAsBefore d e × IsNewWayTo new.own mine
       × ((t : OtherDeque T) × (new.others.items ≡ old.others.items ++ t ∷ []) × IsNewWayTo e t)
 
-  -- of n lanes the first k may take from this deque, too, and who has the others from theirs
+  -- While a lane is added to n lanes: the first k of them may take from its deque `own`. `others` leads to the deques of these k lanes.
   pub record AreLinked (n k : ℕ) (all : List (Lane T)) (own : OwnDeque T) (others : List (OtherDeque T)) : Type 0 where
     pub count : length all ≡ n
     pub unused : ((view_of own).pushed ≡ []) × ((view_of own).taken ≡ []) × (k ≡ 0 → (view_of own).made ≡ 0)

@@ -1,5 +1,5 @@
--- The grammar. `IsX .. s r v` says that an X which reads as v stands at the front of the terminals s, and that r follows it.
--- c says which levels and numbers things may have, l is the level, and v and w are what was counted before it and behind it.
+-- The grammar. `IsX .. s r x` holds if the terminals s are those of an X, whose tree is x, followed by the terminals r.
+-- c is the limits, l the level, v the counts before the X, and w the counts after it.
 use Rattle.std.specs.Prelude.{ℕ, ℤ, suc, max, ◌≡◌, List, [], ◌∷◌, ◌++◌, Option, Some, None, Bool, true, false}
 use Rattle.shim_base.specs.declared.token.Keyword.TheVariants as k
 use Rattle.shim_base.specs.declared.token.Sign.{Sign as SignOf}
@@ -143,7 +143,7 @@ mutual
         → IsExpr c 0 (suc l) (at_level (suc l) (with_operator v)) w s r x → IsExpr c 0 l v w (Sign g.Tilde p ∷ s) r (e.Unary Flip x)
     row : {n l : ℕ} {v u w : TextCounts} {s m r : List Terminal} {x y : Expr} → IsExpr c n l v u s m x → IsChain c n l u w m r x y → IsExpr c (suc n) l v w s r y
 
-  -- what follows an operand x of the row suc n, with all that it is joined to, from the left
+  -- The rest of an expression of the row suc n after its first operand x. Its tree y joins x with the further operands, from the left.
   pub data IsChain (c : Limits) : ℕ → ℕ → TextCounts → TextCounts → List Terminal → List Terminal → Expr → Expr → Type 0 where
     stop : {n l : ℕ} {v : TextCounts} {r : List Terminal} {x : Expr} → IsChain c n l v v r r x x
     join : {n l : ℕ} {v u w : TextCounts} {o : SignOf} {p : Place} {s m r : List Terminal} {x y z : Expr} → row_of_sign o ≡ suc n → c (Sign o p ∷ s) (Count Operators) (suc v.operators) ≡ true
@@ -160,7 +160,7 @@ mutual
     arguments : {l : ℕ} {v u w : TextCounts} {s m r : List Terminal} {x : Expr} {xs : List Expr} → c s (Count Arguments) 1 ≡ true → IsWhole c l v u s m x → IsMoreArguments c l 1 u w m r xs
         → IsArguments c l v w s r (x ∷ xs)
 
-  -- behind n arguments
+  -- the rest of a call's arguments after n of them, with the right parenthesis
   pub data IsMoreArguments (c : Limits) : ℕ → ℕ → TextCounts → TextCounts → List Terminal → List Terminal → List Expr → Type 0 where
     arguments_end : {l n : ℕ} {v : TextCounts} {p : Place} {r : List Terminal} → IsMoreArguments c l n v v (Sign g.RightParen p ∷ r) r []
     argument : {l n : ℕ} {v u w : TextCounts} {p : Place} {s m r : List Terminal} {x : Expr} {xs : List Expr} → c s (Count Arguments) (suc n) ≡ true → IsWhole c l v u s m x
@@ -284,7 +284,7 @@ mutual
     branch : {l n : ℕ} {v u w : TextCounts} {p : Place} {s m r : List Terminal} {b : Branch} {bs : List Branch} → c s (Count Branches) (suc n) ≡ true → IsBranch c l v u s (Key k.Par p ∷ m) b
         → IsBranches c l (suc n) u w m r bs → IsBranches c l n v w s r (b ∷ bs)
 
-  -- the statements of a block stand inside the fork, and a call has its level
+  -- A branch of a fork of the level l. The statements of a block branch are one level deeper; a call has the level of the fork.
   pub data IsBranch (c : Limits) : ℕ → TextCounts → TextCounts → List Terminal → List Terminal → Branch → Type 0 where
     block_branch : {l : ℕ} {v w : TextCounts} {p : Place} {s r : List Terminal} {xs : List Stmt} → IsBlock c (suc l) v w s r xs
         → IsBranch c l v w (Sign g.LeftBrace p ∷ s) r (record { line = p.line; what = br.Block xs })
@@ -302,7 +302,7 @@ mutual
     void_params : {p q : Place} {r : List Terminal} → IsParams c (Key k.Void p ∷ Sign g.RightParen q ∷ r) r []
     params : {s m r : List Terminal} {x : Param} {xs : List Param} → c s (Count Parameters) 1 ≡ true → IsParam s m x → IsMoreParams c 1 m r xs → IsParams c s r (x ∷ xs)
 
-  -- behind n parameters
+  -- the rest of the parameters after n of them, with the right parenthesis
   pub data IsMoreParams (c : Limits) : ℕ → List Terminal → List Terminal → List Param → Type 0 where
     params_end : {n : ℕ} {p : Place} {r : List Terminal} → IsMoreParams c n (Sign g.RightParen p ∷ r) r []
     another_param : {n : ℕ} {p : Place} {s m r : List Terminal} {x : Param} {xs : List Param} → c s (Count Parameters) (suc n) ≡ true → IsParam s m x → IsMoreParams c (suc n) m r xs

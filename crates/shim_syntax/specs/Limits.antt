@@ -35,11 +35,11 @@ Limits = List Terminal → Limit → ℕ → Bool
 abbrev pub limits : Limits
 limits s limit n = is_within limit n
 
--- none of them
+-- no limits: each level and each number is within them
 abbrev pub no_limits : Limits
 no_limits s limit n = true
 
--- that on nesting alone
+-- the limit on nesting, and no limit on a count
 abbrev pub nesting_alone : Limits
 nesting_alone s Nesting n = is_within Nesting n
 nesting_alone s (Count what) n = true
@@ -54,7 +54,7 @@ is_same m.Branches m.Branches = true
 is_same m.Operators m.Operators = true
 is_same _ _ = false
 
--- that on nesting, and of the counts that of one kind alone
+-- the limit on nesting, and the limit on the count of one kind
 abbrev pub nesting_and : Many → Limits
 nesting_and what s Nesting n = is_within Nesting n
 nesting_and what s (Count other) n = not (is_same what other) || is_within (Count other) n

@@ -1,4 +1,4 @@
--- How large a program is: each number, each operator, each statement and each name that is declared, called or used counts one, and so do the functions and the branches that are blocks.
+-- How large a program is. A function, a parameter, a name of a `throws`, a block branch, a number, an operator and a variable in an expression count one each. A statement counts one, and so does a branch that is a call; its first name outside expressions is included. Each further name outside expressions counts one.
 use Rattle.std.specs.Prelude.{ℕ, suc, ◌+◌, List, [], ◌∷◌, Option, Some, None, map, length}
 use Rattle.shim_syntax.specs.declared.tree.Expr.{Expr, fold-Expr, Expr-F}
 use Rattle.shim_syntax.specs.declared.tree.Call.{Call as CallOf}

@@ -32,21 +32,21 @@ abbrev pub is_root : Path → Bool
 is_root [] = true
 is_root (pair ∷ path) = false
 
--- every trap of a small process
+-- the stop of a small process that is trapped: each of its traps is a division by zero in line 1
 abbrev pub at_trap : StopView
 at_trap = AtTrap trap.Zero 1
 
--- a put of the process that holds the output, or of another one
+-- the stop before a put, by whether the process is the root: the root puts, and any other process is trapped
 abbrev pub put_stop : Bool → StopView
 put_stop true = AtPut
 put_stop false = at_trap
 
--- a throw of an exception that is in force, or of another one
+-- the stop before a throw of this label, by whether its exception is in force: where it isn't, the process is trapped
 abbrev pub throw_stop : ℕ → Bool → StopView
 throw_stop label true = AtThrow label
 throw_stop label false = at_trap
 
--- where the process stands with these steps left
+-- the stop of the process where these are the steps left
 abbrev pub stop_at : SmallView → List Step → StopView
 stop_at s [] = AtFinish
 stop_at s (step.Quiet ∷ left) = AtQuiet
@@ -66,7 +66,7 @@ stop_of s = stop_at s s.left
 abbrev pub passed : SmallView → SmallView
 passed s = record s { left = drop 1 s.left }
 
--- the places after the next step, which may be a `try`
+-- the process's own exception places once the first of these steps is done: a `Try` adds its own as the innermost
 abbrev pub opened : List Step → List (ℕ × ℕ) → List (ℕ × ℕ)
 opened (step.Try name line ∷ left) places = places ++ (name, line) ∷ []
 opened _ places = places
@@ -78,7 +78,7 @@ abbrev pub is_trap : StopView → Bool
 is_trap (AtTrap kind line) = true
 is_trap _ = false
 
--- behind the next step the process would stand trapped: if that is a put or a fork, it traps
+-- Whether the process is trapped once the first of these steps is done. Where it is, a put or a fork that is the first step traps.
 abbrev pub trap_behind : SmallView → List Step → Bool
 trap_behind s [] = false
 trap_behind s (x ∷ left) = is_trap (stop_at s left)
@@ -88,7 +88,7 @@ abbrev pub byte_of : ℤ → ℕ
 byte_of (pos zero) = 0
 byte_of v = 1
 
--- the byte of a put that traps, or not
+-- the byte that a put gives, by whether the put traps: a put that traps gives none
 abbrev pub byte_put : Bool → ℤ → Option ℕ
 byte_put true v = None
 byte_put false v = Some (byte_of v)
@@ -144,7 +144,7 @@ children_of s = children_from s 0 (branches s.left)
 abbrev pub forked : SmallView → SmallView
 forked s = record s { forks = s.forks + 1 }
 
--- a fork that traps, or not
+-- What a fork gives, by whether it traps. A fork that traps makes no child, and the process has passed it.
 abbrev pub fork_result : Bool → SmallView → ForkedView SmallView
 fork_result true s = Trapped (passed s)
 fork_result false s = Parted (forked s) (children_of s)
@@ -153,11 +153,11 @@ fork_result false s = Parted (forked s) (children_of s)
 abbrev pub identity_of : SmallView → Path × ℕ
 identity_of s = (s.path, s.base)
 
--- those of the child in this place
+-- the identity of the child in this place of this fork: the parent has this path, and around the child so many exception places are in force
 abbrev pub identity : Path → ℕ → ℕ → ℕ → Path × ℕ
 identity path base fork place = (path ++ (fork, place) ∷ [], base)
 
--- those of so many children from this place on
+-- the identities of so many children of this fork, from this place on
 abbrev pub identities : Path → ℕ → ℕ → ℕ → ℕ → List (Path × ℕ)
 identities path base fork place zero = []
 identities path base fork place (suc n) = identity path base fork place ∷ identities path base fork (place + 1) n
@@ -174,11 +174,11 @@ value_given v (k ∷ children) = k.value
 abbrev pub joined : SmallView → List SmallView → Bool → SmallView
 joined s children goes_on = record s { value = value_given s.value children; left = if goes_on then drop 1 s.left else s.left }
 
--- behind the step at which it stands, with the places outside of that of the label alone, and the number that the exception gave
+-- The process once it caught the exception of this label. Its next step is done. Its own exception places are those outside the label's place, and its value is the number that was thrown.
 abbrev pub unwound : SmallView → ℕ → ℤ → SmallView
 unwound s label v = record s { left = drop 1 s.left; value = v; places = take (label - s.base) s.places }
 
--- the channels that a fork gave a process that is the root, or isn't
+-- the channels that a fork gave the process, by whether it is the root: no fork gave the root any
 abbrev pub given_to : Bool → NamedChannel → List NamedChannel
 given_to true c = []
 given_to false c = c ∷ []

@@ -19,7 +19,7 @@ parted false s p ks e = (cc, cc)
 pub parent_is : (l p : SmallView) (ks : List SmallView) → small_ops.fork l ≡ Parted p ks → p ≡ forked l
 parent_is l p ks e = (parted (trap_behind l l.left) l p ks e).0
 
--- what holds of the parent and the children that the fork gives, holds of those that are told
+-- what holds of `forked l` and `children_of l` holds of each parent and children that the fork of l gives
 pub at_fork : (P : SmallView → List SmallView → Type 0) (l p : SmallView) (ks : List SmallView) → Forks small_ops l p ks → P (forked l) (children_of l) → P p ks
 at_fork P l p ks forks holds =
     let is = parted (trap_behind l l.left) l p ks forks.1 in
@@ -33,7 +33,7 @@ trapped false s m e = absurd cc
 pub trapped_is : (l m : SmallView) → small_ops.fork l ≡ Trapped m → m ≡ passed l
 trapped_is l m e = (trapped (trap_behind l l.left) l m e).0
 
--- a state that is passed stands at the steps behind the next one
+-- `trap_behind` is whether the process is trapped where these steps are left, without the first
 passed_stands : (s : SmallView) (left : List Step) → is_trap (stop_at s (drop 1 left)) ≡ trap_behind s left
 passed_stands s [] = refl
 passed_stands s (x ∷ left) = refl
@@ -47,11 +47,11 @@ stands_so AtFinish e = absurd cc
 stands_so (AtThrow x) e = absurd cc
 stands_so (AtTrap kind line) e = (kind, line, refl)
 
--- a trap behind the next step is stood at when that is done
+-- where `trap_behind` holds of the steps left, the process is trapped once its next step is passed
 pub is_trapped : (l : SmallView) → trap_behind l l.left ≡ true → IsTrapped small_ops (passed l)
 is_trapped l e = stands_so (stop_of (passed l)) (passed_stands l l.left ∙ e)
 
--- and where there is none, the process doesn't stand trapped
+-- where `trap_behind` doesn't hold of the steps left, the process isn't trapped once its next step is passed
 pub not_trapped : (l : SmallView) → trap_behind l l.left ≡ false → IsTrapped small_ops (passed l) → ⊥
 not_trapped l none (kind, line, at) = true≢false (sym (ap is_trap at) ∙ (passed_stands l l.left ∙ none))
 

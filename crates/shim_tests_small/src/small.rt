@@ -51,8 +51,8 @@ const MOST_PLACES: u32 = 4;
 /// caught, or 0. It puts 1 for each value but 0. The children of a fork share the channel, and the value of
 /// the first comes back. The root carries the channel and holds the output.
 ///
-/// It stands trapped at a `Trap`, at a put of a process that isn't the root, and at a throw of an
-/// exception that isn't in force. A put or a fork behind which it would stand so traps. Each of these
+/// It is trapped at a `Trap`, at a put of a process that isn't the root, and at a throw of an exception
+/// that isn't in force. A put or a fork after which it would be trapped traps itself. Each of these traps
 /// is a division by zero in line 1. Where four exception places are in force, that of a trap among them, a
 /// `Try` wants memory that isn't there.
 #[derive(Drop)]

@@ -1,4 +1,4 @@
--- Small processes that differ in values that no call tells: a join takes back the value of the first branch alone.
+-- Pairs of small processes that differ at most in values that no call of a tree gives. A join takes back the value of the first child alone.
 use Rattle.std.specs.Prelude.{◌≡◌, ◌+◌, ℕ, zero, ℤ, Bool, true, false, ◌&&◌, eqb, List, [], ◌∷◌, ◌++◌, refl}
 use Rattle.std.proofs.Common.{ap, sym, subst, ◌∙◌}
 use Rattle.shim_base.specs.Paths.{Path}
@@ -13,7 +13,7 @@ abbrev pub in_first_branches : Path → Bool
 in_first_branches [] = true
 in_first_branches (x ∷ path) = eqb x.1 0 && in_first_branches path
 
--- the two are the same but for their values, and those are the same where the process is in first branches alone
+-- The two processes differ at most in their values. Where their path has first branches alone, their values are equal, too.
 abbrev pub DifferUnseen : SmallView → SmallView → Type 0
 DifferUnseen l m = (m ≡ record l { value = m.value }) × (in_first_branches l.path ≡ true → m.value ≡ l.value)
 
@@ -29,7 +29,7 @@ child_is_first : (p : Path) (f : ℕ) → in_first_branches p ≡ true → in_fi
 child_is_first [] f e = refl
 child_is_first (x ∷ p) f e = both_hold (eqb x.1 0) (in_first_branches (p ++ (f, 0) ∷ [])) (first_holds _ (in_first_branches p) e) (child_is_first p f (second_holds (eqb x.1 0) _ e))
 
--- a process in first branches alone is the same in both
+-- two such processes are equal where their path has first branches alone
 seen_is_same : (l m : SmallView) → DifferUnseen l m → in_first_branches l.path ≡ true → m ≡ l
 seen_is_same l m h first = h.0 ∙ ap (λ v. (let s : SmallView = record l { value = v } in s)) (h.1 first)
 
@@ -47,7 +47,7 @@ forks_differ false l m h = (
   subst (λ left. AllTied DifferUnseen (children_of l) (children_from m 0 (branches left))) (sym (ap (λ s. s.left) h.0)) (children_differ l m 0 (branches l.left) h),
 )
 
--- the value that comes back is that of the first child
+-- where their path has first branches alone, two such parents take back equal values from the first of their children
 values_come_back : (l m : SmallView) (ls ms : List SmallView) → DifferUnseen l m → AllTied DifferUnseen ls ms → AreOfLastFork l ls → in_first_branches l.path ≡ true → value_given m.value ms ≡ value_given l.value ls
 values_come_back l m [] [] h each born e = h.1 e
 values_come_back l m (k ∷ ks) (j ∷ js) h each born e =

@@ -39,7 +39,7 @@ abbrev pub input_readings : Option (List ℕ) → List FileView
 input_readings None = []
 input_readings (Some name) = record { name = name; limit = input_limit } ∷ []
 
--- and so is a journal
+-- a journal that was named is read; where none is named, none is read
 abbrev pub journal_readings : Option (List ℕ) → List FileView
 journal_readings None = []
 journal_readings (Some name) = record { name = name; limit = journal_limit } ∷ []
@@ -56,7 +56,7 @@ abbrev pub source_readings : Origin → Job → List FileView
 source_readings Stored job = source_reading job ∷ []
 source_readings Generated job = []
 
--- what is read beside it
+-- the files that a job reads beside its source
 abbrev pub readings_beside : Extra → Job → List FileView
 readings_beside Nothing job = []
 readings_beside Input job = input_readings job.input
@@ -101,11 +101,11 @@ beside_in job contents = beside_of (row_of job.mode).beside job (contents_behind
 abbrev pub input_in : Job → List (List ℕ) → List ℕ
 input_in job contents = (beside_in job contents).input
 
--- that of its journal
+-- of the contents of a job's files that of its journal
 abbrev pub journal_in : Job → List (List ℕ) → List ℕ
 journal_in job contents = (beside_in job contents).journal
 
--- and those of its inputs, where it has several
+-- of the contents of a job's files those of its inputs, where it has several
 abbrev pub inputs_in : Job → List (List ℕ) → List (List ℕ)
 inputs_in job contents = (beside_in job contents).inputs
 
@@ -129,11 +129,11 @@ source_text job contents = text_from (row_of job.mode).origin job (first_content
 abbrev pub source_action_of : Job → List (List ℕ) → SourceAction
 source_action_of job contents = action_by (row_of job.mode).task job (beside_in job contents)
 
--- what is asked to be run for it
+-- the execution that the job asks for: this source, on the input among these contents
 abbrev pub execution : Job → List (List ℕ) → Source → Execution
 execution job contents source = executed job (input_in job contents) source
 
--- what is run for it
+-- x is an execution that is done for the job; where the job replays a journal, x has the journal's budget
 abbrev pub IsExecution : Job → List (List ℕ) → Source → Execution → Type 0
 IsExecution job contents source x = IsRunBy (source_action_of job contents) (execution job contents source) x
 
@@ -141,6 +141,6 @@ IsExecution job contents source x = IsRunBy (source_action_of job contents) (exe
 abbrev pub IsBatch : Job → Type 0
 IsBatch job = (row_of job.mode).task ≡ RunsEach
 
--- what is run for it then, one for each input
+-- the executions of a job that runs its source once on each input
 abbrev pub executions : Job → List (List ℕ) → Source → List Execution
 executions job contents source = on_each (execution job contents source) (inputs_in job contents)

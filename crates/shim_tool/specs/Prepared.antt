@@ -30,7 +30,7 @@ pub data Prepared : Type 0 where
 abbrev pub IsForWorkers : Job → Showing → Type 0
 IsForWorkers job showing = (row_of job.mode).task ≡ Runs InSomeOrder showing
 
--- and so is the source of a job whose journal is printed
+-- the source of the job is run by workers, and the journal of that run is printed
 abbrev pub IsToRecord : Job → Type 0
 IsToRecord job = (row_of job.mode).task ≡ Records
 
@@ -47,12 +47,12 @@ abbrev pub LeavesToWorkers : Job → Showing → List ℕ → List ℕ → Prepa
 LeavesToWorkers job showing input bytes p =
     OfBytes (λ program source q. q ≡ to_run (record { job = job; showing = showing; source = source; input = input })) (λ fault q. q ≡ answered (refused fault)) bytes p
 
--- the same of a source whose journal is printed
+-- a source is kept to be run and its journal printed, and other bytes are answered with the line of their first fault
 abbrev pub LeavesToRecord : Job → List ℕ → List ℕ → Prepared → Type 0
 LeavesToRecord job input bytes p =
     OfBytes (λ program source q. q ≡ to_record (record { job = job; source = source; input = input })) (λ fault q. q ≡ answered (refused fault)) bytes p
 
--- and of one that is run once on each of these inputs
+-- a source is kept to be run once on each of these inputs, and other bytes are answered with the line of their first fault
 abbrev pub LeavesToRunEach : Job → List (List ℕ) → List ℕ → Prepared → Type 0
 LeavesToRunEach job inputs bytes p =
     OfBytes (λ program source q. q ≡ to_run_each (record { job = job; source = source; inputs = inputs })) (λ fault q. q ≡ answered (refused fault)) bytes p
@@ -61,7 +61,7 @@ LeavesToRunEach job inputs bytes p =
 abbrev pub PreparesSource : Job → Beside → List ℕ → Prepared → Type 0
 PreparesSource job beside bytes p = OfBytes (PreparesProgram job beside) (λ fault q. q ≡ answered (refused fault)) bytes p
 
--- the same whatever was read besides this input, since no single run asks for more
+-- `PreparesSource` holds with this input, whatever else was read beside the source: no single run reads more
 abbrev pub PreparesRun : Job → List ℕ → List ℕ → Prepared → Type 0
 PreparesRun job input bytes p = (beside : Beside) → beside.input ≡ input → PreparesSource job beside bytes p
 

@@ -18,7 +18,7 @@ pub data FileResult : Type 0 where
 abbrev pub ReadFailed : List ℕ → FilesAt → FilesAt → Type 0
 ReadFailed name before now = (now.failed ≡ before.failed ++ name ∷ []) × (IsTrue before.sound → HasFile before.held name → ⊥)
 
--- the file is known and has more bytes than it may have, or isn't known
+-- where files are known, one of them has this name, and it has more bytes than the limit
 abbrev pub IsTooLong : FileView → KnownFiles → Type 0
 IsTooLong r held = IfSome held (λ files. IsSomeAnd (file_of files r.name) (λ content. r.limit < length content))
 
@@ -43,7 +43,7 @@ then_read content (all rest) = all (content ∷ rest)
 then_read content (failed_file r) = failed_file r
 then_read content (longer_file r) = longer_file r
 
--- what one read gave is all, or the files behind it are read, too
+-- What reads give after the read of the file r, by what that read gave. Where it failed or the file was too long, the reads end. Else the files after r are read, by `on`.
 abbrev pub Follows : FileView → (FilesAt → FilesAt → FilesResult → Type 0) → FilesAt → FilesAt → FilesResult → FileResult → Type 0
 Follows r on between now files_read unread = (now ≡ between) × (files_read ≡ failed_file r)
 Follows r on between now files_read longer = (now ≡ between) × (files_read ≡ longer_file r)
@@ -68,19 +68,19 @@ HoldsAll held [] (content ∷ contents) = ⊥
 HoldsAll held (r ∷ rs) [] = ⊥
 HoldsAll held (r ∷ rs) (content ∷ contents) = Holds held r.name content × (length content ≤ r.limit) × HoldsAll held rs contents
 
--- these are the contents of the files, where they are known
+-- Each content is within the limit of its file. Where the files are known, it is the content of its file.
 abbrev pub AreContents : KnownFiles → List FileView → List (List ℕ) → Type 0
 AreContents held [] [] = Unit {0}
 AreContents held [] (content ∷ contents) = ⊥
 AreContents held (r ∷ rs) [] = ⊥
 AreContents held (r ∷ rs) (content ∷ contents) = IsContent r held content × AreContents held rs contents
 
--- this is one of the files, and those before it have contents that are as short as they have to be
+-- r is one of the files, and each file before it has content within its limit, as far as the files are known
 abbrev pub ComesToRead : KnownFiles → List FileView → FileView → Type 0
 ComesToRead held [] r = ⊥
 ComesToRead held (x ∷ xs) r = (r ≡ x) ⊎ ((content : List ℕ) × IsContent x held content × ComesToRead held xs r)
 
--- the same of files that are known
+-- r is one of the files, and each file before it is known, with content within its limit
 abbrev pub HoldsUpTo : KnownFiles → List FileView → FileView → Type 0
 HoldsUpTo held [] r = ⊥
 HoldsUpTo held (x ∷ xs) r = (r ≡ x) ⊎ ((content : List ℕ) × Holds held x.name content × (length content ≤ x.limit) × HoldsUpTo held xs r)

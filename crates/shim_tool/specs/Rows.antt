@@ -31,7 +31,7 @@ Printed status text out_before out_now result = (result ≡ status) × (out_now.
 abbrev pub PrintedOrFailed : ℕ → List ℕ → SinkAt → SinkAt → ℕ → Type 0
 PrintedOrFailed status text out_before out_now result = Printed status text out_before out_now result ⊎ (result ≡ 7) ⊎ (result ≡ 8)
 
--- the same, or a file that the job reads couldn't be read
+-- the status is this, and this text was written; or the sink failed, memory ran out, or a file that the job reads couldn't be read
 abbrev pub PrintedUnlessUnread : ℕ → List ℕ → Job → FilesAt → FilesAt → SinkAt → SinkAt → ℕ → Type 0
 PrintedUnlessUnread status text job before now out_before out_now result =
     PrintedOrFailed status text out_before out_now result ⊎ ((result ≡ 6) × OneReadFailed (reads_of job) before now)
@@ -45,7 +45,7 @@ pub record WasRead (ask : Option Job) (job : Job) (before : FilesAt) (contents :
 abbrev pub IsBatchAsked : Option Job → Type 0
 IsBatchAsked ask = (job : Job) × (ask ≡ Some job) × IsBatch job
 
--- this status came with the text of a source with this program
+-- the status is this, and a text was written, whole, that the action gives of this program and this execution
 abbrev pub PrintedWithText : ℕ → SourceAction → Program → Execution → SinkAt → SinkAt → ℕ → Type 0
 PrintedWithText status action program x out_before out_now result = (text : List ℕ) × IsTextBy action program x text × Printed status text out_before out_now result
 

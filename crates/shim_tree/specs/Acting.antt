@@ -27,7 +27,7 @@ ActsAt o q before effects after = act o q before ≡ Some (record { node = after
 abbrev pub ActsAmong : {S : Type 0} → Ops S → ℕ → List ℕ → Nodes S → Effects → Nodes S → Type 0
 ActsAmong o i q before effects after = act_child o i q before ≡ Some (after, effects)
 
--- what the process of the path leaves, whatever it is that it can do
+-- the root and the effects after the one thing that the process of the path can do by itself, if there is one
 abbrev pub acted_on : {S : Type 0} → Ops S → Path → Node S → Option (Acted S)
 acted_on o p root = act_route o root (route (o.path (state root)) p)
 

@@ -38,7 +38,7 @@ can_poison_at o c i (Forked l ks) = can_poison o l c i ks
 can_poison_at o c i (Ended l) = false
 can_poison_at o c i (Dead l d) = false
 
--- the same of the child to which these branches lead, of which there is a first one
+-- whether the child to which the branch i and then the branches q lead is ready on the channel and doomed on it
 abbrev pub can_poison_below : {S : Type 0} → Ops S → Channel → ℕ → List ℕ → Node S → Bool
 can_poison_below o c i q n = passes_there (can_poison_at o c (last_branch i q)) (at (to_fork i q) n)
 

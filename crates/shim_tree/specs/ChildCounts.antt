@@ -19,7 +19,7 @@ abbrev pub forked_children : {S : Type 0} → ForkedView S → List S
 forked_children (Parted l ks) = ks
 forked_children (Trapped l) = []
 
--- those of this fork, where the process stands at it
+-- the children of this fork if the process is at a fork, and else none
 abbrev pub born_by : {S : Type 0} → StopView → ForkedView S → List S
 born_by AtFork r = forked_children r
 born_by AtQuiet r = []

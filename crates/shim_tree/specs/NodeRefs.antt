@@ -51,7 +51,7 @@ abbrev mutual
   all_lives no_node = []
   all_lives (node_and k ks) = lives k ++ all_lives ks
 
--- the live processes below the children of a node from a place on
+-- the live processes at and below the children from a place on, from the left
 abbrev pub lives_of_rest : {S : Type 0} → ℕ → Nodes S → List S
 lives_of_rest zero ks = all_lives ks
 lives_of_rest (suc i) no_node = []

@@ -18,7 +18,7 @@ pub record DidQuietSteps {S : Type 0} (o : Ops S) (q : List ℕ) (most : ℕ) (q
   pub fewer : quiet.taken < most → quiet.short ≡ false → o.stop last ≢ AtQuiet
   pub put : after ≡ with_state_at last q before
 
--- if the branches lead to a live process, it did so
+-- if the branches lead to a live process, that process did the quiet steps of the answer
 abbrev pub QuietAt : {S : Type 0} → Ops S → List ℕ → ℕ → Quiet → Node S → Node S → Type 0
 QuietAt {S} o q most quiet before after = (first : S) → at q before ≡ Some (Live first) → DidQuietSteps o q most quiet first before after
 
@@ -28,7 +28,7 @@ pub record DoesQuietSteps {S : Type 0} (o : Ops S) (p : Path) (most : ℕ) (quie
   pub leads : quiet_steps o p quiet.taken before ≡ Some after
   pub stops : quiet.taken < most → quiet.short ≡ false → quiet_steps o p most before ≡ None
 
--- so many quiet steps of the process of the path make the second tree of the first, or one of them isn't there to be done
+-- true: n quiet steps of the process of the path lead from the first tree to the second; false: it can't do n quiet steps
 abbrev pub QuietStepsOn : {S : Type 0} → Ops S → Path → ℕ → Tree S → Tree S → Bool → Type 0
 QuietStepsOn o p n before after true = quiet_steps o p n before ≡ Some after
 QuietStepsOn o p n before after false = quiet_steps o p n before ≡ None

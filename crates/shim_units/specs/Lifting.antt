@@ -70,7 +70,7 @@ lift_three g e f h context w n =
 
 -- block branches
 
--- what it takes of the variables of the unit around it, in that unit's order
+-- the slots, among those of the unit around it, that a branch takes, in that unit's order
 abbrev pub taken : Captures → List ℕ → List ℕ
 taken t slots = filter (λ x. is_taken (t x)) slots
 
@@ -78,7 +78,7 @@ abbrev pub is_among : List ℕ → ℕ → Bool
 is_among [] x = false
 is_among (y ∷ ys) x = nat_eq y x || is_among ys x
 
--- the exceptions of the unit around it that it throws or passes on, in that unit's order
+-- the exceptions, among those of the unit around it, that a branch throws or passes on, in that unit's order
 abbrev pub given_exceptions : List ℕ → List ℕ → List ℕ
 given_exceptions raises exceptions = filter (is_among raises) exceptions
 
@@ -92,7 +92,7 @@ branch_arg slots t x = by_mode (is_reference (t x)) (slot_index_of slots x)
 abbrev pub branch_title : LiftContext → ℕ → List ℕ
 branch_title context n = context.name ++ (codes "." ++ decimal (n - context.first))
 
--- what the branch has: what it takes, and then its own
+-- the slot map of a branch's unit: the variables and exceptions that the branch takes, and then its own
 abbrev pub branch_slot_map : List ℕ → List ℕ → List ℕ → List ℕ → SlotMap
 branch_slot_map slots declares exceptions tries = record { slots = slots ++ declares; exceptions = exceptions ++ tries }
 
@@ -117,12 +117,12 @@ branch_call w n t slots exceptions = record {
   throws = slot_indices_of w.exceptions exceptions;
 }
 
--- and the unit itself, with its statements
+-- the unit of number n that a branch becomes, with these statements
 abbrev pub branch_unit : LiftContext → ℕ → Captures → List ℕ → List ℕ → SlotMap → List ℕ → List UStmt → UnitOf
 branch_unit context n t slots exceptions inner tries body =
     made_unit context (branch_title context n) (map (branch_param context.function t) slots) (length exceptions) inner tries body
 
--- what it takes by reference and by copy, and what it throws, is by the uses in its whole text, block branches in it too
+-- how a branch takes each variable, from the uses in its whole text, which includes the block branches inside it
 abbrev pub branch_captures : LiftContext → List (Part UStmt) → Captures
 branch_captures context body = captures context.function.slots (all_uses context.functions body)
 
@@ -135,7 +135,7 @@ branch_exceptions body w = given_exceptions (all_raises body) w.exceptions
 abbrev pub branch_inner : LiftContext → List (Part UStmt) → SlotMap → SlotMap
 branch_inner context body w = branch_slot_map (branch_slots context body w) (all_declares body) (branch_exceptions body w) (all_tries body)
 
--- its unit stands before those that are lifted out of it
+-- A block branch becomes a call of its own unit. This unit comes before the units that are lifted out of the branch.
 abbrev pub lift_branch : List (Part UStmt) → Lifts UCall
 lift_branch body context w n =
     let r = lift_all body context (branch_inner context body w) (n + 1) in

@@ -15,11 +15,11 @@ abbrev pub position_else : ℕ → Option ℕ → ℕ
 position_else n None = n
 position_else n (Some at) = at
 
--- the number that one of the function's has among those that a unit has
+-- the place of the function's number x among the numbers that a unit has; their count if x isn't among them
 unfoldable pub slot_index_of : List ℕ → ℕ → ℕ
 slot_index_of all x = position_else (length all) (position (λ y. nat_eq y x) all)
 
--- of the variable of a handler, where it has one
+-- the place of the slot of a handler's variable, if the handler has a variable
 abbrev pub slot_index_of_option : List ℕ → Option ℕ → Option ℕ
 slot_index_of_option all None = None
 slot_index_of_option all (Some x) = Some (slot_index_of all x)

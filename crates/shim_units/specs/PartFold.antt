@@ -1,4 +1,4 @@
--- What there is to each statement and branch, by what there is to its parts.
+-- The `Part` of each statement and of each branch, computed from the `Part`s of what it holds.
 use Rattle.std.specs.Prelude.{ℕ, List, [], map}
 use Rattle.shim_scopes.specs.declared.tree.RFunction.{RFunction}
 use Rattle.shim_scopes.specs.declared.tree.RStmt.{RStmt, fold-RStmt, RStmt-F}
@@ -36,7 +36,7 @@ what_step s line = record {
   lift = lift_what s;
 }
 
--- what there is to a statement or a branch, which has a line, is what there is to what it does
+-- The `Part` of a statement or a branch is that of what it does. Its tree has the line besides.
 abbrev pub in_line : {S T : Type 0} → (S → T) → Part S → Part T
 in_line g p = record {
   uses = p.uses;

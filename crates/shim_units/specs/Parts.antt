@@ -1,4 +1,4 @@
--- What there is to a part of a function's text.
+-- What the definitions collect from a part of a function's text: its uses, sharing places, exceptions and declarations, and its form in a unit.
 use Rattle.std.specs.Prelude.{ℕ, List, [], ◌∷◌, ◌++◌}
 use Rattle.shim_scopes.specs.declared.tree.RFunction.{RFunction}
 use Rattle.shim_units.specs.declared.found.Use.{Use}
@@ -19,12 +19,12 @@ pub record LiftContext : Type 0 where
   pub name : List ℕ
   pub first : ℕ
 
--- a tree of that unit, and the units that are lifted out of the part, in the order of their first tokens
+-- the tree that a part becomes in its unit, and the units that are lifted out of the part, in the order of their first tokens
 pub record Lifted (T : Type 0) : Type 0 where
   pub tree : T
   pub units : List UnitOf
 
--- by the number of the next unit
+-- how a part is lifted, from its function, its unit's slot map and the number of the next unit
 abbrev pub Lifts : Type 0 → Type 0
 Lifts T = LiftContext → SlotMap → ℕ → Lifted T
 

@@ -1,4 +1,4 @@
--- How large a program is, bound and as units: as in its text, each number, each operator, each statement and each name that is declared, called or used counts one, and so do the functions, the units, their parameters and the branches that are blocks.
+-- How large a program is, bound and as units, counted as `Sizes` of `shim_syntax` counts its tree. A unit counts one, and so does each of its parameters and arguments that are variables; the exceptions that it is given don't count.
 use Rattle.std.specs.Prelude.{ℕ, suc, ◌+◌, ◌<◌, ◌^◌, List, [], ◌∷◌, Option, Some, None, map, length}
 use Rattle.shim_syntax.specs.Sizes.{sum_of}
 use Rattle.shim_scopes.specs.declared.tree.UExpr.{UExpr, fold-UExpr, UExpr-F}
@@ -32,7 +32,7 @@ option_size (Some e) = expr_size e
 
 -- bound statements
 
--- how large a part of a function's text is, how many variables it declares, those in block branches apart, and how large its forks are
+-- Of a part of a function's text: its size; how many variables it declares outside its forks (`own`) and inside them (`forked`); and the size of what its outermost forks hold (`inside`).
 pub record Extent : Type 0 where
   pub size : ℕ
   pub own : ℕ
@@ -56,7 +56,7 @@ abbrev sum_of_all : List Extent → Extent
 sum_of_all [] = plain 0
 sum_of_all (e ∷ es) = sum_of_two e (sum_of_all es)
 
--- of a block branch, or of a fork: what is declared there is in units of their own
+-- The extent of a block branch or of a fork, from that of what it holds. The variables declared there are variables of other units.
 abbrev pub in_own_units : Extent → Extent
 in_own_units e = record { size = suc e.size; own = 0; forked = e.own + e.forked; inside = e.size }
 

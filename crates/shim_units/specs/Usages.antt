@@ -15,7 +15,7 @@ usage_of us x = record { declared = declares_variable us x; written = writes us 
 abbrev pub with_use : Usage → How → Usage
 with_use m how = record { declared = m.declared || is_declared how; written = m.written || is_written how; named = true }
 
--- so many usages, that show these uses
+-- the list has n usages: for each slot below n the usage that these uses make of its variable
 pub record ShowUses (usages : List Usage) (n : ℕ) (us : List Use) : Type 0 where
   pub long : length usages ≡ n
   pub each : (x : ℕ) → x < n → slice_get usages x ≡ Some (usage_of us x)
@@ -38,7 +38,7 @@ pub record TakesBelow (ts : List Capture) (n : ℕ) (sorts : List Sort) (us : Li
   pub long : length ts ≡ n
   pub each : (x : ℕ) → x < n → slice_get ts x ≡ Some (captures sorts us x)
 
--- two of the branches take the variable by reference, or one where another already does
+-- two of these branches take the variable by reference, or one does and `taken` is true
 abbrev pub shared : ℕ → Bool → List Captures → Bool
 shared x taken [] = false
 shared x taken (t ∷ ts) = (is_reference (t x) && taken) || shared x (is_reference (t x) || taken) ts

@@ -29,7 +29,7 @@ abbrev pub names_in_option : Option UExpr → List Use
 names_in_option None = []
 names_in_option (Some e) = names_in e
 
--- an argument by reference counts as a write of its variable; one that is no variable names those in it
+-- An argument by reference that is a variable writes that variable. Any other argument by reference names the variables in its expression.
 abbrev pub lent_uses : Option ℕ → List Use → List Use
 lent_uses None named = named
 lent_uses (Some x) named = used Written x ∷ []

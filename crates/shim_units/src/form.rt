@@ -2,7 +2,8 @@
 use crate::unit::Unit;
 use shim_base::{List, Name};
 
-/// The units, the names by which they speak, the number of `main` and the names of what it throws.
+/// The units, the program's list of names, the number of the unit of `main`, and the numbers of the names that
+/// `main` throws.
 #[derive(Debug, Drop, PartialEq, Eq)]
 pub struct Form {
     pub units: List<Unit>,

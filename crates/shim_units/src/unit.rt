@@ -3,8 +3,8 @@ use shim_base::{Boxed, List, Ty};
 use shim_scopes::{UExpr, UParam};
 use shim_syntax::Sort;
 
-/// A function, or a block branch that was lifted out of one. Its name, and those of its slots and
-/// `try` statements, are numbers in the list of names.
+/// A function, or a block branch that was lifted out of one. The names of its slots and of its `try` statements
+/// are numbers in the program's list of names; its own name is a text.
 #[derive(Debug, Drop, PartialEq, Eq)]
 pub struct Unit {
     /// The function's name; behind it, for a lifted branch, a dot and the branch's number there.

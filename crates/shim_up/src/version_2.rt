@@ -9,9 +9,9 @@ use shim_base::{List, Name, NoMemory, push_decimal};
 use shim_syntax::{Function, NameTable, Program, names_of};
 use std::alloc::Global;
 
-/// The program in version 2. What has that version stays as it is. Elsewhere the word of the new
-/// type is a name like any other: in its place stands `v` with the least number for which that is
-/// no identifier of the program.
+/// The program in version 2. A program of version 2 stays as it is. In any other version the word of the
+/// new type may be an identifier. It is replaced by `v` with the least number for which that is no
+/// identifier of the program.
 pub fn up(alloc: Global, program: &Program) -> Result<Program, NoMemory>
     ensures { IfOk result (λ q. IsUp program.now q) }
 {

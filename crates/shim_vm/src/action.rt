@@ -14,7 +14,7 @@ use shim_walk::labels::labels_for;
 use shim_walk::next_action::{StatementContext, try_name};
 use std::alloc::Global;
 
-/// What is done, each but a trap with the place at which the process goes on then.
+/// What a process does at an instruction. Each variant but `Trapped` has first the place where the process goes on.
 #[derive(Drop)]
 pub enum Action {
     Go(usize),

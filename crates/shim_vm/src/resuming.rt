@@ -34,7 +34,7 @@ pub enum ResumePoint {
     Over(usize, usize),
 }
 
-/// What the instruction at a place is to it.
+/// What an instruction does with a process on its way to rest; none counts as the end of the unit.
 pub fn rest_of(instr: Option<&MachineInstr>) -> Rest
     ensures { result ≡ resume_step (option_copied instr.entry) }
 {
@@ -56,8 +56,8 @@ fn back_at(code: &[MachineInstr], place: usize, kept: usize) -> ResumePoint
     }
 }
 
-/// From a place at which what a unit has still to do begins, where so many of its exception places are in
-/// force, or from the second mark of a statement.
+/// Where a unit comes to rest. The place is one at which what it has still to do begins, or the second mark of a
+/// statement. `many` of the unit's exception places are in force there.
 pub fn skip_jumps(code: &[MachineInstr], place: usize, many: usize) -> ResumePoint
     ensures on { (u : CodedUnit) (k : ListOf Item) → u.code ≡ code.now → IsCodeOf u place k → ResumesFor u k many result }
     ensures half { (u : CodedUnit) (n : ℕ) (s : UStmt) (k : ListOf Item) → u.code ≡ code.now → AtHalf u place (Do n s ∷ k) → result ≡ At place n true many }

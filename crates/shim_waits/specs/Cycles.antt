@@ -23,7 +23,7 @@ abbrev pub WaitInTurn : List Wait → Path → List Path → Path → Type 0
 WaitInTurn ws p [] z = by_of ws p ≡ Some z
 WaitInTurn ws p (q ∷ qs) z = (by_of ws p ≡ Some q) × WaitInTurn ws q qs z
 
--- from one path one comes to the other by waits
+-- the path p is the other path, or a chain of waits leads from p to it
 pub data ComesByWaits (ws : List Wait) (p : Path) : Path → Type 0 where
   here : ComesByWaits ws p p
   further : (q r : Path) → ComesByWaits ws p q → by_of ws q ≡ Some r → ComesByWaits ws p r
@@ -48,7 +48,7 @@ abbrev pub has : Path → List Path → Bool
 has p [] = false
 has p (q ∷ qs) = same_path q p || has p qs
 
--- of paths that were passed, the last one first, those from p on, in the order in which they were, before others
+-- The paths that were passed from p on, in the order of passing, and then `more`. The list of passed paths has the last one first.
 abbrev pub passed_since : Path → List Path → List Path → List Path
 passed_since p [] more = more
 passed_since p (q ∷ qs) more = cond (same_path q p) (q ∷ more) (passed_since p qs (q ∷ more))
@@ -57,7 +57,7 @@ abbrev pub from_some : (Path → List Path) → Option Path → List Path
 from_some f None = []
 from_some f (Some q) = f q
 
--- The paths that are passed from p on until one comes again, from that one on; so many are passed at most, behind those that were.
+-- Waits lead from p to further paths until one is passed a second time. The ring is the paths from the first passing of that one on. At most n further paths are passed.
 abbrev pub ring : ℕ → List Wait → List Path → Path → List Path
 ring zero ws passed p = passed_since p passed []
 ring (suc n) ws passed p = cond (has p passed) (passed_since p passed []) (from_some (ring n ws (p ∷ passed)) (by_of ws p))

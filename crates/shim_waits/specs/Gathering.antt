@@ -33,11 +33,11 @@ holder_where o n number test = cond test (Some (holder_of o (n, number))) None
 abbrev pub KeepsOne : {S : Type 0} → Ops S → Node S → ℕ → Channel → BTreeMap NamedChannel Holder → BTreeMap NamedChannel Holder → Type 0
 KeepsOne o n number c before behind = (q : Channel) → holder_in behind q ≡ or_else (holder_in before q) (holder_where o n number (same_channel c q && holds_up o q n))
 
--- and so for each channel that it was given
+-- For each channel that the process of the node was given and holds up, that process is kept, unless another was kept before.
 abbrev pub KeepsGiven : {S : Type 0} → Ops S → Node S → ℕ → BTreeMap NamedChannel Holder → BTreeMap NamedChannel Holder → Type 0
 KeepsGiven o n number before behind = (q : Channel) → holder_in behind q ≡ or_else (holder_in before q) (holder_where o n number (holds_given o q n))
 
--- and so for all nodes from this one on: of each channel the first one is kept
+-- Where no process was kept for a channel, the first one at and below the node that holds it up is kept. Only processes that were given the channel are asked.
 abbrev pub KeepsFirst : {S : Type 0} → Ops S → Node S → ℕ → BTreeMap NamedChannel Holder → BTreeMap NamedChannel Holder → Type 0
 KeepsFirst o n number before behind = (q : Channel) → holder_in behind q ≡ or_else (holder_in before q) (option_map (holder_of o) (first_with (holds_given o q) number n))
 

@@ -16,7 +16,7 @@ abbrev pub IsRing : List Wait → List Path → Type 0
 IsRing ws [] = ⊥
 IsRing ws (p ∷ ps) = WaitInTurn ws p ps p
 
--- Each live process has one entry, each entry is a wait, and the cycle is one of these. Two different paths are not asked for: since nobody waits for himself, there are two on each such cycle (`NobodyWaitsForHimself`).
+-- Each live process has one entry. Each entry is a wait. The cycle is a ring of these waits. No clause asks for two different paths: no process waits for itself, so each cycle of a blocked tree has two (`NobodyWaitsForHimself`).
 pub record IsExplanation {S : Type 0} (o : Ops S) (root : Node S) (e : Explained) : Type 0 where
   pub once : (l : S) → IsAmong l (lives root) → how_many (λ w. same_path w.path (o.path l)) e.waits ≡ 1
   pub each : AllOf (IsWait o root) e.waits

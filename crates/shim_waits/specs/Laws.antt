@@ -23,7 +23,7 @@ pub record IsBlockedTree {S : Type 0} (o : Ops S) (t : Tree S) : Type 0 where
   pub rests : IsQuiescent o t
   pub root : goes t.root ≡ true
 
--- why this live process waits: not by itself
+-- the process has a wait in the tree, and it waits for another process
 pub record IsHeldUp {S : Type 0} (o : Ops S) (root : Node S) (l : S) : Type 0 where
   pub wait : Wait
   pub is : wait_of_process o root l ≡ Some wait

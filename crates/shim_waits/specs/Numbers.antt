@@ -22,12 +22,12 @@ abbrev mutual
   first_with_among f n no_node = None
   first_with_among f n (node_and k ks) = or_else (first_with f n k) (first_with_among f (n + length (lives k)) ks)
 
--- it finds what is found without, and the leftmost live process there has that number
+-- `first_with` from 0 on finds the node that `first_of` finds. The number beside the node is that of the leftmost live process at and below it, if there is one.
 pub record NumbersLead (S : Type 0) : Type 0 where
   pub finds : (f : Node S → Bool) (root : Node S) → option_map (λ x. x.0) (first_with f 0 root) ≡ first_of f root
   pub leads : (f : Node S → Bool) (root m : Node S) (i : ℕ) (b : S) → first_with f 0 root ≡ Some (m, i) → head (lives m) ≡ Some b → slice_get (lives root) i ≡ Some b
 
--- the channel is among those that the fork which made the process gave it
+-- the channel is in the list, under whatever name
 abbrev pub is_one_of : Channel → List NamedChannel → Bool
 is_one_of c [] = false
 is_one_of c (d ∷ ds) = same_channel d.channel c || is_one_of c ds

@@ -8,7 +8,7 @@ abbrev pub was_passed : ℕ → List ℕ → Bool
 was_passed i [] = false
 was_passed i (j ∷ js) = eqb j i || was_passed i js
 
--- of numbers that were passed, the last one first, those from i on, in the order in which they were, before others
+-- The numbers that were passed from i on, in the order of passing, and then `more`. The list of passed numbers has the last one first.
 abbrev pub numbers_since : ℕ → List ℕ → List ℕ → List ℕ
 numbers_since i [] more = more
 numbers_since i (j ∷ js) more = cond (eqb j i) (j ∷ more) (numbers_since i js (j ∷ more))
@@ -17,7 +17,7 @@ abbrev pub from_number : (ℕ → List ℕ) → Option ℕ → List ℕ
 from_number f None = []
 from_number f (Some i) = f i
 
--- The numbers that are passed from i on until one comes again, from that one on, where each leads to the one at its place.
+-- Each number leads to the number at its place in `next`. From i on the numbers are passed until one is passed a second time. The ring is the numbers from the first passing of that one on.
 abbrev pub number_ring : ℕ → List ℕ → List ℕ → ℕ → List ℕ
 number_ring zero next passed i = numbers_since i passed []
 number_ring (suc n) next passed i = cond (was_passed i passed) (numbers_since i passed []) (from_number (number_ring n next (i ∷ passed)) (slice_get next i))

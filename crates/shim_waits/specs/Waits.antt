@@ -45,7 +45,7 @@ abbrev pub wait_at_next : {S : Type 0} → Ops S → Node S → Path → Option 
 wait_at_next o root p None = None
 wait_at_next o root p (Some c) = wait_held o p c (first_of (holds_up o c.channel) root)
 
--- Of a live process that waits: through the first process that holds it up, for the leftmost live one there.
+-- The wait of a live process that waits at a `next`. The holder is the first process that holds it up. It waits for the leftmost live process at and below the holder.
 abbrev pub wait_of_process : {S : Type 0} → Ops S → Node S → S → Option Wait
 wait_of_process o root l = wait_at_next o root (o.path l) (next_channel (o.stop l))
 

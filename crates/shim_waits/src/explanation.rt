@@ -174,8 +174,8 @@ fn is_ring(index: &BTreeMap<Path, usize, Global>, waits: &[Wait], cycle: &[Path]
     waits_for(index, waits, &cycle[last], &cycle[0])
 }
 
-/// Whether each live process has one entry, each entry is a wait of the tree, and the cycle is one of these, in a tree
-/// in which nothing can happen and whose root has neither ended nor died.
+/// Whether each live process has one entry, each entry is a wait of the tree, and the cycle is a ring of these
+/// waits. Nothing can happen in the tree, and its root has neither ended nor died.
 pub fn holds<L: Local>(alloc: Global, tree: &Tree<L>, e: &Explained) -> Result<bool, NoMemory>
     requires rests { IsQuiescent L.ops tree.now }
     requires goes { nodes.goes tree.now.root ≡ true }

@@ -8,14 +8,14 @@ use Rattle.shim_process.specs.Forks.{child, lending}
 use Rattle.shim_locations.specs.declared.argument_fault.ArgumentFault.{ArgumentFault}
 use Rattle.shim_locations.specs.declared.argument_fault.ArgumentFault.TheVariants as fault
 
--- The children of a process, of which the branches before have left the second state; the first child has this place.
+-- The children of the branches from number `i` on. `l` is the process before the fork, and `remainder` is what the branches before number `i` have left of it.
 abbrev pub children_made : LocalState → LocalState → ℕ → List UBranch → Result (List LocalState) Trap
 children_made l remainder i [] = Ok []
 children_made l remainder i (b ∷ branches) =
     on_value (λ given. on_value (λ others. Ok (child remainder i b given ∷ others)) (children_made l (lending remainder b) (i + 1) branches))
     (arguments l.locations l.frame.slots (unit_at l.program b.call.unit).params b.call.args)
 
--- these, and then others
+-- the children already made, followed by the others; a trap of the others stays
 abbrev pub children_before : List LocalState → Result (List LocalState) Trap → Result (List LocalState) Trap
 children_before children rest = on_value (λ others. Ok (children ++ others)) rest
 

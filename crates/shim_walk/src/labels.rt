@@ -8,8 +8,8 @@ use shim_base::{List, NoMemory};
 use shim_walk_frames::text::nth_label;
 use std::alloc::Global;
 
-/// That of an exception of the innermost frame: of its innermost place in force, or else the one that
-/// was given.
+/// The label of an exception of the innermost frame: that of its innermost exception place in force, or else the one
+/// that the frame was given.
 pub fn label_for(context: &StatementContext<'_>, exception: u32) -> u32
     requires { context.now.first + length context.now.places.now < 2 ^ 32 }
     ensures { result ≡ label_of (context_view context.now) exception }
@@ -25,7 +25,7 @@ pub fn label_for(context: &StatementContext<'_>, exception: u32) -> u32
     label
 }
 
-/// Those of the exceptions that a call or a branch passes on.
+/// The labels of the exceptions that a call or a branch passes on.
 pub fn labels_for(
     alloc: Global,
     context: &StatementContext<'_>,

@@ -7,13 +7,13 @@ use Rattle.shim_walk_frames.specs.FrameViews.{FrameView}
 use Rattle.shim_walk_frames.specs.Depths.{unit_stmts}
 use Rattle.shim_walk_frames.specs.Successors.{size_all}
 
--- the number of this statement of a list, which is at most that one
+-- the cursor's index and first number are those of one statement of the list, or of its end, and the first number is at most `at`
 pub record BeginsBefore (body : List UStmt) (f : Cursor) (at : ℕ) : Type 0 where
   pub within : f.index ≤ length body
   pub first : f.first ≡ size_all (take f.index body)
   pub reached : f.first ≤ at
 
--- the statement in which this number stands; none where the list is over
+-- the cursor is that of the statement to which the number `at` belongs, or of the end of the list if no statement has the number
 pub record IsCursor (body : List UStmt) (f : Cursor) (at : ℕ) : Type 0 where
   pub begins : BeginsBefore body f at
   pub not_passed : f.index < length body → at < size_all (take (suc f.index) body)
@@ -23,7 +23,7 @@ abbrev pub IsRightCursor : List UStmt → Option Cursor → ℕ → Type 0
 IsRightCursor body None at = Unit {0}
 IsRightCursor body (Some f) at = IsCursor body f at
 
--- a frame has no cursor but its own, in a program of these units
+-- if a frame has a cursor, it is that of the number at which the frame is, in the text of its unit
 abbrev pub HasOwnCursor : List UnitOf → FrameView → Type 0
 HasOwnCursor units s = IsRightCursor (unit_stmts units s.unit) s.cursor s.at
 

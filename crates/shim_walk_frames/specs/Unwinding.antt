@@ -30,7 +30,7 @@ abbrev pub serial_of : Option HandlerVariable → Option ℕ
 serial_of None = None
 serial_of (Some y) = Some y.channel.channel.serial
 
--- without that of a handler's variable
+-- the runs of serial numbers without the number of a handler's variable
 abbrev pub untaken_without : Option HandlerVariable → List SerialRun → List SerialRun
 untaken_without y runs = without_some (serial_of y) runs
 

@@ -56,7 +56,7 @@ pub fn copied(alloc: Global, handlers: &[Handler]) -> Result<List<Handler>, NoMe
     Ok(copies)
 }
 
-/// Its name and its line.
+/// The name and the line of the `try` of an exception place; 0 and 0 where there is none.
 pub fn name_and_line(place: Option<&Handler>) -> (u32, u32)
     ensures { result ≡ name_and_line_of (option_copied place.entry) }
 {

@@ -12,8 +12,8 @@ use shim_base::NoMemory;
 use shim_local::Local;
 use shim_net::{Gate, Net, Standing};
 
-/// Does all that is no process's work behind pieces that were taken in, and calls other workers to those that went
-/// out in place of them. Where nobody is at home, this worker does one of these itself.
+/// Settles the net after pieces were taken in, and wakes a worker for each piece that went out in their place. If no
+/// process is at home, it wakes one worker less: this worker then does one of the pieces itself.
 pub(crate) fn settle_behind<L: Local>(
     net: &mut Net<L>,
     collected: Collected,
@@ -27,8 +27,8 @@ pub(crate) fn settle_behind<L: Local>(
     Ok(())
 }
 
-/// Leaves the turn, whose work found something to do or ran out of memory. False where there was nothing to do. Where
-/// the run has come to its end, or memory has run out, all workers are woken for it.
+/// Leaves the turn. The answer is whether its work found something to do; it is false, too, where memory ran out. If
+/// the run has come to its end, or memory has run out, all workers are woken.
 pub(crate) fn end_turn<L: Local>(
     board: &NetBoard<L>,
     chair: &mut NetChair<L>,
@@ -88,8 +88,8 @@ fn schedule_net<L: Local, G: Gate>(
     Ok(found || home.has_run())
 }
 
-/// Takes back what was done, lets processes go on, and leaves the turn. False where there was nothing to do. Where the
-/// run has come to its end, or memory has run out, all workers are woken for it.
+/// Takes in what has come back, lets processes go on, and leaves the turn. False where there was nothing to do, or
+/// where memory ran out. If the run has come to its end, or memory has run out, all workers are woken.
 pub(crate) fn schedule<L: Local, G: Gate>(
     board: &NetBoard<L>,
     chair: &mut NetChair<L>,

@@ -154,7 +154,8 @@ impl SharedState {
         }
     }
 
-    /// As many of these tries as leave a worker awake, who has something that must not wait.
+    /// At most so many tries that a worker doesn't sleep after them. A worker asks this if it has something that
+    /// must not wait.
     pub(crate) fn awake(tries: u64) -> u64 {
         tries.min(SPINS)
     }

@@ -51,14 +51,14 @@ pub data AllRecomputed {S : Type 0} (o : Ops S) (states : List S) (n x : ℕ) : 
   none_left : (rs : List Record) → AllRecomputed o states n x [] rs rs
   one_more : (c : Channel) (cs : List Channel) (before between behind : List Record) → IsRecomputed o c states n x before between → AllRecomputed o states n x cs between behind → AllRecomputed o states n x (c ∷ cs) before behind
 
--- so it is for all channels that the process s was given and shares
+-- For each channel that the process s was given and shares, the labels above the record x were read off again.
 pub record GivenRecomputed {S : Type 0} (o : Ops S) (states : List S) (s : S) (n x : ℕ) (before behind : List Record) : Type 0 where
   pub chans : List Channel
   pub recomputed : AllRecomputed o states n x chans before behind
   pub all : (c : Channel) → IsGiven o s c → o.shares s c ≡ true → IsAmong c chans
   pub shared : (c : Channel) → IsAmong c chans → o.shares s c ≡ true
 
--- so it is where a child of it died; else no record has changed
+-- If a child of the fork died, these labels were read off again (`GivenRecomputed`); else no record has changed.
 abbrev pub RecomputedIf : {S : Type 0} → Option Death → Ops S → List S → S → ℕ → ℕ → List Record → List Record → Type 0
 RecomputedIf None o states s n x before behind = behind ≡ before
 RecomputedIf (Some d) o states s n x before behind = GivenRecomputed o states s n x before behind

@@ -22,7 +22,7 @@ ClosePreserves {S} o = (rp : Path) (t : Tree S) (states : List S) (rs freed left
     → RecomputedIf (prevailing_among (segment g n (map record_view rs))) o (slice_set states i (state a.node)) (state a.node) 4294967295 i between behind
     → (u : Tree S) × (after o (Close (o.path l)) t ≡ Some u) × TableInvariant o rp (record { states = slice_set states i (state a.node); records = behind }) u.root
 
--- free records at the end are none of the tree's
+-- If all records from the number m on are free, the first m states and records keep the table invariant of the same tree.
 abbrev pub TruncatePreserves : {S : Type 0} → Ops S → Type 0
 TruncatePreserves {S} o = (rp : Path) (root : Node S) (states : List S) (rs : List Record) (m : ℕ) → TableInvariant o rp (record { states = states; records = rs }) root → ((i : ℕ) (r : Record) → m ≤ i → slice_get rs i ≡ Some r → record_view r ≡ free)
     → TableInvariant o rp (record { states = take m states; records = take m rs }) root

@@ -68,12 +68,12 @@ pub record ForksAt {S : Type 0} (o : Ops S) (x g : ℕ) (p : S) (ks : List S) (b
   pub states : behind.states ≡ with_block g ks (slice_set before.states x p)
   pub records : EachUpdatedAbove 4294967295 x (ready_chans is.pairs.items) (with_block g born (slice_set before.records x is)) behind.records
 
--- so the tree moves by the process's own step
+-- Where a live process forks and the states and records change with it (`ForksAt`), they perform its own step (`Performs`).
 abbrev pub ForkPreserves : {S : Type 0} → Ops S → Type 0
 ForkPreserves {S} o = (x g f : ℕ) (l p : S) (ks : List S) (before behind : TableView S) → HasProcessState before x f l lives → o.stop l ≡ AtFork → o.fork l ≡ Parted p ks → ForksAt o x g p ks before behind
     → Performs o (Own (o.path l)) before behind
 
--- So it does where the fork trapped: the process lives on, and no record changes.
+-- Where a fork traps, the process lives on in another state and no record changes. That performs its own step, too.
 abbrev pub ForkTrapPreserves : {S : Type 0} → Ops S → Type 0
 ForkTrapPreserves {S} o = (x f : ℕ) (l m : S) (before : TableView S) → HasProcessState before x f l lives → o.stop l ≡ AtFork → o.fork l ≡ Trapped m
     → Performs o (Own (o.path l)) before (record { states = slice_set before.states x m; records = before.records })

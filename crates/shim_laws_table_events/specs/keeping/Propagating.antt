@@ -9,7 +9,7 @@ use Rattle.shim_records.specs.Ways.{IsUpdatedAbove}
 use Rattle.shim_records.specs.declared.pair.ChildStatus.{ChildStatus}
 use Rattle.shim_records.specs.declared.record.Record.{Record}
 
--- the process is as s now: where that is at a channel, the counts above the record x were updated for it, through at most n forks; else no record has changed
+-- The process of the record x has come to the state s. If it waits at a channel, the counts above x were updated for that channel, through at most n forks; else no record has changed.
 pub data PropagatesStop {S : Type 0} (o : Ops S) (s : S) (n x : ℕ) (before behind : List Record) : Type 0 where
   nowhere : ((c : Channel) → is_next (o.stop s) c ≡ false) → behind ≡ before → PropagatesStop o s n x before behind
   there : (d : NamedChannel) (was is : ChildStatus) → o.stop s ≡ AtNext d → child_status_of was ≡ live_child_status false

@@ -43,7 +43,7 @@ pub record IsFit {S : Type 0} (o : Ops S) (rp : Path) (s : S) (r : Record) : Typ
   pub near : length (place o rp s) ≤ 4294967295
   pub few : length (o.given s) ≤ 18446744073709551615
 
--- The records show a sound tree, and all that they say beside that is as it is there. The root's path is rp.
+-- The states and records represent a sound tree, and all counts, labels, links and paths of the records are those of that tree. The root's path is rp.
 pub record TableInvariant {S : Type 0} (o : Ops S) (rp : Path) (v : TableView S) (root : Node S) : Type 0 where
   pub represents : Represents o rp v.states (views v) root
   pub linked : AreLinked v.states (views v) (up_in v.records)
@@ -55,7 +55,7 @@ pub record TableInvariant {S : Type 0} (o : Ops S) (rp : Path) (v : TableView S)
   pub fit : (i f : ℕ) (s : S) (k : ProcessStatus) (r : Record) → HasProcessState v i f s k → slice_get v.records i ≡ Some r → IsFit o rp s r
   pub beside : length v.states ≡ length v.records
 
--- there is a tree that they show so
+-- the table invariant holds for some tree
 abbrev pub HasTableInvariant : {S : Type 0} → Ops S → TableView S → Type 0
 HasTableInvariant {S} o v = (rp : Path) × (root : Node S) × TableInvariant o rp v root
 

@@ -12,7 +12,7 @@ use Rattle.shim_records.specs.declared.record.Status.TheVariants.{Dead}
 abbrev pub dead_record : Record → ℕ → Record
 dead_record r label = record { status = Dead (death label); first = r.first; parent = r.parent; path = r.path; running_children = r.running_children; pairs = r.pairs }
 
--- the record x says so, the counts above were updated and the label taken in through at most n forks, and its fork has one child less that goes on
+-- The process of the record x has died: first its record has the death with this label. Then the counts above are updated, and then the label is taken in, each through at most n forks. Last, its fork counts one child less that goes on.
 pub record DiesAt {S : Type 0} (o : Ops S) (s : S) (label n x : ℕ) (before behind : List Record) : Type 0 where
   pub old_record : Record
   pub there : slice_get before x ≡ Some old_record

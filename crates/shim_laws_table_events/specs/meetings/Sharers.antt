@@ -46,6 +46,6 @@ pub record AreReceivers {S : Type 0} (o : Ops S) (v : TableView S) (c : Channel)
   pub distinct : AreDistinct numbers
   pub all : (i f : ℕ) (l : S) → HasProcessState v i f l lives → is_next (o.stop l) c ≡ true → IsAmong i numbers
 
--- so it is in the tree that is shown
+-- if the table invariant holds, these numbers are those of receivers of the channel (`AreReceivers`)
 abbrev pub ListsReceivers : {S : Type 0} → Ops S → TableView S → Channel → List ℕ → Type 0
 ListsReceivers {S} o v c numbers = (rp : Path) (root : Node S) → TableInvariant o rp v root → AreReceivers o v c numbers
