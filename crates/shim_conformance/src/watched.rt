@@ -99,7 +99,14 @@ pub fn replayed_text<R: Threads + Wait + Sync>(
     }
     let journal = journal_file(alloc, traced.text)?;
     let asked = words_of(alloc, "shim replay p.shim --input i --journal j")?;
-    let answer = call_over(rt, alloc, setup, journal.as_slice(), asked.as_slice(), &gate)?;
+    let answer = call_over(
+        rt,
+        alloc,
+        setup,
+        journal.as_slice(),
+        asked.as_slice(),
+        &gate,
+    )?;
     behind_gate(answer, &gate, 1)
 }
 

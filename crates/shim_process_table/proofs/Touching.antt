@@ -26,13 +26,13 @@ use Rattle.shim_records.proofs.FullPropagation.{rest_ups}
 use Rattle.shim_laws_table_events.specs.keeping.Tables.{TableView}
 use Rattle.shim_laws_table_events.specs.queues.Requeueing.{IsAsBefore}
 use Rattle.shim_laws_table_events.proofs.closes.Saying.{map_length}
-use Rattle.shim_process_table.specs.Touching.{ChangesOnlyAbove, SaysAsBefore, ChangesOnlyRecords}
+use Rattle.shim_process_table.specs.Touching.{ChangesOnlyAbove, IsSameRecord, ChangesOnlyRecords}
 use Rattle.shim_process_table.proofs.Above.{above_as}
 
-pub same_record : (before behind : List Record) (i : ℕ) → slice_get behind i ≡ slice_get before i → SaysAsBefore before behind i
+pub same_record : (before behind : List Record) (i : ℕ) → slice_get behind i ≡ slice_get before i → IsSameRecord before behind i
 same_record before behind i e = record { rest = ap (option_map rest_of) e; counts = λ c. ap (counts_at c) e; labels = λ c. ap (min_label_at c) e }
 
-pub says_on : (a b d : List Record) (i : ℕ) → SaysAsBefore a b i → SaysAsBefore b d i → SaysAsBefore a d i
+pub says_on : (a b d : List Record) (i : ℕ) → IsSameRecord a b i → IsSameRecord b d i → IsSameRecord a d i
 says_on a b d i x y = record { rest = y.rest ∙ x.rest; counts = λ c. y.counts c ∙ x.counts c; labels = λ c. y.labels c ∙ x.labels c }
 
 pub before_on : {S : Type 0} (a b d : TableView S) (i : ℕ) → IsAsBefore a b i → IsAsBefore b d i → IsAsBefore a d i

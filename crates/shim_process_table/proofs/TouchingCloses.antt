@@ -18,7 +18,7 @@ use Rattle.shim_laws_table_events.proofs.queues.Same.{had}
 use Rattle.shim_laws_table_events.specs.closes.Closing.{without_status, AreFreed, HasCome, CountsOffIfOver, AllRecomputed, none_left, one_more, GivenRecomputed}
 use Rattle.shim_laws_table_events.proofs.closes.Saying.{map_length}
 use Rattle.shim_records.specs.Ways.{IsAbove}
-use Rattle.shim_process_table.specs.Touching.{ChangesOnlyAbove, SaysAsBefore, ChangesOnlyRecords}
+use Rattle.shim_process_table.specs.Touching.{ChangesOnlyAbove, IsSameRecord, ChangesOnlyRecords}
 use Rattle.shim_process_table.proofs.Above.{above_as}
 use Rattle.shim_process_table.proofs.Touching.{touches_none, touches_on, touches_more, touches_set, same_record, says_on, reads_off, counting_off}
 
@@ -49,7 +49,7 @@ module _ {S : Type 0} (states : List S) (rs freed behind : List Record) (m i g n
   now = slice_set states i s
 
   -- who is in use behind isn't one of the children
-  no_child : (j f : ℕ) (t : S) (h : ProcessStatus) → HasProcessState (record { states = now; records = behind }) j f t h → SaysAsBefore freed behind j → (b : ℕ) → b < n → j ≢ g + b
+  no_child : (j f : ℕ) (t : S) (h : ProcessStatus) → HasProcessState (record { states = now; records = behind }) j f t h → IsSameRecord freed behind j → (b : ℕ) → b < n → j ≢ g + b
   no_child j f t h has said b less e =
       let same : IsAsBefore (record { states = now; records = freed }) (record { states = now; records = behind }) j = record { state = refl; rest = said.rest; counts = said.counts; labels = said.labels } in
       let was = had (record { states = now; records = freed }) (record { states = now; records = behind }) j same f t h has in

@@ -45,7 +45,7 @@ pub record ListsAbove {S : Type 0} (v : TableView S) (n number : ℕ) (old new :
 -- ---- the records alone
 
 -- the record with this number has the same fields, counts and labels as before
-pub record SaysAsBefore (before behind : List Record) (i : ℕ) : Type 0 where
+pub record IsSameRecord (before behind : List Record) (i : ℕ) : Type 0 where
   pub rest : option_map rest_of (slice_get behind i) ≡ option_map rest_of (slice_get before i)
   pub counts : (c : Channel) → counts_in c behind i ≡ counts_in c before i
   pub labels : (c : Channel) → min_labels_in c behind i ≡ min_labels_in c before i
@@ -54,7 +54,7 @@ pub record SaysAsBefore (before behind : List Record) (i : ℕ) : Type 0 where
 pub record ChangesOnlyRecords (n x : ℕ) (before behind : List Record) : Type 0 where
   pub parents : (i : ℕ) → up_in behind i ≡ up_in before i
   pub as_many : length behind ≡ length before
-  pub others : (i : ℕ) → i ≢ x → (IsAbove (up_in before) n x i → ⊥) → SaysAsBefore before behind i
+  pub others : (i : ℕ) → i ≢ x → (IsAbove (up_in before) n x i → ⊥) → IsSameRecord before behind i
 
 -- with the process of the record x, which became ready for such channels, the record has become ready for this one
 abbrev pub HasReadied : (Channel → Type 0) → Channel → ℕ → List Record → List Record → ℕ → Type 0

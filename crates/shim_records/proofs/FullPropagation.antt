@@ -6,7 +6,7 @@ use Rattle.shim_base.specs.Paths.{Channel}
 use Rattle.shim_laws_table.specs.Counts.{Tally}
 use Rattle.shim_laws_table.specs.Updating.{UpdatedAbove, too_far}
 use Rattle.shim_records.specs.Pairs.{child_status_of, counts_in, up_in, UncountedRecord, rest_of, AreOrdered, IsOrdered, chans_of}
-use Rattle.shim_records.specs.Ways.{OnlyCounts, Goes, StepsUp, IsUpdatedAbove}
+use Rattle.shim_records.specs.Ways.{OnlyCounts, UpdatesFrom, StepsUp, IsUpdatedAbove}
 use Rattle.shim_records.specs.declared.pair.ChildStatus.{ChildStatus}
 use Rattle.shim_records.specs.declared.record.Record.{Record}
 use Rattle.shim_records.specs.declared.upward.CountChange.{CountChange}
@@ -39,7 +39,7 @@ module _ (c : Channel) (n x : ℕ) (was is : ChildStatus) (start now : List Reco
   Whole behind = UpdatedAbove (up_in start) 4294967295 n (counts_in c start) x (child_status_of was) (child_status_of is) behind
 
   abbrev pub OnIt : ℕ → List Record → CountChange → Type 0
-  OnIt left now here = ((behind : ℕ → Option Tally) → Goes (up_in start) left (counts_in c now) here behind → Whole behind) × OnlyCounts c start now
+  OnIt left now here = ((behind : ℕ → Option Tally) → UpdatesFrom (up_in start) left (counts_in c now) here behind → Whole behind) × OnlyCounts c start now
 
   next_left : (n walked : ℕ) → walked < n → suc (n - (walked + 1)) ≡ n - walked
   next_left n walked h = omega (arith, h)
@@ -48,14 +48,14 @@ module _ (c : Channel) (n x : ℕ) (was is : ChildStatus) (start now : List Reco
   pub ended : {due : Bool} (behind : List Record) → OnIt (n - walked) now here → StepsUp c now here None due behind → IsUpdatedAbove c n x was is start behind
   ended behind on step =
       let up = same_ups c start now on.1 in
-      (on.0 (counts_in c behind) (subst (λ u. Goes u (n - walked) (counts_in c now) here (counts_in c behind)) up (step.0 (n - walked))), only_both c start now behind on.1 step.1)
+      (on.0 (counts_in c behind) (subst (λ u. UpdatesFrom u (n - walked) (counts_in c now) here (counts_in c behind)) up (step.0 (n - walked))), only_both c start now behind on.1 step.1)
 
   -- it goes on
   pub further : {due : Bool} (behind : List Record) (next : CountChange) → walked < n → OnIt (n - walked) now here → StepsUp c now here (Some next) due behind → OnIt (n - (walked + 1)) behind next
   further behind next less on step =
       let up = same_ups c start now on.1 in (
-        (λ end rest. on.0 end (subst (λ k. Goes (up_in start) k (counts_in c now) here end) (next_left n walked less)
-            (subst (λ u. Goes u (suc (n - (walked + 1))) (counts_in c now) here end) up (step.0 (n - (walked + 1)) end (subst (λ u. Goes u (n - (walked + 1)) (counts_in c behind) next end) (sym up) rest))))),
+        (λ end rest. on.0 end (subst (λ k. UpdatesFrom (up_in start) k (counts_in c now) here end) (next_left n walked less)
+            (subst (λ u. UpdatesFrom u (suc (n - (walked + 1))) (counts_in c now) here end) up (step.0 (n - (walked + 1)) end (subst (λ u. UpdatesFrom u (n - (walked + 1)) (counts_in c behind) next end) (sym up) rest))))),
         only_both c start now behind on.1 step.1,
       )
 
@@ -63,7 +63,7 @@ module _ (c : Channel) (n x : ℕ) (was is : ChildStatus) (start now : List Reco
   pub stopped : n ≤ walked → OnIt (n - walked) now here → IsUpdatedAbove c n x was is start now
   stopped past on =
       let none : n - walked ≡ 0 = omega (arith, past) in
-      (on.0 (counts_in c now) (subst (λ k. Goes (up_in start) k (counts_in c now) here (counts_in c now)) (sym none) (too_far (counts_in c now) here.at (child_status_of here.was) (child_status_of here.is))), on.1)
+      (on.0 (counts_in c now) (subst (λ k. UpdatesFrom (up_in start) k (counts_in c now) here (counts_in c now)) (sym none) (too_far (counts_in c now) here.at (child_status_of here.was) (child_status_of here.is))), on.1)
 
 -- at first nothing is updated
 pub begun : (c : Channel) (n x : ℕ) (was is : ChildStatus) (start : List Record) → OnIt c n x was is start start (record { at = x; was = was; is = is }) 0 (n - 0) start (record { at = x; was = was; is = is })

@@ -3,7 +3,7 @@ use Rattle.std.proofs.Common.{◌≡◌, ◌≤◌, ℕ, zero, suc, ◌+◌, Boo
 use Rattle.shim_base.specs.Paths.{Channel, same_channel}
 use Rattle.shim_base.proofs.SamePaths.{same_channel_is}
 use Rattle.shim_records.specs.Pairs.{up_in}
-use Rattle.shim_records.specs.Ways.{IsAbove, its_fork, further, CountsMovedWithin, AllCountsMovedWithin, OnlyCounts, MovesParent}
+use Rattle.shim_records.specs.Ways.{IsAbove, its_fork, further, CountsMovedWithin, AllCountsMovedWithin, OnlyCounts, ChangesParent}
 use Rattle.shim_records.specs.declared.record.Record.{Record}
 use Rattle.shim_records.specs.declared.upward.CountChange.{CountChange}
 use Rattle.shim_records.proofs.FullPropagation.{same_ups}
@@ -42,11 +42,11 @@ module _ (c : Channel) (x : ℕ) (start : List Record) where
     one_more = omega arith
 
     -- one fork more
-    pub led_to : (next : Option CountChange) (behind : List Record) → MovesParent c now here next behind → CountsMovedWithin c (walked + 1) x start behind
+    pub led_to : (next : Option CountChange) (behind : List Record) → ChangesParent c now here next behind → CountsMovedWithin c (walked + 1) x start behind
     led_to next behind moves i out =
         moves.others i (λ e. out (subst (λ n. IsAbove (up_in start) n x i) one_more (led.next i (its_parent i e)))) ∙ led.reached i (λ w. out (among_more (up_in start) (walked + 1) (omega arith) w))
 
-    pub led_on : (next : CountChange) (behind : List Record) → MovesParent c now here (Some next) behind → Led (walked + 1) behind next.at
+    pub led_on : (next : CountChange) (behind : List Record) → ChangesParent c now here (Some next) behind → Led (walked + 1) behind next.at
     led_on next behind moves = record {
       reached = led_to (Some next) behind moves;
       next = λ i e. subst (λ n. IsAbove (up_in start) (suc n) x i) one_more (one_above (up_in start) i (led.next next.at (its_parent next.at (moves.goes_on next refl))) e);

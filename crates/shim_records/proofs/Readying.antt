@@ -6,7 +6,7 @@ use Rattle.shim_semantics.proofs.HowMany.{clash}
 use Rattle.shim_laws_table.specs.Counts.{live_child_status}
 use Rattle.shim_laws_table.proofs.SameTrees.{same_or_not}
 use Rattle.shim_records.specs.Pairs.{child_status_of, counts_in, counts_ready, min_labels_in, up_in}
-use Rattle.shim_records.specs.Ways.{IsAbove, OnlyCounts, MovesParent, Falls, ReadsParent, NoneReadied, HasReadied, ReadiesWithin}
+use Rattle.shim_records.specs.Ways.{IsAbove, OnlyCounts, ChangesParent, BecomesUnready, ReadsParent, NoneReadied, HasReadied, ReadiesWithin}
 use Rattle.shim_records.specs.declared.pair.ChildStatus.{ChildStatus}
 use Rattle.shim_records.specs.declared.record.Record.{Record}
 use Rattle.shim_records.specs.declared.upward.CountChange.{CountChange}
@@ -22,12 +22,12 @@ is_or_not (Some j) i = elim (same_or_not j i) [ inl e ↦ inl (ap Some e) | inr 
 
 -- so far no record has become ready
 abbrev pub StillFalls : Channel → ChildStatus → ChildStatus → List Record → List Record → CountChange → Type 0
-StillFalls c was is start now here = child_status_of was ≡ live_child_status true → child_status_of is ≡ live_child_status false → Falls here × NoneReadied c start now
+StillFalls c was is start now here = child_status_of was ≡ live_child_status true → child_status_of is ≡ live_child_status false → BecomesUnready here × NoneReadied c start now
 
 pub falls_at_first : (c : Channel) (was is : ChildStatus) (x : ℕ) (start : List Record) → StillFalls c was is start start (record { at = x; was = was; is = is })
 falls_at_first c was is x start e f = ((e, f), λ i ready. ready)
 
-module _ (c : Channel) (was is : ChildStatus) (start now : List Record) (here : CountChange) (so : StillFalls c was is start now here) (next : Option CountChange) (due : Bool) (behind : List Record) (moves : MovesParent c now here next behind) (reads : ReadsParent c now here next due behind) where
+module _ (c : Channel) (was is : ChildStatus) (start now : List Record) (here : CountChange) (so : StillFalls c was is start now here) (next : Option CountChange) (due : Bool) (behind : List Record) (moves : ChangesParent c now here next behind) (reads : ReadsParent c now here next due behind) where
   none_readied : child_status_of was ≡ live_child_status true → child_status_of is ≡ live_child_status false → NoneReadied c start behind
   none_readied e f i ready =
       let w = so e f in
@@ -85,7 +85,7 @@ module _ (c : Channel) (x : ℕ) (start : List Record) where
         few_enough : again ≤ walked → walked ≤ most → again ≤ most + 1
         few_enough a b = omega (arith, a, b)
 
-    module _ (next : Option CountChange) (due : Bool) (behind : List Record) (moves : MovesParent c now here next behind) (reads : ReadsParent c now here next due behind) where
+    module _ (next : Option CountChange) (due : Bool) (behind : List Record) (moves : ChangesParent c now here next behind) (reads : ReadsParent c now here next due behind) where
       -- what isn't above so far wasn't above before
       module _ (i : ℕ) (out : IsAbove (up_in start) (if due then walked + 1 else again) x i → ⊥) where
         -- so the parent isn't due, where it is the parent

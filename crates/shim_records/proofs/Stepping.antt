@@ -11,7 +11,7 @@ use Rattle.shim_laws_table.specs.Counts.{live_child_status, fork_status, tally_r
 use Rattle.shim_laws_table.specs.Updating.{CanMove, AreMoved, UpdatedAbove, at_top, no_counts, stays, goes_on}
 use Rattle.shim_laws_table.proofs.SameTrees.{same_or_not}
 use Rattle.shim_records.specs.Pairs.{tally, child_status_of, pair_index, pair_of, counts_at, counts_in, counts_ready, min_label_of, min_label_at, min_labels_in, up_at, up_in, rest_of, chans_of, KnownPair, known_by, known_of}
-use Rattle.shim_records.specs.Ways.{OnlyCounts, MovesParent, Falls, ReadsParent, StepsUp}
+use Rattle.shim_records.specs.Ways.{OnlyCounts, ChangesParent, BecomesUnready, ReadsParent, StepsUp}
 use Rattle.shim_records.specs.declared.pair.Pair.{Pair}
 use Rattle.shim_records.specs.declared.pair.ChildStatus.{ChildStatus}
 use Rattle.shim_records.specs.declared.record.Record.{Record}
@@ -86,7 +86,7 @@ pub known_with : (p q : Pair) → q.chan ≡ p.chan → q.sharing ≡ p.sharing 
 known_with p q chan sharing = λ i. record { chan = (chan i).channel; sharing = sharing i }
 
 module _ (c : Channel) (rs : List Record) (here : CountChange) where
-  none_moved : MovesParent c rs here None rs
+  none_moved : ChangesParent c rs here None rs
   none_moved = record { others = λ i out. refl; goes_on = λ above e. none_some above e }
 
   -- where nothing has changed, and a parent has no counts
@@ -164,7 +164,7 @@ module _ (c : Channel) (rs : List Record) (here : CountChange) where
     }
 
     -- nor have other records' counts, and whatever goes on does so from here
-    moves : (next : Option CountChange) → ((above : CountChange) → next ≡ Some above → above.at ≡ j) → MovesParent c rs here next now
+    moves : (next : Option CountChange) → ((above : CountChange) → next ≡ Some above → above.at ≡ j) → ChangesParent c rs here next now
     moves next at = record {
       others = λ k far. ap (counts_at c) (set_elsewhere rs j k new (λ e. far (up ∙ ap Some (sym e))));
       goes_on = λ above e. up ∙ ap Some (sym (at above e));
@@ -184,7 +184,7 @@ module _ (c : Channel) (rs : List Record) (here : CountChange) where
       label_then : (i : ℕ) → up_in rs here.at ≡ Some i → min_labels_in c rs i ≡ q.min_dead_label
       label_then i e = ap (min_labels_in c rs) (its_place i e) ∙ (ap (min_label_at c) record_before ∙ (ap min_label_of put.found ∙ sym label))
 
-      reads : (next : Option CountChange) → (next ≡ None → tally_ready (tally p) ≡ tally_ready (tally q)) → (Falls here → (above : CountChange) → next ≡ Some above → Falls above) → ReadsParent c rs here next due now
+      reads : (next : Option CountChange) → (next ≡ None → tally_ready (tally p) ≡ tally_ready (tally q)) → (BecomesUnready here → (above : CountChange) → next ≡ Some above → BecomesUnready above) → ReadsParent c rs here next due now
       reads next same falls = record {
         closed = λ e i u. (ready_now i u ∙ (is_closed e).0, label_then i u ∙ (is_closed e).1);
         same = λ e i u. ready_now i u ∙ (sym (same e) ∙ sym (ready_then i u));
@@ -207,7 +207,7 @@ module _ (c : Channel) (rs : List Record) (here : CountChange) where
             (subst (λ z. UpdatedAbove (up_in rs) 4294967295 n (counts_in c now) z (child_status_of next.was) (child_status_of next.is) behind) at rest)))),
         only,
         moves (Some next) (λ above e. ap (λ z. z.at) (sym (some_same next above e)) ∙ at),
-        reads (Some next) (λ e. none_some next (sym e)) (λ f above e. subst Falls (some_same next above e) (was ∙ ap live_child_status (other (unready f.0 f.1)), is ∙ ap live_child_status (unready f.0 f.1))),
+        reads (Some next) (λ e. none_some next (sym e)) (λ f above e. subst BecomesUnready (some_same next above e) (was ∙ ap live_child_status (other (unready f.0 f.1)), is ∙ ap live_child_status (unready f.0 f.1))),
       )
 
 -- what is read of a fork that shares the channel

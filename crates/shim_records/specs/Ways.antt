@@ -32,22 +32,22 @@ pub record OnlyCounts (c : Channel) (before behind : List Record) : Type 0 where
   pub labels : (d : Channel) (i : ℕ) → min_labels_in d behind i ≡ min_labels_in d before i
 
 -- the counts behind are those before, once updated for this change through at most n forks above it
-abbrev pub Goes : (ℕ → Option ℕ) → ℕ → (ℕ → Option Tally) → CountChange → (ℕ → Option Tally) → Type 0
-Goes up n before here behind = UpdatedAbove up 4294967295 n before here.at (child_status_of here.was) (child_status_of here.is) behind
+abbrev pub UpdatesFrom : (ℕ → Option ℕ) → ℕ → (ℕ → Option Tally) → CountChange → (ℕ → Option Tally) → Type 0
+UpdatesFrom up n before here behind = UpdatedAbove up 4294967295 n before here.at (child_status_of here.was) (child_status_of here.is) behind
 
 -- the update ends here, whatever number of forks it might have gone through; or it goes on from the parent
 abbrev pub Continues : (ℕ → Option ℕ) → (ℕ → Option Tally) → CountChange → Option CountChange → (ℕ → Option Tally) → Type 0
-Continues up before here None now = (n : ℕ) → Goes up n before here now
-Continues up before here (Some next) now = (n : ℕ) (behind : ℕ → Option Tally) → Goes up n now next behind → Goes up (suc n) before here behind
+Continues up before here None now = (n : ℕ) → UpdatesFrom up n before here now
+Continues up before here (Some next) now = (n : ℕ) (behind : ℕ → Option Tally) → UpdatesFrom up n now next behind → UpdatesFrom up (suc n) before here behind
 
 -- Only the parent's counts may have changed. If the update goes on, it goes on from the parent.
-pub record MovesParent (c : Channel) (before : List Record) (here : CountChange) (next : Option CountChange) (behind : List Record) : Type 0 where
+pub record ChangesParent (c : Channel) (before : List Record) (here : CountChange) (next : Option CountChange) (behind : List Record) : Type 0 where
   pub others : (i : ℕ) → (up_in before here.at ≡ Some i → ⊥) → counts_in c behind i ≡ counts_in c before i
   pub goes_on : (above : CountChange) → next ≡ Some above → up_in before here.at ≡ Some above.at
 
 -- a process that goes on was ready here, and isn't any more
-abbrev pub Falls : CountChange → Type 0
-Falls here = (child_status_of here.was ≡ live_child_status true) × (child_status_of here.is ≡ live_child_status false)
+abbrev pub BecomesUnready : CountChange → Type 0
+BecomesUnready here = (child_status_of here.was ≡ live_child_status true) × (child_status_of here.is ≡ live_child_status false)
 
 -- What one step of an update gives for the parent: whether more may be due at it, and whether it is ready by its counts.
 pub record ReadsParent (c : Channel) (before : List Record) (here : CountChange) (next : Option CountChange) (due : Bool) (behind : List Record) : Type 0 where
@@ -56,13 +56,13 @@ pub record ReadsParent (c : Channel) (before : List Record) (here : CountChange)
   -- if the update ends here, the parent is ready by its counts exactly if it was before
   pub same : next ≡ None → (i : ℕ) → up_in before here.at ≡ Some i → counts_ready (counts_in c behind i) ≡ counts_ready (counts_in c before i)
   -- If the child was ready and isn't any more, the parent isn't ready by its counts. If the update goes on, the parent was ready and isn't any more, too.
-  pub unready : Falls here → (i : ℕ) → up_in before here.at ≡ Some i → counts_ready (counts_in c behind i) ≡ false
-  pub falls : Falls here → (above : CountChange) → next ≡ Some above → Falls above
+  pub unready : BecomesUnready here → (i : ℕ) → up_in before here.at ≡ Some i → counts_ready (counts_in c behind i) ≡ false
+  pub falls : BecomesUnready here → (above : CountChange) → next ≡ Some above → BecomesUnready above
 
 -- the counts of the one record above are moved, and nothing else has changed
 abbrev pub StepsUp : Channel → List Record → CountChange → Option CountChange → Bool → List Record → Type 0
 StepsUp c before here next due behind =
-    Continues (up_in before) (counts_in c before) here next (counts_in c behind) × OnlyCounts c before behind × MovesParent c before here next behind × ReadsParent c before here next due behind
+    Continues (up_in before) (counts_in c before) here next (counts_in c behind) × OnlyCounts c before behind × ChangesParent c before here next behind × ReadsParent c before here next due behind
 
 -- the counts for the channel above the record x were updated, through at most n forks, and nothing else has changed
 abbrev pub IsUpdatedAbove : Channel → ℕ → ℕ → ChildStatus → ChildStatus → List Record → List Record → Type 0
@@ -75,8 +75,8 @@ abbrev pub NoneReadied : Channel → List Record → List Record → Type 0
 NoneReadied c before behind = (i : ℕ) → counts_ready (counts_in c behind i) ≡ true → counts_ready (counts_in c before i) ≡ true
 
 -- a live process came to the channel: the counts above the record x were updated for it, through at most n forks
-abbrev pub ComesTo : Channel → ℕ → ℕ → List Record → List Record → Type 0
-ComesTo c n x before behind = (was : ChildStatus) × (is : ChildStatus) × (child_status_of was ≡ live_child_status false) × (child_status_of is ≡ live_child_status true) × IsUpdatedAbove c n x was is before behind
+abbrev pub BecomesReady : Channel → ℕ → ℕ → List Record → List Record → Type 0
+BecomesReady c n x before behind = (was : ChildStatus) × (is : ChildStatus) × (child_status_of was ≡ live_child_status false) × (child_status_of is ≡ live_child_status true) × IsUpdatedAbove c n x was is before behind
 
 -- with the process of the record x the record has become ready for the channel: it is that record, or ready by its counts, and it wasn't
 abbrev pub HasReadied : Channel → ℕ → List Record → List Record → ℕ → Type 0

@@ -2,7 +2,7 @@
 ghost use Rattle.std.specs.Prelude.{◌≡◌, ◌≤◌, ◌+◌, true, false, None, if◌then◌else◌};
 ghost use Rattle.shim_laws_table.specs.Counts.{live_child_status};
 ghost use Rattle.shim_records.specs.Pairs.{child_status_of};
-ghost use Rattle.shim_records.specs.Ways.{most_forks, StepsUp, IsUpdatedAbove, CountsMovedWithin, NoneReadied, ComesTo, ReadiesWithin};
+ghost use Rattle.shim_records.specs.Ways.{most_forks, StepsUp, IsUpdatedAbove, CountsMovedWithin, NoneReadied, BecomesReady, ReadiesWithin};
 
 use crate::pair::{ChildStatus, live_child_status, move_pair, place_in, tally_ready};
 use crate::record::Record;
@@ -100,7 +100,7 @@ fn looked_at(before: u64, walked: u32, due: bool) -> u64
 /// before. The answer is how many forks above it are to be looked at again: at those further up all
 /// are there no more than before, and none of them has a label where a child has become ready.
 pub fn propagate_stop_above(records: &mut Vec<Record>, at: usize, c: &Chan) -> u64
-    ensures counts { ComesTo c.now.channel most_forks at records.old.items records.new.items }
+    ensures counts { BecomesReady c.now.channel most_forks at records.old.items records.new.items }
     ensures readies { ReadiesWithin c.now.channel result at records.old.items records.new.items }
 {
     let mut here = CountChange {

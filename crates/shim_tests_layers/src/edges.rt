@@ -1,6 +1,5 @@
 // Reads and writes in memory, one after another, as text.
 use crate::setup::{Setup, content, files_of, sink_with_room};
-
 use shim_base::{List, NoMemory, push_decimal};
 use shim_edge::{FileFault, Files, Got, MemFiles, MemSink, Sink, SinkFault, write_all};
 use std::alloc::Global;
@@ -95,7 +94,11 @@ fn sink_of(alloc: Global, setup: &Setup, room: &str) -> Result<Option<MemSink>, 
 
 /// What a write of each of these files gives, one after another, and what the sink has taken then. Behind the words for
 /// a write stand the sink's room and the files.
-pub fn writes(alloc: Global, setup: &Setup, words: &[String]) -> Result<Option<List<u8>>, NoMemory> {
+pub fn writes(
+    alloc: Global,
+    setup: &Setup,
+    words: &[String],
+) -> Result<Option<List<u8>>, NoMemory> {
     let Some((room, names)) = words.split_first() else {
         return Ok(None);
     };

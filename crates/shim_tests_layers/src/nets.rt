@@ -1,6 +1,6 @@
 // What words ask of nets of small processes, and of lanes.
-use crate::words::{line_of, word};
 use crate::steps::{calls_of, steps_of};
+use crate::words::{line_of, word};
 use shim_base::{List, NoMemory, push_decimal};
 use shim_tests_net::{answers_of, records_after};
 use shim_tests_small::Step;

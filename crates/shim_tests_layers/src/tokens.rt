@@ -68,7 +68,11 @@ fn add_tokens(alloc: Global, reply: &mut List<u8>, text: &[u8]) -> Result<(), No
 }
 
 /// `tokens FILE..`: a line with the tokens of each file, up to its end or its fault.
-pub fn tokens(alloc: Global, setup: &Setup, words: &[String]) -> Result<Option<List<u8>>, NoMemory> {
+pub fn tokens(
+    alloc: Global,
+    setup: &Setup,
+    words: &[String],
+) -> Result<Option<List<u8>>, NoMemory> {
     let mut reply = List::new(alloc);
     for at in 2..words.len() {
         let Some(text) = content(setup, word(words, at)) else {

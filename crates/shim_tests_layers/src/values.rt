@@ -1,8 +1,8 @@
 // What a case asks of processes, of their code and of texts of values that were made by hand. Each function has the words
 // that it answers.
+use crate::jobs::job_text;
 use crate::setup::{Setup, content};
 use crate::words::{behind_at, line_of, over_of, word};
-use crate::jobs::job_text;
 use shim_base::{List, NoMemory};
 use shim_parser::parse;
 use shim_syntax::print;
@@ -18,7 +18,11 @@ use std::str;
 const MOST_BYTES: usize = 1_048_576;
 
 /// `beside FILE [INPUT]`: to what both kinds of process come, or what differs first.
-pub fn beside(alloc: Global, setup: &Setup, words: &[String]) -> Result<Option<List<u8>>, NoMemory> {
+pub fn beside(
+    alloc: Global,
+    setup: &Setup,
+    words: &[String],
+) -> Result<Option<List<u8>>, NoMemory> {
     let Some(source) = content(setup, word(words, 2)) else {
         return Ok(None);
     };
@@ -27,7 +31,11 @@ pub fn beside(alloc: Global, setup: &Setup, words: &[String]) -> Result<Option<L
 }
 
 /// `across FILE N INPUT FILE N [INPUT]`: whether a process over syntax and one over code are told apart.
-pub fn across(alloc: Global, setup: &Setup, words: &[String]) -> Result<Option<List<u8>>, NoMemory> {
+pub fn across(
+    alloc: Global,
+    setup: &Setup,
+    words: &[String],
+) -> Result<Option<List<u8>>, NoMemory> {
     let Some(one) = behind_at(setup, words, 2) else {
         return Ok(None);
     };
@@ -75,7 +83,11 @@ pub fn code(alloc: Global, setup: &Setup, words: &[String]) -> Result<Option<Lis
 }
 
 /// `throws FILE`: the exceptions that each call and branch of a source hands on.
-pub fn throws(alloc: Global, setup: &Setup, words: &[String]) -> Result<Option<List<u8>>, NoMemory> {
+pub fn throws(
+    alloc: Global,
+    setup: &Setup,
+    words: &[String],
+) -> Result<Option<List<u8>>, NoMemory> {
     match content(setup, word(words, 2)) {
         Some(source) => line_of(throws_of(alloc, source)?),
         None => Ok(None),
@@ -83,7 +95,11 @@ pub fn throws(alloc: Global, setup: &Setup, words: &[String]) -> Result<Option<L
 }
 
 /// `places FILE`: where the process over code stands behind each step.
-pub fn places(alloc: Global, setup: &Setup, words: &[String]) -> Result<Option<List<u8>>, NoMemory> {
+pub fn places(
+    alloc: Global,
+    setup: &Setup,
+    words: &[String],
+) -> Result<Option<List<u8>>, NoMemory> {
     match content(setup, word(words, 2)) {
         Some(source) => line_of(places_of(alloc, source)?),
         None => Ok(None),
@@ -117,7 +133,11 @@ pub fn tree(alloc: Global, words: &[String]) -> Result<Option<List<u8>>, NoMemor
 }
 
 /// `printed FILE`: the canonical text of a source in its own version.
-pub fn printed(alloc: Global, setup: &Setup, words: &[String]) -> Result<Option<List<u8>>, NoMemory> {
+pub fn printed(
+    alloc: Global,
+    setup: &Setup,
+    words: &[String],
+) -> Result<Option<List<u8>>, NoMemory> {
     let Some(source) = content(setup, word(words, 2)) else {
         return Ok(None);
     };

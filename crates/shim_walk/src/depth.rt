@@ -7,7 +7,7 @@ ghost use Rattle.shim_walk_frames.specs.Variables.{one_of, variables_in, variabl
 ghost use Rattle.shim_process.specs.Ends.{went};
 ghost use Rattle.shim_walk_frames.specs.Turns.{successor_of};
 ghost use Rattle.shim_walk_frames.specs.Depths.{AllFit, depth_of, returned, shown, unit_stmts};
-ghost use Rattle.shim_walk_frames.specs.Cursors.{AllStand, HasOwnCursor};
+ghost use Rattle.shim_walk_frames.specs.Cursors.{AllHaveOwnCursors, HasOwnCursor};
 
 use shim_base::Ty;
 use shim_locations::location::Location;
@@ -23,10 +23,10 @@ use shim_walk_frames::text::text_of;
 #[tactic(auto, using(shim_walk_frames::proofs::Returns::stays_in, shim_walk_frames::proofs::Returns::ends_here, shim_walk_frames::proofs::Returns::comes_back, shim_walk_frames::proofs::Returns::text_fits))]
 pub fn settle(units: &[Unit], top: &mut Frame, callers: &mut CallStack, locations: &mut Locations)
     requires fit { AllFit units.now }
-    requires cursors { AllStand units.now (top.old ∷ callers.old) }
+    requires cursors { AllHaveOwnCursors units.now (top.old ∷ callers.old) }
     ensures value { depth_of units.now top.new callers.new locations.new ≡ returned (map (shown units.now) callers.old) (shown units.now top.old) locations.old }
     ensures fewer { variables_in (top.new ∷ callers.new) ≤ variables_in (top.old ∷ callers.old) }
-    ensures cursors { AllStand units.now (top.new ∷ callers.new) }
+    ensures cursors { AllHaveOwnCursors units.now (top.new ∷ callers.new) }
 {
     while top.is_over(text_of(units, top.unit())) {
         let Some(caller) = callers.pop() else {
@@ -49,10 +49,10 @@ pub fn go_on(
     successor: Successor,
 )
     requires fit { AllFit units.now }
-    requires cursors { AllStand units.now (top.old ∷ callers.old) }
+    requires cursors { AllHaveOwnCursors units.now (top.old ∷ callers.old) }
     ensures value { depth_of units.now top.new callers.new locations.new ≡ returned (map (shown units.now) callers.old) (went (successor_of successor) (shown units.now top.old)) locations.old }
     ensures fewer { variables_in (top.new ∷ callers.new) ≤ variables_in (top.old ∷ callers.old) }
-    ensures cursors { AllStand units.now (top.new ∷ callers.new) }
+    ensures cursors { AllHaveOwnCursors units.now (top.new ∷ callers.new) }
 {
     let unit = top.unit();
     top.go(text_of(units, unit), successor);
@@ -105,7 +105,7 @@ fn exit_frames(top: &mut Frame, callers: &mut CallStack, locations: &mut Locatio
     ensures handler { handler_in top.new place callers.new ≡ handler_in top.old place callers.old }
     ensures fewer { variables_in (top.new ∷ callers.new) ≤ variables_in (top.old ∷ callers.old) }
     ensures there { callers.new ≢ [] → top.new.outer ≤ place }
-    ensures cursors { (units : ListOf UnitOf) → AllStand units (top.old ∷ callers.old) → AllStand units (top.new ∷ callers.new) }
+    ensures cursors { (units : ListOf UnitOf) → AllHaveOwnCursors units (top.old ∷ callers.old) → AllHaveOwnCursors units (top.new ∷ callers.new) }
 {
     while place < top.outer() {
         let Some(caller) = callers.pop() else {
@@ -127,12 +127,12 @@ pub fn unwind_to(
     value: i64,
 ) -> Option<u32>
     requires fit { AllFit units.now }
-    requires cursors { AllStand units.now (top.old ∷ callers.old) }
+    requires cursors { AllHaveOwnCursors units.now (top.old ∷ callers.old) }
     ensures value { depth_of units.now top.new callers.new locations.new ≡ unwound_in (map (shown units.now) callers.old) (shown units.now top.old) place value locations.old }
     ensures serial { result ≡ serial_of (variable_of (handler_in top.old place callers.old)) }
     ensures fewer { OnSome result (1 + variables_in (top.new ∷ callers.new) ≤ variables_in (top.old ∷ callers.old)) }
     ensures none { variables_in (top.new ∷ callers.new) ≤ variables_in (top.old ∷ callers.old) }
-    ensures cursors { AllStand units.now (top.new ∷ callers.new) }
+    ensures cursors { AllHaveOwnCursors units.now (top.new ∷ callers.new) }
 {
     exit_frames(top, callers, locations, place);
     let variable = handle(units, top, place);

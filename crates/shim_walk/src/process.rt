@@ -113,13 +113,13 @@ impl Model for Process {
 
     ghost use Rattle.shim_walk.specs.States.{state_of};
     ghost use Rattle.shim_walk_frames.specs.Depths.{AllFit};
-    ghost use Rattle.shim_walk_frames.specs.Cursors.{AllStand};
+    ghost use Rattle.shim_walk_frames.specs.Cursors.{AllHaveOwnCursors};
     ghost use Rattle.shim_walk_frames.specs.Variables.{variables_in};
     ghost use Rattle.shim_locations.specs.Runs.{AreBelow};
 
     ghost view = { λ p. state_of (arc_value p.path) p.base p.made p.forks p.untaken.runs p.given p.top p.callers p.locations p.input_at p.holds_output p.trap p.program p.input };
 
-    ghost invariant = { λ p. (p.base < 2 ^ 31) × AllFit p.program.units × AllStand p.program.units (p.top ∷ p.callers) × (variables_in (p.top ∷ p.callers) ≤ p.untaken.room) × AreBelow p.made p.untaken.runs };
+    ghost invariant = { λ p. (p.base < 2 ^ 31) × AllFit p.program.units × AllHaveOwnCursors p.program.units (p.top ∷ p.callers) × (variables_in (p.top ∷ p.callers) ≤ p.untaken.room) × AreBelow p.made p.untaken.runs };
 }
 
 impl Process {

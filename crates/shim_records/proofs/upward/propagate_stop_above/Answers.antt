@@ -1,5 +1,5 @@
 use Rattle.std.proofs.Common.{sym, subst, arith, ◌+◌}
-use Rattle.shim_records.specs.Ways.{StepsUp, MovesParent, ReadiesWithin}
+use Rattle.shim_records.specs.Ways.{StepsUp, ChangesParent, ReadiesWithin}
 use Rattle.shim_records.proofs.FullPropagation.{begun, ended, further, stopped}
 use Rattle.shim_records.proofs.Reaching.{at_start, led_on}
 use Rattle.shim_records.proofs.Readying.{SoReady, ready_at_first, readied, readied_on, all_again}
@@ -34,7 +34,7 @@ loop-walked-preserved c = (
       (omega (arith, c.loop-walked-test.true)) c.loop-walked.invariant.0
       (subst (λ z. StepsUp c.args.c.now.channel c.loop-walked.records.items c.loop-walked.here z c.step_up-next.result.1 c.step_up-next.new.records.items) c.in-Some.is c.step_up-next.ensures),
   led_on c.args.c.now.channel c.args.at c.args.records.now.items c.loop-walked.walked c.loop-walked.records.items c.loop-walked.here c.loop-walked.invariant.1 c.loop-walked.invariant.0.1 c.in-Some.next c.step_up-next.new.records.items
-      (subst (λ z. MovesParent c.args.c.now.channel c.loop-walked.records.items c.loop-walked.here z c.step_up-next.new.records.items) c.in-Some.is c.step_up-next.ensures.2),
+      (subst (λ z. ChangesParent c.args.c.now.channel c.loop-walked.records.items c.loop-walked.here z c.step_up-next.new.records.items) c.in-Some.is c.step_up-next.ensures.2),
   subst (λ z. SoReady c.args.c.now.channel c.args.at c.args.records.now.items (c.loop-walked.walked + 1) z c.step_up-next.new.records.items c.in-Some.next.at) (sym c.looked_at-again.ensures)
       (readied_on c.args.c.now.channel c.args.at c.args.records.now.items c.loop-walked.walked c.loop-walked.again c.loop-walked.records.items c.loop-walked.here c.loop-walked.invariant.2 c.loop-walked.invariant.1 c.loop-walked.invariant.0.1
       c.step_up-next.result.0 c.step_up-next.result.1 c.step_up-next.new.records.items c.step_up-next.ensures.2 c.step_up-next.ensures.3 c.in-Some.next c.in-Some.is),

@@ -1,5 +1,5 @@
 use Rattle.std.proofs.Common.{subst, arith}
-use Rattle.shim_records.specs.Ways.{StepsUp, MovesParent}
+use Rattle.shim_records.specs.Ways.{StepsUp, ChangesParent}
 use Rattle.shim_records.proofs.FullPropagation.{begun, ended, further, stopped}
 use Rattle.shim_records.proofs.Reaching.{at_start, farther, led_to, led_on}
 use Rattle.shim_records.proofs.Readying.{falls_at_first, no_more_fall, still_falls}
@@ -31,7 +31,7 @@ loop-walked-preserved c = (
   further c.args.c.now.channel c.args.forks c.args.at c.args.was c.args.is c.args.records.now.items c.loop-walked.records.items c.loop-walked.here c.loop-walked.walked c.step_up-next.new.records.items c.in-Some.next (omega (arith, c.loop-walked-test.true))
       c.loop-walked.invariant.0 (subst (λ z. StepsUp c.args.c.now.channel c.loop-walked.records.items c.loop-walked.here z c.step_up-next.result.1 c.step_up-next.new.records.items) c.in-Some.is c.step_up-next.ensures),
   led_on c.args.c.now.channel c.args.at c.args.records.now.items c.loop-walked.walked c.loop-walked.records.items c.loop-walked.here c.loop-walked.invariant.1 c.loop-walked.invariant.0.1 c.in-Some.next c.step_up-next.new.records.items
-      (subst (λ z. MovesParent c.args.c.now.channel c.loop-walked.records.items c.loop-walked.here z c.step_up-next.new.records.items) c.in-Some.is c.step_up-next.ensures.2),
+      (subst (λ z. ChangesParent c.args.c.now.channel c.loop-walked.records.items c.loop-walked.here z c.step_up-next.new.records.items) c.in-Some.is c.step_up-next.ensures.2),
   still_falls c.args.c.now.channel c.args.was c.args.is c.args.records.now.items c.loop-walked.records.items c.loop-walked.here c.loop-walked.invariant.2 c.step_up-next.result.0 c.step_up-next.result.1 c.step_up-next.new.records.items c.step_up-next.ensures.2
       c.step_up-next.ensures.3 c.in-Some.next c.in-Some.is,
 )

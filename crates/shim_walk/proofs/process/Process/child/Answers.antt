@@ -8,7 +8,7 @@ use Rattle.shim_process.specs.Arguments.{branch_locations, channels_of, declared
 use Rattle.shim_process.specs.Forks.{new_child, takes_input, takes_output}
 use Rattle.shim_locations.specs.Given.{arguments_of}
 use Rattle.shim_locations.specs.Runs.{AreBelow, RunsView}
-use Rattle.shim_walk_frames.specs.Cursors.{AllStand, HasOwnCursor}
+use Rattle.shim_walk_frames.specs.Cursors.{AllHaveOwnCursors, HasOwnCursor}
 use Rattle.shim_walk_frames.specs.Depths.{AllFit, shown}
 use Rattle.shim_locations.specs.Lendings.{remainder_of, lent_at}
 use Rattle.shim_walk.specs.contracts.process.Process.{the_view}
@@ -61,4 +61,4 @@ invariant_of-result c =
     let u = c.units-units.ensures.value ∙ ap (λ (p : Form). p.units) c.deref.ensures ∙ sym same in
     let fits = room_for_none c.units-units.result.now top c.new-3.result _ c.new-2.result.room c.in_ok-top.ensures.value refl c.new-3.ensures in
     let bound : c.handlers-base.result < 2147483648 = omega (arith, c.if-base-ge2147483648.false) in
-    (bound, subst AllFit (sym same) kept.1, (subst (λ us. HasOwnCursor us top) u c.in_ok-top.ensures.cursor, subst (AllStand units) (sym c.new-3.ensures) tt), fits, subst (AreBelow c.in_ok-passed.passed.made) (sym (ap (λ (r : RunsView). r.runs) c.new-2.ensures)) tt)
+    (bound, subst AllFit (sym same) kept.1, (subst (λ us. HasOwnCursor us top) u c.in_ok-top.ensures.cursor, subst (AllHaveOwnCursors units) (sym c.new-3.ensures) tt), fits, subst (AreBelow c.in_ok-passed.passed.made) (sym (ap (λ (r : RunsView). r.runs) c.new-2.ensures)) tt)

@@ -6,7 +6,7 @@ use Rattle.shim_process.specs.LocalState.{unit_or}
 use Rattle.shim_process.specs.Arguments.{empties, entered, numbers_from}
 use Rattle.shim_process.specs.Forks.{takes_input, takes_output, labels_from}
 use Rattle.shim_locations.specs.Runs.{AreBelow, RunsView}
-use Rattle.shim_walk_frames.specs.Cursors.{AllStand, HasOwnCursor}
+use Rattle.shim_walk_frames.specs.Cursors.{AllHaveOwnCursors, HasOwnCursor}
 use Rattle.shim_walk_frames.specs.Depths.{AllFit, shown}
 use Rattle.shim_walk_frames.proofs.Fitting.{all_fit}
 use Rattle.shim_walk.proofs.Accepting.{accepted}
@@ -54,4 +54,4 @@ invariant_of-result c =
     let bound : length c.main_throws-names.result.now + 1 < 2147483648 = omega (arith, c.main_throws-names.ensures.few) in
     let fits = room_for_none c.units-units.result.now top c.new-5.result _ c.new-3.result.room c.in_ok-top.ensures.value refl c.new-5.ensures in
     let texts = subst (λ (p : Form). AllFit p.units) c.deref.ensures (all_fit _ c.units-units.ensures.fit) in
-    (bound, texts, (subst (λ us. HasOwnCursor us top) u c.in_ok-top.ensures.cursor, subst (AllStand units) (sym c.new-5.ensures) tt), fits, subst (AreBelow 0) (sym (ap (λ (r : RunsView). r.runs) c.new-3.ensures)) tt)
+    (bound, texts, (subst (λ us. HasOwnCursor us top) u c.in_ok-top.ensures.cursor, subst (AllHaveOwnCursors units) (sym c.new-5.ensures) tt), fits, subst (AreBelow 0) (sym (ap (λ (r : RunsView). r.runs) c.new-3.ensures)) tt)

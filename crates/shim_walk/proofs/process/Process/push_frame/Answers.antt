@@ -3,7 +3,7 @@ use Rattle.std.specs.Arc.{arc_value}
 use Rattle.shim_units.specs.declared.form.Form.{Form}
 use Rattle.shim_units.specs.declared.unit.Unit.{Unit as UnitOf}
 use Rattle.shim_walk_frames.specs.FrameViews.{FrameView}
-use Rattle.shim_walk_frames.specs.Cursors.{AllStand, HasOwnCursor}
+use Rattle.shim_walk_frames.specs.Cursors.{AllHaveOwnCursors, HasOwnCursor}
 use Rattle.shim_walk_frames.specs.Variables.{variables_in, variables_of}
 use Rattle.shim_locations.specs.Given.{arguments_of}
 use Rattle.shim_process.specs.Steps.{pushed}
@@ -34,4 +34,4 @@ invariant_of-self-in-Ok c =
     let others : variables_in c.push.new.self ≡ variables_in (i.top ∷ i.callers) = ap variables_in callers in
     let fits : variables_of top.places + variables_in c.push.new.self ≤ i.untaken.room = omega (arith, none, others, kept.3) in
     let more : i.made ≤ c.in_ok-entered.entered.made = omega (arith, is.made_is) in
-    (kept.0, kept.1, (subst (HasOwnCursor units) (sym entered) (subst (λ (us : List UnitOf). HasOwnCursor us c.in_ok-entered.entered.top) u is.cursor), subst (AllStand units) (sym callers) kept.2), fits, still_below i.made c.in_ok-entered.entered.made i.untaken.runs more kept.4)
+    (kept.0, kept.1, (subst (HasOwnCursor units) (sym entered) (subst (λ (us : List UnitOf). HasOwnCursor us c.in_ok-entered.entered.top) u is.cursor), subst (AllHaveOwnCursors units) (sym callers) kept.2), fits, still_below i.made c.in_ok-entered.entered.made i.untaken.runs more kept.4)

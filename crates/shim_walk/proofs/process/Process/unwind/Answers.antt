@@ -1,6 +1,6 @@
 use Rattle.std.proofs.Common.{◌≡◌, ◌∷◌, ap, ◌∙◌, subst, map, List, rules, w64, to_z, of_z, FitsSigned}
 use Rattle.std.proofs.lemmas.Int.{to_z-of_z}
-use Rattle.shim_walk_frames.specs.Cursors.{AllStand}
+use Rattle.shim_walk_frames.specs.Cursors.{AllHaveOwnCursors}
 use Rattle.shim_walk_frames.specs.Variables.{variables_in}
 use Rattle.shim_units.specs.declared.unit.Unit.{Unit as UnitOf}
 use Rattle.shim_units.specs.declared.form.Form.{Form}
@@ -39,4 +39,4 @@ invariant_of-self c =
     let few = variables_in (after.top ∷ after.callers) in
     let many = variables_in (i.top ∷ i.callers) in
     let fits = room_behind serial few many i.untaken.room c.take_some.new.self.room unwound.fewer unwound.none c.take_some.ensures.less c.take_some.ensures.same kept.3 in
-    (kept.0, kept.1, subst (λ (us : List UnitOf). AllStand us (after.top ∷ after.callers)) u unwound.cursors, fits, below_without i.made serial i.untaken.runs c.take_some.new.self.runs kept.4 c.take_some.ensures.runs)
+    (kept.0, kept.1, subst (λ (us : List UnitOf). AllHaveOwnCursors us (after.top ∷ after.callers)) u unwound.cursors, fits, below_without i.made serial i.untaken.runs c.take_some.new.self.runs kept.4 c.take_some.ensures.runs)
