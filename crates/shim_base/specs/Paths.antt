@@ -28,6 +28,7 @@ same_path = pointwise same_pair
 abbrev pub same_channel : Channel → Channel → Bool
 same_channel a b = same_path a.home b.home && eqb a.serial b.serial
 
+-- by the first numbers, and then by the second
 abbrev pub pair_order : ℕ × ℕ → ℕ × ℕ → Ordering
 pair_order a b = ordering_then (nat_cmp a.0 b.0) (nat_cmp a.1 b.1)
 

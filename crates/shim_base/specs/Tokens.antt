@@ -14,6 +14,7 @@ use Rattle.shim_base.specs.declared.token.Sign.TheVariants as s
 abbrev pub is_spacing : ℕ → Bool
 is_spacing b = b == 32 || (nat_le 9 b && nat_le b 13)
 
+-- an ASCII digit from 0 to 9
 abbrev pub is_digit : ℕ → Bool
 is_digit b = nat_le 48 b && nat_le b 57
 
@@ -21,6 +22,7 @@ is_digit b = nat_le 48 b && nat_le b 57
 abbrev pub is_letter : ℕ → Bool
 is_letter b = (nat_le 65 b && nat_le b 90) || (nat_le 97 b && nat_le b 122) || b == 95
 
+-- a byte that may follow the first byte of a name
 abbrev pub is_name_byte : ℕ → Bool
 is_name_byte b = is_letter b || is_digit b
 
@@ -29,6 +31,7 @@ abbrev pub row_for : {A : Type 0} → List (List ℕ × A) → List ℕ → Opti
 row_for [] text = None
 row_for (row ∷ rows) text = if bytes_eq row.0 text then Some row.1 else row_for rows text
 
+-- each keyword with its spelling
 abbrev pub keywords : List (List ℕ × Keyword)
 keywords =
     (codes "void", k.Void) ∷ (codes "throws", k.Throws) ∷ (codes "bool", k.Bool) ∷ (codes "int", k.Int)
@@ -39,6 +42,7 @@ keywords =
     ∷ (codes "try", k.Try) ∷ (codes "catch", k.Catch) ∷ (codes "throw", k.Throw) ∷ (codes "par", k.Par)
     ∷ (codes "true", k.TrueKey) ∷ (codes "false", k.FalseKey) ∷ []
 
+-- each sign with its spelling, those of two bytes first
 abbrev pub signs : List (List ℕ × Sign)
 signs =
     (codes "<<", s.Shl) ∷ (codes ">>", s.Shr) ∷ (codes "<=", s.Le) ∷ (codes ">=", s.Ge) ∷ (codes "==", s.EqEq)
@@ -49,6 +53,7 @@ signs =
     ∷ (codes "/", s.Slash) ∷ (codes "%", s.Percent) ∷ (codes "~", s.Tilde) ∷ (codes "!", s.Bang)
     ∷ (codes "<", s.Less) ∷ (codes ">", s.Greater) ∷ []
 
+-- The keyword that has these bytes as its spelling, if there is one. `sign_of` is the same of signs.
 unfoldable pub keyword_of : List ℕ → Option Keyword
 keyword_of text = row_for keywords text
 
@@ -69,6 +74,7 @@ abbrev pub is_numeral : List ℕ → Bool
 is_numeral [] = false
 is_numeral (b ∷ bytes) = is_digit b && list_all is_digit bytes
 
+-- the number whose decimal digits are those of n and then one more, which is given as its byte
 abbrev pub with_digit : ℕ → ℕ → ℕ
 with_digit n digit = n * 10 + (digit - 48)
 
@@ -81,9 +87,11 @@ abbrev pub is_hex_numeral : List ℕ → Bool
 is_hex_numeral (zero_digit ∷ x ∷ b ∷ bytes) = zero_digit == 48 && ((x == 120 || x == 88) && (is_hex_digit b && list_all is_hex_digit bytes))
 is_hex_numeral text = false
 
+-- the value of a hexadecimal digit, which is given as its byte
 abbrev pub hex_digit_value : ℕ → ℕ
 hex_digit_value b = if is_digit b then b - 48 else (if nat_le 97 b then b - 87 else b - 55)
 
+-- the number whose hexadecimal digits are those of n and then one more, which is given as its byte
 abbrev pub with_hex_digit : ℕ → ℕ → ℕ
 with_hex_digit n digit = n * 16 + hex_digit_value digit
 
@@ -131,6 +139,7 @@ pub record Place : Type 0 where
 abbrev pub place_after : Place → List ℕ → Place
 place_after place bytes = record { at = place.at + length bytes; line = place.line + count_by (λ b. b == 10) bytes }
 
+-- The bytes that begin a comment up to the end of its line. `block_opener` and `block_closer` are those that begin and end a comment of the other kind.
 abbrev pub line_opener : List ℕ
 line_opener = codes "//"
 

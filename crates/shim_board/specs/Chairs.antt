@@ -13,6 +13,7 @@ chairs_known chairs zero = chairs
 chairs_known chairs (suc number) = 0
 
 module _ {T N M : Type 0} where
+  -- how many slots the board has: one fewer than its table has, of which the first is for the turn
   abbrev pub slots_of : Board T N M → ℕ
   slots_of b = b.table.shared.table_id.slots - 1
 

@@ -14,6 +14,7 @@ use Rattle.shim_board.specs.Kept.{word_of, SlotValue, Table, HoldsNothing}
 use Rattle.shim_board.specs.Rule.{Rule}
 use Rattle.shim_board.specs.Chairs.{name_of, slots_of, view_of}
 
+-- whether the word x is that of a FULL or BACK slot: it is odd
 abbrev pub is_full_or_back : ℕ → Bool
 is_full_or_back x = x % 2 == 1
 

@@ -39,6 +39,7 @@ pub record CountsKept {M : Type 0} (words : List ℕ) (views : List (View M)) : 
   pub numbers : (x : ℕ) → total (λ v. occurs x v.numbers) views ≡ one_below x (chair_count views)
   pub unspent : (j : ℕ) (v : View M) → get_elem? views j ≡ some v → v.numbers ≡ [] → v ≡ spent
 
+-- 1 if the slot k is the one in hand, else 0
 abbrev pub in_hand : ℕ → Option (ℕ × ℕ) → ℕ
 in_hand k (Some p) = one_at k p.0
 in_hand k None = 0
@@ -55,6 +56,7 @@ SlotValue T N = maybe.Option (Content T N)
 abbrev pub SlotFits : {T N : Type 0} → ℕ → ℕ → maybe.Option (SlotValue T N) → Type 0
 SlotFits {T} x count h = (x % 4 ≡ 1 → (y : T) × (h ≡ some (some (Piece y)))) × (x % 4 ≡ 0 → count ≡ 0 → h ≡ some (some Nothing)) × (x % 4 ≡ 3 → count ≡ 0 → (y : T) × (h ≡ some (some (Piece y))))
 
+-- a state of a board's table: its words, what is at home, and the views of its chairs
 abbrev pub Table : Type 0 → Type 0 → Type 0 → Type 0
 Table T N M = State (Content T N) (View M)
 
@@ -71,6 +73,7 @@ module _ {T N M : Type 0} (label : N → M) (board : M) (s : Table T N M) where
     pub net_out : slice_index s.words 0 ≡ 1 → get_elem? s.homes 0 ≡ some none
     pub names : (j : ℕ) (v : View M) → get_elem? s.views j ≡ some v → v.numbers ≢ [] → v.name ≡ Some board
 
+  -- what each step keeps of a state: the counts over words and views, the values at home, and the names
   abbrev pub Kept : Type 0
   Kept = CountsKept s.words s.views × ValuesKept
 

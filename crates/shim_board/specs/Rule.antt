@@ -41,9 +41,11 @@ module _ {T N M : Type 0} (label : N → M) (board : M) (s : Table T N M) where
   abbrev pub IsOutOfHand : ℕ → Type 0
   IsOutOfHand k = (j : ℕ) (v : View M) → HasView j v → (x : ℕ) → v.hand ≢ Some (k, x)
 
+  -- the turn is free: its word is 0
   abbrev pub IsFree : Type 0
   IsFree = slice_index s.words 0 ≡ 0
 
+  -- the turn is held: its word is 1
   abbrev pub TurnIsHeld : Type 0
   TurnIsHeld = slice_index s.words 0 ≡ 1
 
@@ -51,6 +53,7 @@ module _ {T N M : Type 0} (label : N → M) (board : M) (s : Table T N M) where
   abbrev pub ExactlyOne : (View M → Type 0) → Type 0
   ExactlyOne P = (j : ℕ) × (v : View M) × HasView j v × P v × ((i : ℕ) (u : View M) → HasView i u → P u → i ≡ j)
 
+  -- The rule of a board in the state s between two steps. A net's name is given by `label`, and the board's name is `board`.
   pub record Rule : Type 0 where
     -- The place of a FULL slot is at home, with a piece in it. Where no chair has an EMPTY slot in hand, its place is at home, with nothing in it. Where no chair has a BACK slot in hand, its place is at home, with a piece in it. Where the turn is free, the net is at home and has the board's name.
     pub full : (k : ℕ) → k + 1 < length s.homes → IsFull (word_of s.words k) → HasPiece k

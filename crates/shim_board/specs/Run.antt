@@ -22,6 +22,7 @@ pub data StepKind (T N : Type 0) : Type 0 where
   take_turn : StepKind T N
   leave_turn : N → StepKind T N
 
+-- a step of a run: the number of the chair that does it, and the kind
 pub record BoardStep (T N : Type 0) : Type 0 where
   pub chair : ℕ
   pub kind : StepKind T N
@@ -40,10 +41,12 @@ pub record BoardRun (T N M : Type 0) : Type 0 where
   pub views : List (View M)
   pub done : List (SlotEntry T)
 
+-- whether a chair with these numbers is spent, which has none
 abbrev pub is_spent : List ℕ → Bool
 is_spent [] = true
 is_spent (x ∷ xs) = false
 
+-- whether no slot is given, as the one in hand or the claimed one
 abbrev pub is_none : Option (ℕ × ℕ) → Bool
 is_none None = true
 is_none (Some p) = false
@@ -62,6 +65,7 @@ is_noted_below k (p ∷ ps) = cond ((p.0 == k) && nat_lt p.1 4611686018427387903
 abbrev pub changed_at : {A : Type 0} → (ℕ → A) → ℕ → A → ℕ → A
 changed_at f k y j = cond (j == k) y (f j)
 
+-- whether a chair has neither the turn nor a claimed slot nor a slot in hand
 abbrev pub holds_nothing : {M : Type 0} → View M → Bool
 holds_nothing w = (w.turn == 0) && is_none w.claimed && is_none w.hand
 
@@ -131,6 +135,7 @@ module _ {T N M : Type 0} where
   after_step s step none = s
   after_step s step (some v) = cond (not (is_spent v.numbers) && may s step.chair v step.kind) (does s step.chair v step.kind) s
 
+  -- s after these steps, one after another, of which those that are not allowed change nothing
   abbrev pub after : BoardRun T N M → List (BoardStep T N) → BoardRun T N M
   after s [] = s
   after s (step ∷ steps) = after (after_step s step (get_elem? s.views step.chair)) steps
@@ -139,6 +144,7 @@ module _ {T N M : Type 0} where
   abbrev pub opened : (N → M) → N → ℕ → BoardRun T N M
   opened label net slots = record { words = replicate (slots + 1) 0; piece = λ k. None; net = Some net; views = first_chair (label net) ∷ []; done = [] }
 
+  -- a board of the given number of slots with the net, after these steps
   abbrev pub board_run : (N → M) → N → ℕ → List (BoardStep T N) → BoardRun T N M
   board_run label net slots steps = after (opened label net slots) steps
 
@@ -147,6 +153,7 @@ abbrev pub passed : {T : Type 0} → ℕ → ℕ → List (SlotEntry T) → ℕ
 passed k x [] = 0
 passed k x (e ∷ es) = one_pair k x (e.slot, e.word) + passed k x es
 
+-- e equals an entry of the list
 abbrev pub IsAmong : {T : Type 0} → SlotEntry T → List (SlotEntry T) → Type 0
 IsAmong e [] = ⊥
 IsAmong e (x ∷ xs) = (e ≡ x) ⊎ IsAmong e xs
@@ -193,6 +200,7 @@ module _ {T N M : Type 0} (s : BoardRun T N M) where
   abbrev pub IsHeldByItsChair : ℕ → ℕ → Type 0
   IsHeldByItsChair k r = (j : ℕ) × (v : View M) × (get_elem? s.views j ≡ some v) × (v.claimed ≡ Some (k, r)) × (0 < times k r v.claims)
 
+  -- In the run s each slot was put, claimed, given and collected at most once in each round. What was claimed was put, what was collected was given, and at most one chair has the turn.
   pub record AtMostOnce : Type 0 where
     -- each slot and round is put, claimed, given and collected at most once, and the chairs' lists say so, too
     pub once : (k r : ℕ) → (times_put k r ≤ 1) × (times_claimed k r ≤ 1) × (times_given k r ≤ 1) × (times_collected k r ≤ 1)
@@ -203,6 +211,7 @@ module _ {T N M : Type 0} (s : BoardRun T N M) where
     -- at most one chair has the turn
     pub turn : (i j : ℕ) (u v : View M) → get_elem? s.views i ≡ some u → get_elem? s.views j ≡ some v → u.turn ≡ 1 → v.turn ≡ 1 → i ≡ j
 
+  -- In the run s no piece is lost: each that was put or given was taken out of its slot, or is in it. Each that was claimed is with its chair, or another was given for it.
   pub record NothingLost : Type 0 where
     -- each piece that was put was claimed, or stands in a FULL slot
     pub put : (k r : ℕ) (y : T) → WasPut k r y → WasClaimed k r y ⊎ StandsFull k r y

@@ -20,6 +20,7 @@ module _ {T N M : Type 0} where
   abbrev pub HoldsBack : Step (Content T N) → Seated T N M → ℕ → Seated T N M → Type 0
   HoldsBack st m x m' = (k : ℕ) → st.word ≡ k + 1 → (x % 4 ≡ 3 → (y : T) × (m' ≡ (after_reserve m.0 k x, (k + 1, Piece y) ∷ m.1))) × (x % 4 ≢ 3 → m' ≡ (after_look m.0 k x, m.1))
 
+  -- a put into the slot in hand, EMPTY of the round r: it is in hand no more, and what was taken out last is out no more
   abbrev pub HasPut : Step (Content T N) → Seated T N M → ℕ → Seated T N M → Type 0
   HasPut st m x m' = (k r : ℕ) → m.0.hand ≡ Some (k, 4 * r) → m' ≡ (after_put m.0 k r, rest m.1)
 
@@ -28,9 +29,11 @@ module _ {T N M : Type 0} where
   HasClaimedOrLooked st m x m' = (k : ℕ) → st.word ≡ k + 1
       → (x ≡ st.first → (y : T) × (m' ≡ (after_claim m.0 k (x / 4), (k + 1, Piece y) ∷ m.1))) × (x ≢ st.first → (m' ≡ (after_look m.0 k x, m.1)) × (0 < times k st.first m.0.seen → st.first < x))
 
+  -- a give of the claimed slot: the chair has no claimed slot, and what was taken out last is out no more
   abbrev pub HasGiven : Step (Content T N) → Seated T N M → ℕ → Seated T N M → Type 0
   HasGiven st m x m' = m' ≡ (after_give m.0, rest m.1)
 
+  -- a collection from the slot in hand, BACK of the round r: it is in hand no more, and what was taken out last is out no more
   abbrev pub HasCollected : Step (Content T N) → Seated T N M → ℕ → Seated T N M → Type 0
   HasCollected st m x m' = (k r : ℕ) → m.0.hand ≡ Some (k, 4 * r + 3) → m' ≡ (after_collect m.0 k r, rest m.1)
 
@@ -38,5 +41,6 @@ module _ {T N M : Type 0} where
   abbrev pub HasTakenOrLooked : (N → M) → Step (Content T N) → Seated T N M → ℕ → Seated T N M → Type 0
   HasTakenOrLooked label st m x m' = (x ≡ 0 → (net : N) × (m' ≡ (after_take m.0, (0, Net net) ∷ m.1)) × (m.0.name ≡ Some (label net))) × (x ≢ 0 → (x ≡ 1) × (m' ≡ (after_turn_seen m.0 x, m.1)))
 
+  -- the turn is left: the chair has neither it nor noted slots, and what was taken out last is out no more
   abbrev pub HasLeftTurn : Step (Content T N) → Seated T N M → ℕ → Seated T N M → Type 0
   HasLeftTurn st m x m' = m' ≡ (after_leave m.0, rest m.1)

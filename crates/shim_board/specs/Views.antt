@@ -29,6 +29,7 @@ module _ {M : Type 0} where
   abbrev pub fresh : Option M → ℕ → ℕ → View M
   fresh name number count = record { puts = []; claims = []; collections = []; claimed = None; noted = []; hand = None; seen = []; turns_seen = []; turn = 0; numbers = number ∷ []; count = count; name = name }
 
+  -- chair 0 of a new board of the given name, the only chair, which has done nothing yet
   abbrev pub first_chair : M → View M
   first_chair name = fresh (Some name) 0 1
 
@@ -49,21 +50,27 @@ module _ {M : Type 0} where
     abbrev pub after_reserve : ℕ → ℕ → View M
     after_reserve k x = record v { hand = Some (k, x) }
 
+    -- the slot k was put in the round r, and is neither in hand nor noted from then on
     abbrev pub after_put : ℕ → ℕ → View M
     after_put k r = record v { puts = v.puts ++ (k, r) ∷ []; hand = None; noted = without k v.noted }
 
+    -- the slot k was claimed in the round r, and is the claimed slot
     abbrev pub after_claim : ℕ → ℕ → View M
     after_claim k r = record v { claims = v.claims ++ (k, r) ∷ []; claimed = Some (k, r) }
 
+    -- the claimed slot was given, and none is claimed
     abbrev pub after_give : View M
     after_give = record v { claimed = None }
 
+    -- the slot k was collected in the round r, and is in hand no more
     abbrev pub after_collect : ℕ → ℕ → View M
     after_collect k r = record v { collections = v.collections ++ (k, r) ∷ []; hand = None }
 
+    -- the chair has the turn
     abbrev pub after_take : View M
     after_take = record v { turn = 1 }
 
+    -- the chair has neither the turn nor noted slots
     abbrev pub after_leave : View M
     after_leave = record v { turn = 0; noted = [] }
 
@@ -92,10 +99,12 @@ module _ {M : Type 0} where
   HasClaimed v w k r = (before : List ℕ) × Ascends before (4 * r + 1) × (w ≡ after_claim (seeing v k (before ++ (4 * r + 1) ∷ [])) k r)
 
 module _ {T N : Type 0} where
+  -- what is out with a chair for the turn: the net's place, without content, if the number is not 0
   abbrev pub out_turn : ℕ → List (ℕ × Content T N)
   out_turn zero = []
   out_turn (suc n) = (0, Nothing) ∷ []
 
+  -- the place of the claimed slot, if there is one, without content, before the rest
   abbrev pub out_claimed : Option (ℕ × ℕ) → List (ℕ × Content T N) → List (ℕ × Content T N)
   out_claimed (Some p) rest = (p.0 + 1, Nothing) ∷ rest
   out_claimed None rest = rest

@@ -49,6 +49,7 @@ args_code args = all (map arg_code args)
 abbrev pub call_code : UCall → Code
 call_code c = sequence (args_code c.args) (one (Call c.unit (length c.args) c.throws))
 
+-- the arguments of a branch's call, and the instruction of the branch, with their number
 abbrev pub branch_code : UBranch → Code
 branch_code b = sequence (args_code b.call.args) (one (Branch b.call.unit (length b.call.args) b.call.throws))
 

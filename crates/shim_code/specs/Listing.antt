@@ -11,6 +11,7 @@ use Rattle.shim_code.specs.declared.instr.Instr.{Instr}
 use Rattle.shim_code.specs.declared.instr.Instr.TheVariants.{Mark, Num, Var, Un, Bin, Bool, Jump, JumpZ, Declare, Set, Get, Put, Next, Ref, Pass, Fresh, Call, Branch, Fork, Try, Untry, Throw, End}
 use Rattle.shim_code.specs.declared.unit.CodeUnit.{CodeUnit}
 
+-- the word of the kind of a mark
 abbrev pub kind_word : MarkKind → List ℕ
 kind_word kind.Quiet = codes "quiet"
 kind_word kind.Next = codes "next"
@@ -18,6 +19,7 @@ kind_word kind.Put = codes "put"
 kind_word kind.Fork = codes "fork"
 kind_word kind.Throw = codes "throw"
 
+-- the words of the instruction of an operator with one operand
 abbrev pub un_word : UnOp → List ℕ
 un_word un.Neg = codes "un neg"
 un_word un.Not = codes "un not"

@@ -5,6 +5,7 @@ use Rattle.shim_code.specs.declared.instr.Instr.TheVariants as code
 use Rattle.shim_code.specs.declared.machine_instr.MachineInstr.{MachineInstr}
 use Rattle.shim_code.specs.declared.machine_instr.MachineInstr.TheVariants.{Mark, Num, Var, Un, Bin, Bool, Jump, JumpZ, Declare, Set, Get, Put, Next, Ref, Pass, Fresh, Call, Branch, Fork, Try, TryInto, Untry, Throw, End}
 
+-- An instruction of the machine as one of `Instr`. Types, the sorts and names of parameters, and the numbers and parts of statements are left out.
 abbrev pub published : MachineInstr → Instr
 published (Mark m) = code.Mark m.kind m.line
 published (Num n) = code.Num n

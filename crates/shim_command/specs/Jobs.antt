@@ -78,9 +78,11 @@ has_extra Inputs job = nat_le 1 (length job.inputs) && nat_le (length job.inputs
 abbrev pub suits : Job → Bool
 suits job = has_origin (row_of job.mode).origin job && has_extra (row_of job.mode).beside job
 
+-- the job, if its mode takes what was found
 abbrev pub where_it_suits : Job → Option Job
 where_it_suits job = if suits job then Some job else None
 
+-- the job of the mode, if there is one, with what the rows have, if the mode takes it
 abbrev pub job_of : Option Mode → List Row → Option Job
 job_of (Some mode) rows = where_it_suits (job_with mode rows)
 job_of None rows = None
@@ -89,6 +91,7 @@ job_of None rows = None
 abbrev pub job_in : List Row → Option Job
 job_in rows = job_of (mode_named (word_in rows (codes "MODE"))) rows
 
+-- what was found, if the words have no fault
 abbrev pub where_faultless : Kinds → Option Job → Option Job
 where_faultless [] found = found
 where_faultless (kind ∷ kinds) found = None

@@ -14,6 +14,7 @@ use Rattle.shim_command.specs.declared.mode.Task.{Task}
 use Rattle.shim_command.specs.declared.mode.Task.TheVariants.{Describes, Runs, Explains, Records, Replays, RunsEach}
 use Rattle.shim_command.specs.declared.mode.ModeRow.{ModeRow as CodeModeRow}
 
+-- a row of the table of modes
 pub record ModeRow : Type 0 where
   -- the word that asks for the mode
   pub word : Text

@@ -6,6 +6,7 @@ use Rattle.shim_edge.specs.declared.files.FileFault.TheVariants.{Failed, NoMemor
 use Rattle.shim_edge.specs.Count.{count_up}
 use Rattle.shim_edge.specs.Files.{file_of}
 
+-- Files in memory, with what is counted and kept of their reads. Reads of given numbers fail.
 pub record FilesInMemory : Type 0 where
   -- the names and contents, of which the first of a name counts
   pub files : List (List ℕ × List ℕ)

@@ -1,6 +1,7 @@
 -- A sink in memory, as contracts see it.
 use Rattle.std.specs.Prelude.{ℕ, ◌+◌, ◌<◌, ◌≤◌, List, length, Contains, ◌⊎◌}
 
+-- A sink in memory with limited room, with what is counted of its writes. Writes of given numbers fail.
 pub record SinkInMemory : Type 0 where
   -- the bytes that were taken
   pub taken : List ℕ

@@ -16,10 +16,12 @@ use Rattle.shim_front_end.specs.declared.fault.SourceFault.TheVariants.{Parse, S
 abbrev pub Source : Type 0
 Source = Form
 
+-- the answer of the sharing rule, with its fault as a fault of a source
 abbrev pub sharing_result : Result Form ShareFault → Result Form SourceFault
 sharing_result (Ok form) = Ok form
 sharing_result (Err fault) = Err (Share fault)
 
+-- The answer of the sharing rule to a bound program. A refusal of binding is a fault of a source.
 abbrev pub bound : Result Resolved Refusal → Result Form SourceFault
 bound (Ok resolved) = sharing_result (accepted resolved)
 bound (Err r) = Err (Scope (Refused r.line r.kind r.name))

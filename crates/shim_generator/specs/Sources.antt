@@ -41,6 +41,7 @@ storm =
     ∷ codes "}"
     ∷ []
 
+-- the template of a kind
 abbrev pub template : Kind → List (List ℕ)
 template Pipe = pipe
 template Tree = tree

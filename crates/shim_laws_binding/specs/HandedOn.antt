@@ -12,10 +12,12 @@ use Rattle.shim_laws_binding.specs.TextOrder.{concat}
 abbrev pub Calls : Type 0
 Calls = List RCall
 
+-- the calls of a branch, given those of the statements in it
 abbrev pub branch_what_calls : RBranchWhat-F Calls Calls Calls Calls → Calls
 branch_what_calls (RBranchWhat-F.RBranchWhat::Block body) = concat body
 branch_what_calls (RBranchWhat-F.RBranchWhat::Call c) = c ∷ []
 
+-- the calls of a statement and of those inside it, given those of its parts
 abbrev pub what_calls : RWhat-F Calls Calls Calls Calls → Calls
 what_calls (RWhat-F.If test first other) = concat first ++ concat other
 what_calls (RWhat-F.While test body) = concat body
@@ -26,6 +28,7 @@ what_calls (RWhat-F.Try body number slot handler) = concat body ++ concat handle
 what_calls (RWhat-F.Par branches) = concat branches
 what_calls _ = []
 
+-- the calls of a statement of a program and of those inside it
 abbrev pub stmt_calls : RStmt → Calls
 stmt_calls = fold-RStmt Calls Calls Calls Calls branch_what_calls what_calls (λ b. b.what) (λ s. s.what)
 

@@ -36,15 +36,18 @@ pub record Naming : Type 0 where
   pub exception : ℕ → List ℕ
   pub function : ℕ → List ℕ
 
+-- one expression with the name of its variable, its operands being named already
 abbrev pub name_expr_step : (ℕ → List ℕ) → UExpr-F Expr → Expr
 name_expr_step variable (UExpr-F.Number n) = e.Number n
 name_expr_step variable (UExpr-F.Var slot) = e.Var (variable slot)
 name_expr_step variable (UExpr-F.Unary op a) = e.Unary op a
 name_expr_step variable (UExpr-F.Binary op a b) = e.Binary op a b
 
+-- an expression with the names of its variables in place of their slots
 unfoldable pub expr_named : (ℕ → List ℕ) → UExpr → Expr
 expr_named variable = fold-UExpr Expr (name_expr_step variable)
 
+-- the same of an expression that may be absent
 abbrev pub option_named : (ℕ → List ℕ) → Option UExpr → Option Expr
 option_named variable None = None
 option_named variable (Some a) = Some (expr_named variable a)
@@ -54,13 +57,16 @@ abbrev pub slot_named : (ℕ → List ℕ) → Option ℕ → Option (List ℕ)
 slot_named variable None = None
 slot_named variable (Some slot) = Some (variable slot)
 
+-- a call with the names of its function and of its variables, without the exceptions that it gives
 abbrev pub call_named : Naming → RCall → Call
 call_named n c = record { function = n.function c.function; args = map (expr_named n.variable) c.args }
 
+-- a branch with the names of its call, the statements of its block being named already
 abbrev pub name_branch_what_step : Naming → RBranchWhat-F BranchWhat What Branch Stmt → BranchWhat
 name_branch_what_step n (RBranchWhat-F.RBranchWhat::Block body) = br.Block body
 name_branch_what_step n (RBranchWhat-F.RBranchWhat::Call c) = br.Call (call_named n c)
 
+-- a statement with names in place of its slots and numbers, the statements inside it being named already
 abbrev pub name_what_step : Naming → RWhat-F BranchWhat What Branch Stmt → What
 name_what_step n (RWhat-F.Declare ty slot a) = st.Declare ty (n.variable slot) (option_named n.variable a)
 name_what_step n (RWhat-F.Assign slot a) = st.Assign (n.variable slot) (expr_named n.variable a)
@@ -78,15 +84,18 @@ name_what_step n (RWhat-F.Try body number slot handler) = st.Try body (n.excepti
 name_what_step n (RWhat-F.Throw number a) = st.Throw (n.exception number) (option_named n.variable a)
 name_what_step n (RWhat-F.Par branches) = st.Par branches
 
+-- A branch with its line, what it does being named already. `name_stmt_step` is the same of a statement.
 abbrev pub name_branch_step : RBranch-F BranchWhat What Branch Stmt → Branch
 name_branch_step b = record { line = b.line; what = b.what }
 
 abbrev pub name_stmt_step : RStmt-F BranchWhat What Branch Stmt → Stmt
 name_stmt_step s = record { line = s.line; what = s.what }
 
+-- a statement with names in place of all slots and numbers in it
 abbrev pub stmt_named : Naming → RStmt → Stmt
 stmt_named n = fold-RStmt BranchWhat What Branch Stmt (name_branch_what_step n) (name_what_step n) name_branch_step name_stmt_step
 
+-- a parameter with its name in place of the number of the name
 abbrev pub param_named : Texts → UParam → Param
 param_named names p = record { sort = p.sort; by_ref = p.by_ref; name = name_at names p.name }
 
@@ -98,6 +107,7 @@ naming_of form f = record {
   function = name_at (names_at form.names (map (λ (f : RFunction). f.name) form.functions));
 }
 
+-- a function with names in place of all slots and numbers in it
 abbrev pub function_named : Form → RFunction → Function
 function_named form f = record {
   line = f.line;

@@ -19,11 +19,12 @@ names_among (t ∷ ts) = terminal_name t ++ names_among ts
 abbrev pub of_functions : List Terminal → List Terminal
 of_functions ts = if begins_two ts then rest (rest (rest ts)) else ts
 
--- whether one of the terminals is the type that version 2 adds
+-- whether the terminal is the type that version 2 adds
 abbrev pub is_new_type : Terminal → Bool
 is_new_type (Sort (Value Int64) p) = true
 is_new_type _ = false
 
+-- whether any of some terminals is the type that version 2 adds
 abbrev pub has_new_type : List Terminal → Bool
 has_new_type [] = false
 has_new_type (t ∷ ts) = is_new_type t || has_new_type ts

@@ -29,10 +29,12 @@ abbrev pub declared_variable : Option (List ℕ) → Declarations
 declared_variable None = []
 declared_variable (Some x) = record { name = x; sort = Value Int32 } ∷ []
 
+-- the declarations inside a branch, given those of the statements in it
 abbrev pub branch_declares : BranchWhat-F Declarations Declarations Declarations Declarations → Declarations
 branch_declares (BranchWhat-F.BranchWhat::Block body) = concat body
 branch_declares (BranchWhat-F.BranchWhat::Call c) = []
 
+-- the declarations of a statement and of those inside it, given those of its parts
 abbrev pub what_declares : What-F Declarations Declarations Declarations Declarations → Declarations
 what_declares (What-F.Declare ty x e) = record { name = x; sort = Value ty } ∷ []
 what_declares (What-F.If e first other) = concat first ++ concat other
@@ -43,6 +45,7 @@ what_declares (What-F.Try body x y handler) = concat body ++ (declared_variable 
 what_declares (What-F.Par branches) = concat branches
 what_declares _ = []
 
+-- the declarations of a statement of a program and of those inside it
 abbrev pub stmt_declares : Stmt → Declarations
 stmt_declares = fold-Stmt Declarations Declarations Declarations Declarations branch_declares what_declares (λ b. b.what) (λ s. s.what)
 
@@ -50,6 +53,7 @@ stmt_declares = fold-Stmt Declarations Declarations Declarations Declarations br
 abbrev pub declarations_in : List Stmt → Declarations
 declarations_in body = concat (map stmt_declares body)
 
+-- the names of the `try` statements inside a branch, given those of the statements in it
 abbrev pub branch_tries : BranchWhat-F Texts Texts Texts Texts → Texts
 branch_tries (BranchWhat-F.BranchWhat::Block body) = concat body
 branch_tries (BranchWhat-F.BranchWhat::Call c) = []
@@ -64,6 +68,7 @@ what_tries (What-F.Try body x y handler) = x ∷ (concat body ++ concat handler)
 what_tries (What-F.Par branches) = concat branches
 what_tries _ = []
 
+-- the names of the `try` statements that a statement is or has inside it
 abbrev pub stmt_tries : Stmt → Texts
 stmt_tries = fold-Stmt Texts Texts Texts Texts branch_tries what_tries (λ b. b.what) (λ s. s.what)
 
@@ -81,6 +86,7 @@ all_declarations f = map declared_param f.params ++ declarations_in f.body
 abbrev pub sorts_of : Declarations → List Sort
 sorts_of ds = map (λ (d : Declaration). d.sort) ds
 
+-- the number of each declared name among `names`
 abbrev pub numbers_of_declared : Texts → Declarations → List ℕ
 numbers_of_declared names ds = map (λ (d : Declaration). name_index names d.name) ds
 

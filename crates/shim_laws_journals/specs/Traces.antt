@@ -19,5 +19,6 @@ pub record IsTrace {S : Type 0} (o : Ops S) (root : S) (b : ℕ) (es : List Entr
   -- and are accepted, where no event is enabled or the budget is spent
   pub accepted : IsQuiescent o t ⊎ ((steps t ≡ b) × (IsQuiescent o t → ⊥)) → IsAcceptedJournal o root b es t
 
+-- the journal of each net that keeps `NetKeeps`, with a budget from 1 to 4,000,000, is a trace
 abbrev pub NetsAreTraced : {S : Type 0} → Ops S → Type 0
 NetsAreTraced {S} o = (root : S) (b : ℕ) (es : List Entry) (t : Tree S) (grants : List (Grant S)) → 1 ≤ b → b ≤ 4000000 → NetKeeps o root b es t grants → IsTrace o root b es t

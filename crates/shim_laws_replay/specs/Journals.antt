@@ -8,6 +8,7 @@ use Rattle.shim_semantics.specs.Places.{led_to}
 use Rattle.shim_semantics.specs.Trees.{Tree, Event, Own, after, start, steps}
 use Rattle.shim_semantics.specs.Systems.{run, on_some}
 
+-- an item of a journal: a number of quiet steps of one process, or one event
 pub data Entry : Type 0 where
   -- so many quiet steps of the process of this path, one after another
   Quiet : Path → ℕ → Entry
@@ -45,6 +46,7 @@ abbrev pub events_of : Entry → List Event
 events_of (Quiet p n) = replicate n (Own p)
 events_of (Did e) = e ∷ []
 
+-- the events of all entries, in the order of the entries
 abbrev pub all_events : List Entry → List Event
 all_events [] = []
 all_events (j ∷ js) = events_of j ++ all_events js

@@ -14,6 +14,7 @@ use Rattle.shim_semantics.specs.Systems.{run}
 use Rattle.shim_laws_replay.specs.Journals.{Entry, Quiet, entry_after, replay}
 use Rattle.shim_laws_replay.specs.Grants.{IsGrantable}
 
+-- How a journal leads from tree to tree, entry by entry. Each tree is sound if the root is sound and shares its own channels alone.
 pub record JournalsGoOn {S : Type 0} (o : Ops S) : Type 0 where
   -- a journal without entries leads to the tree of the one process
   pub empty : (root : S) → replay o root [] ≡ Some (start root)
@@ -31,6 +32,7 @@ pub record IsTakenIn {S : Type 0} (o : Ops S) (t u : Tree S) (n : ℕ) (last : S
   pub counted : steps u ≡ steps t + n
   pub in_tree : StandsAt o u.root (o.path last) (Live last)
 
+-- A finished piece of work can be taken in as one entry of quiet steps. Each entry of one quiet step or more is a piece of work of its process.
 pub record PiecesAreEntries {S : Type 0} (o : Ops S) : Type 0 where
   -- A finished piece of a process that stands where it was granted may be taken in. The path is that of the start.
   pub comes : (t : Tree S) (n : ℕ) (first last : S) → IsSoundTree o t → IsGrantable o t first → QuietSteps o n first last → ComesBy o t n last × (o.path last ≡ o.path first)

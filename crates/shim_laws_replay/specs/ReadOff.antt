@@ -17,6 +17,7 @@ pub record IsReadOffAs {S : Type 0} (o : Ops S) (root : S) (b : ℕ) (t : Tree S
   pub same : (ended o (meaning o b (start root))).outcome ≢ Spent → ended o t ≡ ended o (meaning o b (start root))
   pub whole : (ended o t).outcome ≡ Spent → IsReachedBy o root b t × (steps t ≡ b)
 
+-- `IsReadOffAs` holds of each tree to which a journal leads and at which a schedule ended. The root is sound and shares channels of its own alone.
 abbrev pub EndsAreReadOff : {S : Type 0} → Ops S → Type 0
 EndsAreReadOff {S} o = (root : S) (b : ℕ) (journal : List Entry) (t : Tree S) → o.sound root → SharesItsOwn o root → replay o root journal ≡ Some t → HasEnded o b t → IsReadOffAs o root b t
 

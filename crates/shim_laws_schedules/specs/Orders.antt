@@ -17,6 +17,7 @@ HasOneLength {E} {T} step sound =
     (t u : T) (es : List E) → sound t → run step es t ≡ Some u → IsAtRest step u →
     (w : T) (fs : List E) → run step fs t ≡ Some w → (length fs ≤ length es) × (IsAtRest step w → (length fs ≡ length es) × (w ≡ u))
 
+-- the second, if there is one, else the first
 abbrev pub or_same : {T : Type 0} → T → Option T → T
 or_same t None = t
 or_same t (Some u) = u

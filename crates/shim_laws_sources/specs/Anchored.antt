@@ -33,6 +33,7 @@ pub record Anchored (path : Path) (program : Form) (f : Frame) (callers : List F
   pub fitting : Fitting path program f callers locations
   pub anchors : (m : ℕ) (x : Location) → at_number locations m ≡ Some x → x.ownership ≡ Copy → x.channel.channel.home ≡ path → Anchor f callers locations m x.channel.channel
 
+-- the same of the state of a process
 abbrev pub IsAnchored : LocalState → Type 0
 IsAnchored l = Anchored l.path l.program l.frame l.callers l.locations
 

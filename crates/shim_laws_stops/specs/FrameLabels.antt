@@ -46,6 +46,7 @@ abbrev pub FramesLabels : Form → Frame → List Frame → Type 0
 FramesLabels program f [] = FrameLabels program f × (f.outer ≡ 0)
 FramesLabels program f (caller ∷ callers) = FrameLabels program f × (f.outer ≡ caller.outer + length caller.places) × FramesLabels program caller callers
 
+-- Each unit of the program throws only what is in force. The frames of the process have a label for each exception that their units are given.
 pub record HasLabels (l : LocalState) : Type 0 where
   pub units : AllInForce l.program
   pub frames : FramesLabels l.program l.frame l.callers

@@ -22,6 +22,7 @@ HasLocation u locations slots x = is_number (slice_get u.slots x) ≡ true → I
 abbrev pub scoped_kind : Form → UnitOf → UWhat-F UWhat UStmt → Scoped
 scoped_kind program u w = what_scoped program u (map-UWhat UWhat UStmt Scoped Scoped (fold-UWhat Scoped Scoped (what_scoped program u) (λ s. s.what)) (scoped program u) w)
 
+-- a statement still to do is right where these slots are in scope; of a `for` the first part is done
 abbrev pub item_right : Form → UnitOf → UWhat-F UWhat UStmt → List ℕ → Bool
 item_right program u (UWhat-F.For first test step body) xs = option_right u xs test && (all_scoped program u step xs && all_scoped program u body xs)
 item_right program u w xs = (scoped_kind program u w).right xs
@@ -49,6 +50,7 @@ abbrev pub slot_taken : Option HandlerVariable → Option ℕ
 slot_taken None = None
 slot_taken (Some y) = Some y.slot
 
+-- the slot of the variable of a `try`'s handler, where the statement is a `try` and the handler has one
 abbrev pub what_takes : UWhat-F UWhat UStmt → Option ℕ
 what_takes (UWhat-F.Try body x y handler) = y
 what_takes _ = None
@@ -64,6 +66,7 @@ abbrev pub PlacesScoped : Form → UnitOf → (ℕ → Type 0) → List Exceptio
 PlacesScoped program u Has [] = Unit {0}
 PlacesScoped program u Has (p ∷ places) = ItemsScoped program u Has [] p.todo × (next_declares program u p.todo ≡ []) × (next_takes p.todo ≡ slot_taken p.variable) × PlacesScoped program u Has places
 
+-- What is to do in the frame, and was at its exception places, names only variables that have a location or are declared before. The frame fits its unit, with room for its own variables.
 pub record FrameScoped (program : Form) (locations : Locations) (f : Frame) : Type 0 where
   pub fit : FrameFits program 0 f
   -- it has one number for each slot of its unit
@@ -79,6 +82,7 @@ FramesScoped program locations f [] = FrameScoped program locations f
 FramesScoped program locations f (caller ∷ callers) =
     FrameScoped program locations f × (f.floor ≤ length locations) × (next_declares program (unit_at program caller.unit) caller.todo ≡ []) × FramesScoped program (take f.floor locations) caller callers
 
+-- The program's units use slots of their own, and name only what is in scope. The frames of the process have locations for what they name.
 pub record HasLocations (l : LocalState) : Type 0 where
   pub own : UsesOwnSlots l.program
   pub units : AllInScope l.program

@@ -19,6 +19,7 @@ are_among xs (y ∷ ys) = is_among xs y && are_among xs ys
 abbrev pub hands_on : Form → UCall → List ℕ → Bool
 hands_on program c xs = are_among xs c.throws && nat_eq (length c.throws) (unit_at program c.unit).throws
 
+-- the call of each branch hands on an exception for each that its unit is given, and these are in force
 abbrev pub all_hand_on : Form → List UBranch → List ℕ → Bool
 all_hand_on program [] xs = true
 all_hand_on program (b ∷ branches) xs = hands_on program b.call xs && all_hand_on program branches xs
@@ -27,6 +28,7 @@ all_hand_on program (b ∷ branches) xs = hands_on program b.call xs && all_hand
 abbrev pub InForce : Type 0
 InForce = List ℕ → Bool
 
+-- each of them is right where these exceptions are in force
 abbrev pub all_right : List InForce → InForce
 all_right [] xs = true
 all_right (f ∷ fs) xs = f xs && all_right fs xs
@@ -47,6 +49,7 @@ what_throws _ _ _ = true
 abbrev pub throws : Form → UStmt → InForce
 throws program = fold-UStmt InForce InForce (what_throws program) (λ s. s.what)
 
+-- each of the statements throws and hands on what is in force
 abbrev pub all_throw : Form → List UStmt → InForce
 all_throw program ss = all_right (map (throws program) ss)
 
@@ -54,5 +57,6 @@ all_throw program ss = all_right (map (throws program) ss)
 abbrev pub ThrowsInForce : Form → UnitOf → Type 0
 ThrowsInForce program u = all_throw program u.body (upto u.throws) ≡ true
 
+-- in each unit of the program each statement throws and hands on only what is in force
 abbrev pub AllInForce : Form → Type 0
 AllInForce program = (n : ℕ) → ThrowsInForce program (unit_at program n)

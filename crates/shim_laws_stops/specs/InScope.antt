@@ -19,6 +19,7 @@ use Rattle.shim_process.specs.LocalState.{unit_at}
 
 -- what a slot holds
 
+-- a slot of the sort holds a number; `is_input_at` and `is_output_at` are the same of the input and of the output
 abbrev pub is_number : Option Sort → Bool
 is_number (Some (Value t)) = true
 is_number (Some Input) = false
@@ -47,6 +48,7 @@ same_kind Output o = is_output_at o
 abbrev pub has_number : UnitOf → List ℕ → ℕ → Bool
 has_number u xs x = is_among xs x && is_number (slice_get u.slots x)
 
+-- the same of a slot that holds the input; `has_output` of one that holds the output
 abbrev pub has_input : UnitOf → List ℕ → ℕ → Bool
 has_input u xs x = is_among xs x && is_input_at (slice_get u.slots x)
 
@@ -55,6 +57,7 @@ has_output u xs x = is_among xs x && is_output_at (slice_get u.slots x)
 
 -- expressions
 
+-- the variables that an expression reads, from those of its parts
 abbrev pub variables_step : UExpr-F (List ℕ) → List ℕ
 variables_step (UExpr-F.Number n) = []
 variables_step (UExpr-F.Var x) = x ∷ []
@@ -65,6 +68,7 @@ variables_step (UExpr-F.Binary op a b) = a ++ b
 unfoldable pub variables_read : UExpr → List ℕ
 variables_read = fold-UExpr (List ℕ) variables_step
 
+-- the variables that an expression reads, and none where there is no expression
 abbrev pub variables_in_option : Option UExpr → List ℕ
 variables_in_option None = []
 variables_in_option (Some e) = variables_read e
@@ -78,16 +82,19 @@ have_numbers u xs (y ∷ ys) = has_number u xs y && have_numbers u xs ys
 abbrev pub reads_right : UnitOf → List ℕ → UExpr → Bool
 reads_right u xs e = have_numbers u xs (variables_read e)
 
+-- the same of an expression that may be absent
 abbrev pub option_right : UnitOf → List ℕ → Option UExpr → Bool
 option_right u xs e = have_numbers u xs (variables_in_option e)
 
 -- the argument is in scope and of the kind of its parameter
 
+-- what the argument names is among these slots, and the argument is of its parameter's kind
 abbrev pub argument_right : UnitOf → List ℕ → UParam → Arg → Bool
 argument_right u xs p (Ref x) = is_among xs x && same_kind p.sort (slice_get u.slots x)
 argument_right u xs p (Pass x) = is_number (Some p.sort) && has_number u xs x
 argument_right u xs p (Fresh e) = is_number (Some p.sort) && reads_right u xs e
 
+-- there is an argument for each parameter, and each is right
 abbrev pub arguments_right : UnitOf → List ℕ → List UParam → List Arg → Bool
 arguments_right u xs [] [] = true
 arguments_right u xs [] (a ∷ rest) = false
@@ -101,6 +108,7 @@ references (Ref x ∷ rest) = x ∷ references rest
 references (Pass x ∷ rest) = references rest
 references (Fresh e ∷ rest) = references rest
 
+-- no number is in the list twice
 abbrev pub distinct : List ℕ → Bool
 distinct [] = true
 distinct (x ∷ xs) = not (is_among xs x) && distinct xs
@@ -109,6 +117,7 @@ distinct (x ∷ xs) = not (is_among xs x) && distinct xs
 abbrev pub call_right : Form → UnitOf → List ℕ → UCall → Bool
 call_right program u xs c = arguments_right u xs (unit_at program c.unit).params c.args && distinct (references c.args)
 
+-- the call of each branch is right
 abbrev pub all_calls_right : Form → UnitOf → List ℕ → List UBranch → Bool
 all_calls_right program u xs [] = true
 all_calls_right program u xs (b ∷ branches) = call_right program u xs b.call && all_calls_right program u xs branches
@@ -118,6 +127,7 @@ abbrev pub are_apart : List ℕ → List ℕ → Bool
 are_apart xs [] = true
 are_apart xs (y ∷ ys) = not (is_among xs y) && are_apart xs ys
 
+-- none of the slots is given by reference to one of the branches
 abbrev pub apart_from_all : List ℕ → List UBranch → Bool
 apart_from_all xs [] = true
 apart_from_all xs (b ∷ branches) = are_apart xs (references b.call.args) && apart_from_all xs branches
@@ -127,6 +137,7 @@ abbrev pub branches_apart : List UBranch → Bool
 branches_apart [] = true
 branches_apart (b ∷ branches) = apart_from_all (references b.call.args) branches && branches_apart branches
 
+-- there is a branch
 abbrev pub are_some : List UBranch → Bool
 are_some [] = false
 are_some (b ∷ branches) = true
@@ -138,6 +149,7 @@ pub record Scoped : Type 0 where
   pub right : List ℕ → Bool
   pub declares : List ℕ
 
+-- each of them is right where these slots are in scope, with those that the earlier ones declare
 abbrev pub all_right : List Scoped → List ℕ → Bool
 all_right [] xs = true
 all_right (c ∷ cs) xs = c.right xs && all_right cs (c.declares ++ xs)
@@ -146,9 +158,11 @@ abbrev pub all_declare : List Scoped → List ℕ
 all_declare [] = []
 all_declare (c ∷ cs) = c.declares ++ all_declare cs
 
+-- what declares nothing, and is right by the function of the slots in scope
 abbrev pub declares_none : (List ℕ → Bool) → Scoped
 declares_none right = record { right = right; declares = [] }
 
+-- whether a statement is right, and what it declares, from the same of the statements in it
 abbrev pub what_scoped : Form → UnitOf → UWhat-F Scoped Scoped → Scoped
 what_scoped program u (UWhat-F.Declare t x e) = record { right = λ xs. option_right u xs e; declares = x ∷ [] }
 what_scoped program u (UWhat-F.Assign x e) = declares_none (λ xs. has_number u xs x && reads_right u xs e)
@@ -167,9 +181,11 @@ what_scoped program u (UWhat-F.Try body x y handler) = declares_none (λ xs. all
 what_scoped program u (UWhat-F.Throw x e) = declares_none (λ xs. option_right u xs e)
 what_scoped program u (UWhat-F.Par branches) = declares_none (λ xs. are_some branches && (branches_apart branches && all_calls_right program u xs branches))
 
+-- whether a statement of the unit is right, and what it declares
 abbrev pub scoped : Form → UnitOf → UStmt → Scoped
 scoped program u = fold-UStmt Scoped Scoped (what_scoped program u) (λ s. s.what)
 
+-- each of the statements of the unit is right where these slots are in scope before the first
 abbrev pub all_scoped : Form → UnitOf → List UStmt → List ℕ → Bool
 all_scoped program u ss = all_right (map (scoped program u) ss)
 
@@ -189,5 +205,6 @@ slots_right (p ∷ ps) (s ∷ ss) = same_kind p.sort (Some s) && slots_right ps 
 abbrev pub unit_scoped : Form → UnitOf → Bool
 unit_scoped program u = slots_right u.params u.slots && all_scoped program u u.body (upto (length u.params))
 
+-- each unit of the program is right where its parameters are in scope
 abbrev pub AllInScope : Form → Type 0
 AllInScope program = (n : ℕ) → unit_scoped program (unit_at program n) ≡ true

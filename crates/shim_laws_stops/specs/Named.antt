@@ -50,6 +50,7 @@ arguments_read (Ref x ∷ rest) = arguments_read rest
 arguments_read (Pass x ∷ rest) = x ∷ arguments_read rest
 arguments_read (Fresh e ∷ rest) = variables_read e ++ arguments_read rest
 
+-- the variables whose values the arguments of the branches take
 abbrev pub branches_read : List UBranch → List ℕ
 branches_read [] = []
 branches_read (b ∷ branches) = arguments_read b.call.args ++ branches_read branches
@@ -92,9 +93,11 @@ AllHaveLocations l [] (a ∷ rest) = ⊥
 AllHaveLocations l (p ∷ ps) [] = ⊥
 AllHaveLocations l (p ∷ ps) (a ∷ rest) = ArgumentHasLocation l p a × AllHaveLocations l ps rest
 
+-- the arguments of the call have their locations, and there is one for each parameter
 abbrev pub CallHasLocations : LocalState → UCall → Type 0
 CallHasLocations l c = AllHaveLocations l (unit_at l.program c.unit).params c.args
 
+-- the same of the call of each branch
 abbrev pub BranchesHaveLocations : LocalState → List UBranch → Type 0
 BranchesHaveLocations l [] = Unit {0}
 BranchesHaveLocations l (b ∷ branches) = CallHasLocations l b.call × BranchesHaveLocations l branches

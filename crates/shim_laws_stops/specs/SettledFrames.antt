@@ -10,6 +10,7 @@ StartsRight [] = Unit {0}
 StartsRight (Leave ∷ k) = ⊥
 StartsRight (Do n s ∷ k) = Unit {0}
 
+-- in none of the frames the end of a `try` is next
 abbrev pub AllStartRight : List Frame → Type 0
 AllStartRight [] = Unit {0}
 AllStartRight (f ∷ fs) = StartsRight f.todo × AllStartRight fs

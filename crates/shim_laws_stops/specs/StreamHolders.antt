@@ -11,6 +11,7 @@ use Rattle.shim_process.specs.LocalState.{LocalState, Frame, unit_at}
 use Rattle.shim_laws_stops.specs.InScope.{is_input_at, is_output_at}
 use Rattle.shim_laws_stops.specs.FrameLocations.{HasLocations}
 
+-- the input or the output
 pub data Stream : Type 0 where
   TheInput : Stream
   TheOutput : Stream
@@ -59,6 +60,7 @@ UnitsTake s program n (m ∷ ms) = HasOneSlot s (unit_at program n) × (takes s 
 abbrev pub waiting_units : LocalState → List ℕ
 waiting_units l = map (λ (f : Frame). f.unit) l.callers
 
+-- the last of the units, of which the first is given apart
 abbrev pub last_unit : ℕ → List ℕ → ℕ
 last_unit n [] = n
 last_unit n (m ∷ ms) = last_unit m ms
@@ -67,6 +69,7 @@ last_unit n (m ∷ ms) = last_unit m ms
 abbrev pub first_unit : LocalState → ℕ
 first_unit l = last_unit l.frame.unit (waiting_units l)
 
+-- `UnitsTake` of the units that the process is in
 abbrev pub IsTaking : Stream → LocalState → Type 0
 IsTaking s l = UnitsTake s l.program l.frame.unit (waiting_units l)
 

@@ -8,6 +8,7 @@ use Rattle.shim_scopes.specs.Statements.{Whole, Around, Before, BoundTo, Bind}
 use Rattle.shim_up.specs.Renaming.{Renaming, renamed_functions}
 
 module _ (f : Renaming) where
+  -- a local declaration with its name replaced by f; `handled_renamed` to `refusal_renamed` do the same of their types
   abbrev pub local_renamed : LocalDeclaration → LocalDeclaration
   local_renamed l = record { name = f l.name; bound = l.bound }
 
@@ -38,5 +39,6 @@ module _ (f : Renaming) where
   abbrev pub Follows : {T : Type 0} → Bind T → Bind T → Type 0
   Follows g h = (a : Around) (b : Before) → h (around_renamed a) (before_renamed b) ≡ answer_renamed bound_renamed (g a b)
 
+  -- the form with its list of names replaced by f, and the rest as it was
   abbrev pub form_renamed : Form → Form
   form_renamed r = record { functions = r.functions; names = map f r.names; main = r.main }

@@ -4,6 +4,7 @@ use Rattle.shim_base.specs.Tokens.{Place}
 use Rattle.shim_syntax.specs.Terminals.{Terminal, Name, Number, Sort, Key, Sign, End, Broken}
 use Rattle.shim_up.specs.Renaming.{Renaming}
 
+-- a place of the same line, at another byte
 abbrev pub at_byte : ℕ → Place → Place
 at_byte at p = record { at = at; line = p.line }
 

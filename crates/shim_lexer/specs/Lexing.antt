@@ -5,6 +5,7 @@ use Rattle.shim_base.specs.Tokens.{Token, Place, place_after, Spells, IsWithinLi
 use Rattle.shim_lexer.specs.declared.token.Token.{Token as Given}
 use Rattle.shim_lexer.specs.declared.token.LexFault.{LexFault}
 
+-- a text that is cut token by token, with the place up to which it was read and the fault that was answered, if one was
 pub record Lexing : Type 0 where
   -- the whole text
   pub text : List ℕ
@@ -25,6 +26,7 @@ bytes_of text t = between t.at t.past text
 abbrev pub token_of : List ℕ → Given → Token
 token_of text t = record { kind = t.kind; text = bytes_of text t; at = t.at; line = t.line }
 
+-- The fault of the code, as the definition of tokens names it. The same of an optional one: `fault_kept`.
 abbrev pub fault_of : LexFault → Fault
 fault_of f = record { at = f.at; line = f.line; kind = f.kind }
 

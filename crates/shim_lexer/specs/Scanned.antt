@@ -43,6 +43,7 @@ pub record IsFittingToken (text : List ℕ) (kind : TokenKind) (len : ℕ) : Typ
   pub first : IsLongestToken text (take len text) (drop len text) kind
   pub fits : IsWithinLimits (take len text) kind
 
+-- What is at the front of the text: nothing, bytes to pass over, a token, or a fault, where nothing can be passed over.
 abbrev pub IsScanned : List ℕ → Scanned → Type 0
 IsScanned text End = text ≡ []
 IsScanned text (Passed len) = IsPassed text len

@@ -47,6 +47,7 @@ abbrev pub AreChildren : {S : Type 0} → Ops S → Path → ℕ → ℕ → ℕ
 AreChildren o p base f i [] = Unit {0}
 AreChildren o p base f i (k ∷ ks) = (o.path k ≡ p ++ (f, i) ∷ []) × (o.base k ≡ base) × AreChildren o p base f (i + 1) ks
 
+-- the stop of the process is a trap, of some kind and in some line
 abbrev pub IsTrapped : {S : Type 0} → Ops S → S → Type 0
 IsTrapped o l = (kind : Trap) × (line : ℕ) × (o.stop l ≡ AtTrap kind line)
 
@@ -58,6 +59,7 @@ IsGiven o l c = (at : ℕ) × (d : NamedChannel) × (slice_get (o.given l) at �
 abbrev pub CarriesNoMore : {S : Type 0} → Ops S → S → S → Channel → Type 0
 CarriesNoMore o l m c = o.carries m c ≡ true → (o.carries l c ≡ true) ⊎ ((c.home ≡ o.path l) × (o.shares l c ≡ false))
 
+-- the laws of a kind of process: what each call keeps and changes, what children a fork makes, and who shares, carries and holds what
 pub record LocalLaws {S : Type 0} (o : Ops S) : Type 0 where
   -- each call keeps a state sound, and the children of a fork are sound
   pub moved_sound : (l m : S) → o.sound l → Moved o l m → o.sound m

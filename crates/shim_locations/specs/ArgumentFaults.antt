@@ -13,6 +13,7 @@ Gives (Ok given) meant = meant ≡ Ok (arguments_of given)
 Gives (Err (Trapped t)) meant = meant ≡ Err t
 Gives (Err NoMemory) meant = Unit {0}
 
+-- the same result: the argument as the definition of a process names it, or the trap
 abbrev pub argument_result : Result Argument Trap → Result ArgumentOf Trap
 argument_result (Ok a) = Ok (argument_of a)
 argument_result (Err t) = Err t

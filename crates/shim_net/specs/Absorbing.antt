@@ -60,6 +60,7 @@ pub data RedoesSome {S : Type 0} (o : Ops S) (before : NetView S) : NetView S �
   redid_none : RedoesSome o before before
   redid_one : (between after : NetView S) → RedoesSome o before between → Redoes o between after → RedoesSome o before after
 
+-- For `true` an open grant was closed as `Redoes` has it. For `false` no grant was open, and nothing changed.
 abbrev pub RedoesOne : {S : Type 0} → Ops S → NetView S → NetView S → Bool → Type 0
 RedoesOne o before after true = Redoes o before after
 RedoesOne o before after false = (after ≡ before) × (before.grants ≡ [])

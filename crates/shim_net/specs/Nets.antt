@@ -14,6 +14,7 @@ pub record OpenGrant (S : Type 0) : Type 0 where
   pub most : ℕ
   pub start : S
 
+-- A net as contracts name it. The state `root` is that of the root before any event.
 pub record NetView (S : Type 0) : Type 0 where
   pub root : S
   pub budget : ℕ
@@ -45,6 +46,7 @@ HaveOtherNumbers g h = g.slot ≡ h.slot → g.round ≢ h.round
 abbrev pub HaveOtherPids : {S : Type 0} → OpenGrant S → OpenGrant S → Type 0
 HaveOtherPids g h = g.pid ≢ h.pid
 
+-- what the type of a net keeps
 pub record IsNet {S : Type 0} (o : Ops S) (n : NetView S) : Type 0 where
   pub has_budget : 1 ≤ n.budget
   pub most : n.budget ≤ 4000000

@@ -2,7 +2,6 @@
 use Rattle.std.specs.Prelude.{◌≡◌, ◌≢◌, ℕ, Bool, true, false, Some, None, List, [], ◌∷◌, ◌++◌, map, length}
 use Rattle.shim_base.specs.Paths.{Path}
 use Rattle.shim_local.specs.Process.{Ops}
-use Rattle.shim_semantics.specs.Listing.{IsAmong}
 use Rattle.shim_semantics.specs.Quiets.{StandsQuiet}
 use Rattle.shim_semantics.specs.Trees.{Tree, Event, Own, after}
 use Rattle.shim_laws_replay.specs.Journals.{Did}
@@ -12,9 +11,6 @@ use Rattle.shim_net.specs.Nets.{NetView}
 -- the event is a quiet step
 abbrev pub IsQuietStep : {S : Type 0} → Ops S → Tree S → Event → Type 0
 IsQuietStep o t e = (p : Path) × (e ≡ Own p) × StandsQuiet o t p
-
-abbrev pub AreQuietSteps : {S : Type 0} → Ops S → Tree S → List Event → Type 0
-AreQuietSteps o t es = (e : Event) → IsAmong e es → IsQuietStep o t e
 
 -- each enabled event is a quiet step
 abbrev pub RestsButForQuiet : {S : Type 0} → Ops S → Tree S → Type 0

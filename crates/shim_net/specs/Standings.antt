@@ -14,6 +14,7 @@ IsQuiescentNet o n = (n.grants ≡ []) × IsQuiescent o n.tree
 abbrev pub IsSpentNet : {S : Type 0} → Ops S → NetView S → Type 0
 IsSpentNet o n = (n.grants ≡ []) × (steps n.tree ≡ n.budget) × (IsQuiescent o n.tree → ⊥)
 
+-- the net has the standing; it is `Running` where it is neither `Quiescent` nor `Spent`
 abbrev pub StandsAs : {S : Type 0} → Ops S → NetView S → Standing → Type 0
 StandsAs o n Running = (IsQuiescentNet o n → ⊥) × (IsSpentNet o n → ⊥)
 StandsAs o n Quiescent = IsQuiescentNet o n

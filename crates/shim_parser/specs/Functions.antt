@@ -41,6 +41,7 @@ is_end _ = false
 abbrev pub IsParameter : ℕ → TextCounts → TextCounts → List Terminal → List Terminal → Param → Type 0
 IsParameter n v w s r x = (is_within (Count Parameters) n ≡ true) × IsParam s r x × (v ≡ w)
 
+-- the parameters with the right parenthesis, which change no count
 abbrev pub IsParameters : TextCounts → TextCounts → List Terminal → List Terminal → List Param → Type 0
 IsParameters v w s r xs = IsParams limits s r xs × (v ≡ w)
 
@@ -48,6 +49,7 @@ IsParameters v w s r xs = IsParams limits s r xs × (v ≡ w)
 abbrev pub IsThrown : ℕ → TextCounts → TextCounts → List Terminal → List Terminal → List ℕ → Type 0
 IsThrown n v w s r x = (p : Place) × (s ≡ Name x p ∷ r) × (is_within (Count Throws) n ≡ true) × (v ≡ w)
 
+-- what is between the parameters and the body, with the body's left brace; it changes no count
 abbrev pub IsThrowsHere : TextCounts → TextCounts → List Terminal → List Terminal → List (List ℕ) → Type 0
 IsThrowsHere v w s r xs = IsThrows limits s r xs × (v ≡ w)
 

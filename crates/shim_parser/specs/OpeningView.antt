@@ -9,6 +9,7 @@ use Rattle.shim_syntax.specs.Terminals.{Terminal}
 use Rattle.shim_parser.specs.declared.opening.Opening.{Opening}
 use Rattle.shim_parser.specs.declared.opening.Opening.TheVariants as o
 
+-- the terminal at that place with which the statement begins
 abbrev pub opening_view : Opening → Place → Terminal
 opening_view o.Empty p = t.Sign g.Semicolon p
 opening_view o.Block p = t.Sign g.LeftBrace p

@@ -13,6 +13,7 @@ use Rattle.shim_syntax.specs.Grammar.{TextCounts, at_level, operator_row, IsWhol
 use Rattle.shim_grammar.specs.declared.punctuation.Punctuation.{Punctuation}
 use Rattle.shim_grammar.specs.declared.punctuation.Punctuation.TheVariants as punctuation
 
+-- the terminal that is the punctuation, at that place
 abbrev pub punctuationed : Punctuation → Place → Terminal
 punctuationed punctuation.LeftParen p = Sign g.LeftParen p
 punctuationed punctuation.RightParen p = Sign g.RightParen p
@@ -33,12 +34,15 @@ punctuation_of (Sign g.Equal p) = Some punctuation.Equal
 punctuation_of (Key k.Catch p) = Some punctuation.Catch
 punctuation_of _ = None
 
+-- that punctuation, which changes no count
 abbrev pub IsPunctuation : Punctuation → TextCounts → TextCounts → List Terminal → List Terminal → Unit {0} → Type 0
 IsPunctuation f v w s r x = (p : Place) × (s ≡ punctuationed f p ∷ r) × (v ≡ w)
 
+-- a name, which changes no count
 abbrev pub IsName : TextCounts → TextCounts → List Terminal → List Terminal → List ℕ → Type 0
 IsName v w s r x = (p : Place) × (s ≡ Name x p ∷ r) × (v ≡ w)
 
+-- a name with that punctuation after it; neither changes a count
 abbrev pub IsNameBefore : Punctuation → TextCounts → TextCounts → List Terminal → List Terminal → List ℕ → Type 0
 IsNameBefore f v w s r x = (p : Place) × (q : Place) × (s ≡ Name x p ∷ punctuationed f q ∷ r) × (v ≡ w)
 
@@ -61,9 +65,11 @@ unary_sign Neg = g.Minus
 unary_sign Not = g.Bang
 unary_sign Flip = g.Tilde
 
+-- the terminal is the sign of that operator
 abbrev pub IsUnarySign : UnOp → Terminal → Type 0
 IsUnarySign op t = (p : Place) × (t ≡ Sign (unary_sign op) p)
 
+-- a whole expression of the level l, with that punctuation after it
 abbrev pub IsWholeBefore : Punctuation → ℕ → TextCounts → TextCounts → List Terminal → List Terminal → Expr → Type 0
 IsWholeBefore f l v w s r x = (p : Place) × IsWhole limits l v w s (punctuationed f p ∷ r) x
 

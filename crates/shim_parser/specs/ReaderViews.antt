@@ -9,10 +9,12 @@ use Rattle.shim_grammar.specs.Machine.{SymbolStack, Cause, Unwanted, Past, At, r
 use Rattle.shim_parser.specs.declared.fault.ParseFault.{ParseFault}
 use Rattle.shim_parser.specs.declared.fault.ParseFault.TheVariants.{Lex, Unexpected, TooDeep, TooMany, NoMemory}
 
+-- the terminals that are left to read, and what was counted before them
 pub record ReaderView : Type 0 where
   pub rest : List Terminal
   pub counts : TextCounts
 
+-- the same terminals, and the counts changed by f
 abbrev pub reader_with : (TextCounts → TextCounts) → ReaderView → ReaderView
 reader_with f r = record { rest = r.rest; counts = f r.counts }
 
@@ -47,6 +49,7 @@ pub record Halts (stack : SymbolStack) (old new : ReaderView) (fault : ParseFaul
   pub blames : Blames fault cause (first new.rest)
   pub halts : (k : SymbolStack) → run_parser limits old.rest (stack ++ k) old.counts ≡ At cause new.rest
 
+-- the machine halts for that fault; `NoMemory` claims nothing
 abbrev pub Fails : SymbolStack → ReaderView → ReaderView → ParseFault → Type 0
 Fails stack old new NoMemory = Unit {0}
 Fails stack old new fault = Halts stack old new fault

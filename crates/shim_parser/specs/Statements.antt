@@ -15,9 +15,11 @@ use Rattle.shim_syntax.specs.Terminals.{Terminal, Name, Key, Sign}
 use Rattle.shim_syntax.specs.Limits.{Nesting, Count, limits, is_within}
 use Rattle.shim_syntax.specs.Grammar.{TextCounts, at_level, IsStmt, IsPlain, IsBranches, IsBranch}
 
+-- the terminal is that sign, at some place
 abbrev pub IsSignAt : SignOf → Terminal → Type 0
 IsSignAt sign t = (p : Place) × (t ≡ Sign sign p)
 
+-- the terminal is that keyword, at some place
 abbrev pub IsKeyAt : Keyword → Terminal → Type 0
 IsKeyAt key t = (p : Place) × (t ≡ Key key p)
 

@@ -4,6 +4,7 @@ use Rattle.shim_syntax.specs.Terminals as t
 use Rattle.shim_parser.specs.declared.terminal.Terminal.{Terminal}
 use Rattle.shim_parser.specs.declared.terminal.Terminal.TheVariants.{Name, Number, Sort, Key, Sign, End, Broken}
 
+-- the grammar's terminal for one of the code, at that place
 abbrev pub terminal_view : Terminal → Place → t.Terminal
 terminal_view (Name text) p = t.Name text.now p
 terminal_view (Number n) p = t.Number n p

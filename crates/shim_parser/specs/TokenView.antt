@@ -4,6 +4,7 @@ use Rattle.shim_syntax.specs.Terminals.{Terminal}
 use Rattle.shim_parser.specs.declared.token.Token.{Token}
 use Rattle.shim_parser.specs.TerminalView.{terminal_view}
 
+-- the grammar's terminal for a token of the code, at the token's place
 abbrev pub token_view : Token → Terminal
 token_view t = terminal_view t.what (record { at = t.at; line = t.line })
 

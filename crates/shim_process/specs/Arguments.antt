@@ -23,10 +23,12 @@ pub data Argument : Type 0 where
   -- this number in a location on a channel of its own, of this name
   ByValue : Ty → ℕ → ℤ → Argument
 
+-- what the function gives for the value, or the trap where there is no value
 abbrev pub on_value : {A B : Type 0} → (A → Result B Trap) → Result A Trap → Result B Trap
 on_value f (Ok a) = f a
 on_value f (Err t) = Err t
 
+-- what an argument gives its parameter, or the trap of its expression, where the frame's slots have these numbers among the locations
 abbrev pub argument : Locations → List ℕ → UParam → Arg → Result Argument Trap
 argument locations slots p (Ref x) = Ok (ByReference (number_of slots x))
 argument locations slots p (Pass x) = Ok (ByCopy (type_of p.sort) (number_of slots x))

@@ -17,6 +17,7 @@ past_ends (Do n s ∷ k) places f = record f { todo = Do n s ∷ k; places = pla
 unfoldable pub went : Successor → Frame → Frame
 went successor f = past_ends (followed successor f.todo) f.places (record f { halfway = false })
 
+-- nothing is left to do
 abbrev pub is_over : List Item → Bool
 is_over [] = true
 is_over (i ∷ k) = false

@@ -29,6 +29,7 @@ PlacesFit program u (p ∷ places) = ItemsFit program u p.todo × VariableFits u
 abbrev pub SlotsFit : Form → ℕ → Frame → Type 0
 SlotsFit program kept f = (x : ℕ) → is_own_slot (unit_at program f.unit) x ≡ true → (f.floor ≤ number_of f.slots x) × (kept ≤ number_of f.slots x)
 
+-- What is left to do in the frame, and its exception places, fit its unit. The locations of its own slots have numbers that are neither below its floor nor below `kept`.
 pub record FrameFits (program : Form) (kept : ℕ) (f : Frame) : Type 0 where
   pub todo : ItemsFit program (unit_at program f.unit) f.todo
   pub places : PlacesFit program (unit_at program f.unit) f.places
@@ -53,6 +54,7 @@ of_child (x ∷ path) n = n
 abbrev pub parameters : Path → Form → Frame → List Frame → ℕ
 parameters path program f callers = of_child path (length (unit_at program (first_unit f callers)).params)
 
+-- how many parameters the first unit of a child has, and 0 for the root
 abbrev pub parameters_of : LocalState → ℕ
 parameters_of l = parameters l.path l.program l.frame l.callers
 
@@ -63,5 +65,6 @@ pub record Fitting (path : Path) (program : Form) (f : Frame) (callers : List Fr
   pub long : parameters path program f callers ≤ length locations
   pub floor : f.floor ≤ length locations
 
+-- the same of the state of a process
 abbrev pub IsFitting : LocalState → Type 0
 IsFitting l = Fitting l.path l.program l.frame l.callers l.locations

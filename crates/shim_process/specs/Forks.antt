@@ -33,6 +33,7 @@ abbrev pub takes_input : List UParam → Bool
 takes_input [] = false
 takes_input (p ∷ ps) = is_input p.sort || takes_input ps
 
+-- one of the parameters is the output
 abbrev pub takes_output : List UParam → Bool
 takes_output [] = false
 takes_output (p ∷ ps) = is_output p.sort || takes_output ps
@@ -68,10 +69,12 @@ abbrev pub what_branches : UWhat-F UWhat UStmt → List UBranch
 what_branches (UWhat-F.Par branches) = branches
 what_branches _ = []
 
+-- the branches of a statement that is a fork, and none of another or where there is no statement
 abbrev pub stmt_branches : Option UStmt → List UBranch
 stmt_branches None = []
 stmt_branches (Some stmt) = what_branches (out-UWhat stmt.what)
 
+-- the branches of the fork that is the first item, and none where no fork is
 abbrev pub item_branches : List Item → List UBranch
 item_branches todo = stmt_branches (next_stmt todo)
 
@@ -166,6 +169,7 @@ abbrev pub fork_outcome : Result (List LocalState) Trap → LocalState → List 
 fork_outcome (Ok children) l branches = if is_far l || is_full l then Trapped (trapped Depth (line_of l.frame.todo) l) else Parted (parent l branches) children
 fork_outcome (Err t) l branches = Trapped (trapped t (line_of l.frame.todo) l)
 
+-- what a fork of the branches gives, from the arguments of each, or from the first trap in computing them
 abbrev pub fork_result : Result (List (List Argument)) Trap → LocalState → List UBranch → ForkedView LocalState
 fork_result given l branches = fork_outcome (on_value (λ gs. Ok (children_from l 0 branches gs)) given) l branches
 
@@ -180,11 +184,13 @@ taken_back slots n (Ref x ∷ rest) back locations = taken_back slots (n + 1) re
 taken_back slots n (Pass x ∷ rest) back locations = taken_back slots (n + 1) rest back locations
 taken_back slots n (Fresh e ∷ rest) back locations = taken_back slots (n + 1) rest back locations
 
+-- The parent's locations after each child has given back what its branch took by reference. The first list has the numbers of the parent's slots' locations.
 abbrev pub all_back : List ℕ → List UBranch → List LocalState → Locations → Locations
 all_back slots [] children locations = locations
 all_back slots (b ∷ branches) [] locations = locations
 all_back slots (b ∷ branches) (c ∷ children) locations = all_back slots branches children (taken_back slots 0 b.call.args c.locations locations)
 
+-- the first of the two, or the second where the first is none
 abbrev pub some_or : Option ℕ → Option ℕ → Option ℕ
 some_or None at = at
 some_or (Some n) at = Some n
@@ -194,6 +200,7 @@ abbrev pub input_back : List LocalState → Option ℕ → Option ℕ
 input_back [] at = at
 input_back (c ∷ children) at = input_back children (some_or c.input_at at)
 
+-- one of the children has the output, or the parent has it already
 abbrev pub output_back : List LocalState → Bool → Bool
 output_back [] holds = holds
 output_back (c ∷ children) holds = output_back children (c.holds_output || holds)

@@ -44,6 +44,7 @@ pub record TrappedAt : Type 0 where
   pub kind : Trap
   pub line : ℕ
 
+-- the state of a process, with its program and its input
 pub record LocalState : Type 0 where
   pub path : Path
   -- how many exception places are in force around the process, and so the label of its own first one
@@ -73,16 +74,20 @@ abbrev pub number_or_any : Option ℕ → ℕ
 number_or_any None = 0
 number_or_any (Some n) = n
 
+-- an empty unit, for a number that no unit has
 abbrev pub no_unit : UnitOf
 no_unit = record { title = []; function = 0; params = []; slots = []; slot_names = []; throws = 0; tries = []; body = [] }
 
+-- the unit, or the empty one where there is none
 abbrev pub unit_or : Option UnitOf → UnitOf
 unit_or None = no_unit
 unit_or (Some u) = u
 
+-- the unit of a number in the program, or the empty one where no unit has the number
 unfoldable pub unit_at : Form → ℕ → UnitOf
 unit_at program n = unit_or (slice_get program.units n)
 
+-- the entry of a list at an index, or 0 where the list is too short
 unfoldable pub number_of : List ℕ → ℕ → ℕ
 number_of numbers n = number_or_any (slice_get numbers n)
 

@@ -23,10 +23,12 @@ pub record Location : Type 0 where
 abbrev pub Locations : Type 0
 Locations = List (Option Location)
 
+-- the inner option, or none where there is no inner one
 abbrev pub flattened : Option (Option Location) → Option Location
 flattened None = None
 flattened (Some l) = l
 
+-- the location of a number, or none where it is empty or the list is too short
 unfoldable pub at_number : Locations → ℕ → Option Location
 at_number locations n = flattened (slice_get locations n)
 
@@ -49,9 +51,11 @@ abbrev pub with_value : ℤ → Option Location → Option Location
 with_value v None = None
 with_value v (Some l) = Some (record l { value = stored l.ty v })
 
+-- the locations after the value was stored, by its type, in the location of the number
 unfoldable pub store_at : Locations → ℕ → ℤ → Locations
 store_at locations n v = slice_set locations n (with_value v (at_number locations n))
 
+-- the location is the channel's own variable, and isn't with a child
 abbrev pub is_own : Ownership → Bool
 is_own Own = true
 is_own Lent = false
@@ -87,6 +91,7 @@ abbrev pub with_moved : Option Location → Option Location
 with_moved None = None
 with_moved (Some l) = Some (record l { ownership = moved l.ownership })
 
+-- what a process keeps of its locations when a branch takes the one of the number by reference
 unfoldable pub lend_at : Locations → ℕ → Locations
 lend_at locations n = slice_set locations n (with_kept (at_number locations n))
 

@@ -9,6 +9,7 @@ use Rattle.shim_process.specs.Unwinding.{unwind, handler}
 use Rattle.shim_process.specs.Sound.{Sound}
 use Rattle.shim_process.specs.Born.{Born}
 
+-- the functions of a process's state that a tree asks for, as the crate defines them
 abbrev pub process_ops : Ops LocalState
 process_ops = record {
   sound = Sound;

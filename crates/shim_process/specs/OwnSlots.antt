@@ -12,6 +12,7 @@ use Rattle.shim_process.specs.LocalState.{unit_at}
 abbrev pub has_arguments : Form → UCall → Bool
 has_arguments program c = nat_eq (length c.args) (length (unit_at program c.unit).params)
 
+-- the call of each branch has an argument for each parameter of its unit
 abbrev pub all_suit : Form → List UBranch → Bool
 all_suit program [] = true
 all_suit program (b ∷ branches) = has_arguments program b.call && all_suit program branches
@@ -45,6 +46,7 @@ what_fits _ _ _ = true
 abbrev pub fits : Form → UnitOf → UStmt → Bool
 fits program u = fold-UStmt Bool Bool (what_fits program u) (λ s. s.what)
 
+-- each of the statements fits the unit
 abbrev pub all_fit : Form → UnitOf → List UStmt → Bool
 all_fit program u ss = all_true (map (fits program u) ss)
 

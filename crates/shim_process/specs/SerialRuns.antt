@@ -2,6 +2,7 @@
 use Rattle.std.specs.Prelude.{ℕ, suc, ◌+◌, ◌-◌, eqb, nat_le, nat_lt, Bool, false, ◌&&◌, ◌||◌, List, [], ◌∷◌, ◌++◌, if◌then◌else◌, Option, Some, None}
 use Rattle.shim_process.specs.declared.serial_run.SerialRun.{SerialRun}
 
+-- the greatest number of a run
 abbrev pub last_serial : SerialRun → ℕ
 last_serial r = r.first + r.more
 
@@ -25,6 +26,7 @@ run_above n r = if nat_lt n (last_serial r) then record { first = suc n; more = 
 abbrev pub run_below : ℕ → SerialRun → List SerialRun
 run_below n r = if nat_lt r.first n then record { first = r.first; more = n - suc r.first } ∷ [] else []
 
+-- what is left of a run without the number, as at most two runs
 abbrev pub run_without : ℕ → SerialRun → List SerialRun
 run_without n r = if is_in_run n r then run_above n r ++ run_below n r else r ∷ []
 

@@ -24,14 +24,17 @@ abbrev pub LabelsBelow : ℕ → List ℕ → Type 0
 LabelsBelow bound [] = Unit {0}
 LabelsBelow bound (x ∷ xs) = (x < bound) × LabelsBelow bound xs
 
+-- in each frame each label that its unit was given is below the sum of `base` and the frame's `outer`
 abbrev pub FramesBelow : ℕ → List Frame → Type 0
 FramesBelow base [] = Unit {0}
 FramesBelow base (f ∷ fs) = LabelsBelow (base + f.outer) f.labels × FramesBelow base fs
 
+-- The variable of a handler, where there is one, is on a channel whose home is the path. The channel's serial number is among the untaken ones, and below the bound.
 abbrev pub VariableIsBelow : Path → List SerialRun → ℕ → Option HandlerVariable → Type 0
 VariableIsBelow path untaken bound None = Unit {0}
 VariableIsBelow path untaken bound (Some y) = (y.channel.channel.home ≡ path) × (y.channel.channel.serial < bound) × (is_in_runs y.channel.channel.serial untaken ≡ true)
 
+-- the serial number of the variable's channel, or the bound where there is no variable
 abbrev pub bound_by : ℕ → Option HandlerVariable → ℕ
 bound_by bound None = bound
 bound_by bound (Some y) = y.channel.channel.serial
@@ -51,9 +54,11 @@ abbrev pub places_inward : List Frame → List ExceptionPlace
 places_inward [] = []
 places_inward (f ∷ fs) = inward f.places (places_inward fs)
 
+-- `VariablesGrow` of the exception places of all these frames, with serial numbers below `made`
 abbrev pub PlacesGrow : Path → List SerialRun → ℕ → List Frame → Type 0
 PlacesGrow path untaken made frames = VariablesGrow path untaken made (places_inward frames)
 
+-- in the state holds what each call of a process preserves
 pub record Sound (l : LocalState) : Type 0 where
   pub base : 1 ≤ l.base
   pub labels : FramesBelow l.base (l.frame ∷ l.callers)

@@ -4,6 +4,7 @@ use Rattle.shim_units.specs.declared.unit.Unit.{Unit as UnitOf}
 use Rattle.shim_process.specs.Locations.{Locations}
 use Rattle.shim_process.specs.LocalState.{LocalState, ExceptionPlace, unit_or, number_of, is_full, is_deep}
 
+-- the part of a process's state on which the action and the stop of its next statement depend
 pub record StatementView : Type 0 where
   pub locations : Locations
   -- the numbers of its unit's slots' locations

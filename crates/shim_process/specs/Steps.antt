@@ -47,7 +47,7 @@ action f (Err t) = Trapped t
 abbrev pub limited : Bool → Action → Action
 limited over d = if over then Trapped Depth else d
 
--- an absent test holds, and an absent start is 0
+-- the value of the expression, and the given number where there is none
 abbrev pub value_or : ℤ → Option UExpr → Env → Value
 value_or n None env = Ok n
 value_or n (Some e) env = value e env
@@ -74,6 +74,7 @@ what_action (UWhat-F.Call c) s = call_action c s
 what_action (UWhat-F.Try body x y handler) s = limited s.full (Install x (try_name (unit_in s s.unit) x) y)
 what_action _ s = Wait
 
+-- what a statement asks for, or `Wait` where there is none
 abbrev pub stmt_action : Option UStmt → StatementView → Action
 stmt_action None s = Wait
 stmt_action (Some stmt) s = what_action (out-UWhat stmt.what) s
@@ -107,6 +108,7 @@ abbrev pub byte_or_end : Option ℕ → ℤ
 byte_or_end None = negsuc 0
 byte_or_end (Some b) = pos b
 
+-- the byte of the input at a place, or -1 where there is no place or no byte
 abbrev pub next_byte : Option ℕ → List ℕ → ℤ
 next_byte None input = negsuc 0
 next_byte (Some at) input = byte_or_end (slice_get input at)
@@ -116,6 +118,7 @@ abbrev pub read_on : Option ℕ → List ℕ → Option ℕ
 read_on None input = None
 read_on (Some at) input = Some (if nat_le (length input) at then at else at + 1)
 
+-- the state after the next byte of the input was stored in the slot's location
 abbrev pub read_in : ℕ → LocalState → LocalState
 read_in x l = record (stored_in x (next_byte l.input_at l.input) l) { input_at = read_on l.input_at l.input }
 

@@ -15,14 +15,17 @@ use Rattle.shim_process.specs.Steps.{stored_in, half, line_of, value_or}
 
 -- Where a process can't go on, nothing is left to do. No run of an accepted program comes to such a statement: a variable in scope has a location, who puts has the output, and a fork has branches.
 
+-- at a `next` of the location's channel, or at the end where there is no location
 abbrev pub at_next : Option Location → StopView
 at_next None = AtFinish
 at_next (Some l) = AtNext l.channel
 
+-- at a `put` if the process has the output, and else at the end
 abbrev pub at_put : Bool → StopView
 at_put true = AtPut
 at_put false = AtFinish
 
+-- at a fork of the branches, or at the end where there are none
 abbrev pub at_fork : List UBranch → StopView
 at_fork [] = AtFinish
 at_fork (b ∷ branches) = AtFork
@@ -37,10 +40,12 @@ what_stop (UWhat-F.Throw x e) s = AtThrow (label_of s x)
 what_stop (UWhat-F.Par branches) s = at_fork branches
 what_stop _ s = AtQuiet
 
+-- the stop of a process at a statement, or its end where there is none
 abbrev pub stmt_stop : Option UStmt → StatementView → StopView
 stmt_stop None s = AtFinish
 stmt_stop (Some stmt) s = what_stop (out-UWhat stmt.what) s
 
+-- the stop of a process that is trapped, or else the other one
 abbrev pub stop_or : Option TrappedAt → StopView → StopView
 stop_or None s = s
 stop_or (Some t) s = AtTrap t.kind t.line
@@ -54,6 +59,7 @@ abbrev pub what_put : UWhat-F UWhat UStmt → StatementView → Value
 what_put (UWhat-F.Put o e) s = value e (env_of s.locations s.slots)
 what_put _ s = Ok (pos 0)
 
+-- the value of the expression of a `put`, and 0 of another statement or of none
 abbrev pub stmt_put : Option UStmt → StatementView → Value
 stmt_put None s = Ok (pos 0)
 stmt_put (Some stmt) s = what_put (out-UWhat stmt.what) s
@@ -62,6 +68,7 @@ stmt_put (Some stmt) s = what_put (out-UWhat stmt.what) s
 abbrev pub put_value : LocalState → Value
 put_value l = stmt_put (next_stmt l.frame.todo) (statement_view l)
 
+-- the remainder of the number modulo 256, or none for a trap
 abbrev pub low_bits : Value → Option ℕ
 low_bits (Ok v) = Some (unsigned_abs (int_rem_euclid v (pos 256)))
 low_bits (Err t) = None
@@ -70,6 +77,7 @@ low_bits (Err t) = None
 unfoldable pub byte : LocalState → Option ℕ
 byte l = low_bits (put_value l)
 
+-- the state past the `put` where its value is a number, and else trapped at it
 abbrev pub after_put : Value → LocalState → LocalState
 after_put (Ok v) l = gone On l
 after_put (Err t) l = trapped t (line_of l.frame.todo) l
@@ -83,6 +91,7 @@ abbrev pub what_thrown : UWhat-F UWhat UStmt → StatementView → Value
 what_thrown (UWhat-F.Throw x e) s = value_or (pos 0) e (env_of s.locations s.slots)
 what_thrown _ s = Ok (pos 0)
 
+-- the number of a throw, or its trap, and 0 of another statement or of none
 abbrev pub stmt_thrown : Option UStmt → StatementView → Value
 stmt_thrown None s = Ok (pos 0)
 stmt_thrown (Some stmt) s = what_thrown (out-UWhat stmt.what) s
@@ -99,6 +108,7 @@ number_or_none (Err t) = None
 unfoldable pub thrown_number : LocalState → Option ℤ
 thrown_number l = number_or_none (thrown_value l)
 
+-- the same state for a number, and for a trap the state trapped at the throw
 abbrev pub after_throw : Value → LocalState → LocalState
 after_throw (Ok v) l = l
 after_throw (Err t) l = trapped t (line_of l.frame.todo) l
@@ -114,6 +124,7 @@ what_receive (UWhat-F.NextAssign x e) v l = gone On (stored_in x v l)
 what_receive (UWhat-F.AssignNext x y) v l = record (stored_in y v l) { frame = half l.frame }
 what_receive _ v l = l
 
+-- the state after a statement received the value of a meeting, and the same state where there is no statement
 abbrev pub stmt_receive : Option UStmt → ℤ → LocalState → LocalState
 stmt_receive None v l = l
 stmt_receive (Some stmt) v l = what_receive (out-UWhat stmt.what) v l

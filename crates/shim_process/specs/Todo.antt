@@ -13,10 +13,12 @@ pub data Item : Type 0 where
 abbrev pub ItemsFrom : Type 0
 ItemsFrom = ℕ → List Item
 
+-- what is to be done for statements in order, of which the first has the number, from what is to be done for each
 abbrev pub items_of : List (UStmt × ItemsFrom) → ItemsFrom
 items_of [] n = []
 items_of (s ∷ ss) n = s.1 n ++ items_of ss (n + size_of s.0)
 
+-- how many numbers the statements take
 abbrev pub whole_size : List (UStmt × ItemsFrom) → ℕ
 whole_size ss = size_all (map (λ s. s.0) ss)
 
@@ -26,9 +28,11 @@ what_items (UWhat-F.Block body) s n = items_of body n
 what_items (UWhat-F.For first test step body) s n = items_of first n ++ Do (n + whole_size first) s ∷ []
 what_items _ s n = Do n s ∷ []
 
+-- what is to be done for a statement
 abbrev pub items : UStmt → ItemsFrom
 items = para-UStmt (UStmt → ItemsFrom) ItemsFrom what_items (λ s. s.what.1 (record { line = s.line; what = s.what.0 }))
 
+-- what is to be done for statements in order
 abbrev pub items_all : List UStmt → ItemsFrom
 items_all ss = items_of (map (λ s. (s, items s)) ss)
 
@@ -53,6 +57,7 @@ follow_what (UWhat-F.Try body x y handler) First n s k = items_all body (n + 1) 
 follow_what (UWhat-F.Try body x y handler) Second n s k = items_all handler (n + 1 + size_all body) ++ k
 follow_what _ successor n s k = k
 
+-- what is to be done at the successor of statement s, whose number is n, where k is to be done after s
 abbrev pub follow : Successor → ℕ → UStmt → List Item → List Item
 follow successor n s k = follow_what (out-UWhat s.what) successor n s k
 

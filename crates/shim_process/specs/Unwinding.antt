@@ -27,6 +27,7 @@ taking (Some y) v f l = record l {
   untaken = without_serial y.channel.channel.serial l.untaken;
 }
 
+-- the variable of the exception place's handler, where there are both, gets the number
 abbrev pub catching : Option ExceptionPlace → ℤ → Frame → LocalState → LocalState
 catching None v f l = l
 catching (Some p) v f l = taking p.variable v f l

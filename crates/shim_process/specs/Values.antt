@@ -31,6 +31,7 @@ either a b = on_number (λ x. if is_zero x then on_number (λ y. Ok (truth (not 
 abbrev pub binary : BinOp → Value → Value → Value
 binary op a b = on_number (λ x. on_number (applied op x) b) a
 
+-- the value of an expression from the values of its parts
 abbrev pub value_step : UExpr-F (Env → Value) → Env → Value
 value_step (UExpr-F.Number n) env = Ok n
 value_step (UExpr-F.Var x) env = Ok (env x)
@@ -39,5 +40,6 @@ value_step (UExpr-F.Binary And a b) env = both (a env) (b env)
 value_step (UExpr-F.Binary Or a b) env = either (a env) (b env)
 value_step (UExpr-F.Binary op a b) env = binary op (a env) (b env)
 
+-- the value of an expression where the variables hold these numbers
 abbrev pub value : UExpr → Env → Value
 value = fold-UExpr (Env → Value) value_step

@@ -9,6 +9,7 @@ abbrev pub label_name : List ℕ → ℕ → ℕ
 label_name throws zero = zero
 label_name throws (suc at) = unwrap_or (slice_get throws at) (suc at)
 
+-- the outcome, with the number of its name in place of an uncaught label
 abbrev pub named_outcome : List ℕ → Outcome → Outcome
 named_outcome throws Done = Done
 named_outcome throws (Uncaught label) = Uncaught (label_name throws label)

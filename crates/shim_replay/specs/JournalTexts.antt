@@ -32,6 +32,7 @@ line words = words ++ codes "\n"
 abbrev pub joined_lines : List (List ℕ) → List ℕ
 joined_lines lines = flat_map line lines
 
+-- the line of each entry, without its line feed
 abbrev pub entry_lines : List Entry → List (List ℕ)
 entry_lines es = map entry_words es
 
@@ -43,9 +44,11 @@ journal_of b es = line (first_words b) ++ (joined_lines (entry_lines es) ++ line
 abbrev pub FitsPath : Path → Type 0
 FitsPath p = AllByRecursion (λ (pair : ℕ × ℕ). (pair.0 < 2 ^ 32) × (pair.1 < 2 ^ 32)) p
 
+-- the numbers of a channel are below 2^32: those of its home, and its serial number
 abbrev pub FitsChannel : Channel → Type 0
 FitsChannel c = FitsPath c.home × (c.serial < 2 ^ 32)
 
+-- the numbers of the path and of the channel of an event are below 2^32
 abbrev pub FitsEvent : Event → Type 0
 FitsEvent (Own p) = FitsPath p
 FitsEvent (Meet c) = FitsChannel c

@@ -12,15 +12,17 @@ use Rattle.shim_replay.specs.declared.fault.TextFault.{TextFault}
 use Rattle.shim_replay.specs.declared.fault.TextFault.TheVariants as texts
 
 infixl 10 ◌>>=◌
+-- the answer of f to what was found; nothing where nothing was found
 abbrev pub ◌>>=◌ : {A B : Type 0} → Option A → (A → Option B) → Option B
 (Some x) >>= f = f x
 None >>= f = None
 
--- The code's fault fits what the definition reads. `Malformed` comes only where the definition reads nothing, and `NoMemory` may come at any text. By `ReadsAs` a value of the code is, through `view`, what the definition reads.
+-- The code's fault fits what the definition reads. `Malformed` comes only where the definition reads nothing, and `NoMemory` may come at any text.
 abbrev pub FailsAs : {Y : Type 0} → ReadFault → Option Y → Type 0
 FailsAs faults.NoMemory read = Unit {0}
 FailsAs faults.Malformed read = read ≡ None
 
+-- what the code read, by `view`, is what `read` is; for a fault `FailsAs` holds
 abbrev pub ReadsAs : {X Y : Type 0} → (X → Y) → Result X ReadFault → Option Y → Type 0
 ReadsAs view (Ok x) read = read ≡ Some (view x)
 ReadsAs view (Err e) read = FailsAs e read
@@ -55,6 +57,7 @@ number_limit = 4294967296
 abbrev pub step_limit : ℕ
 step_limit = 4000001
 
+-- `FORK.BRANCH`, and the bytes after it
 unfoldable pub scan_pair : List ℕ → Option ((ℕ × ℕ) × List ℕ)
 scan_pair bytes = do
   fork ← scan_number number_limit bytes
@@ -69,11 +72,13 @@ scan_pairs (suc n) bytes = if starts_with eqb bytes (codes "/") then
     (scan_pair (drop 1 bytes) >>= λ pair. scan_pairs n pair.1 >>= λ pairs. Some (pair.0 ∷ pairs.0, pairs.1))
     else Some ([], bytes)
 
+-- `main` with its pairs, and the bytes after it
 unfoldable pub scan_path : List ℕ → Option (Path × List ℕ)
 scan_path bytes = do
   behind ← scan_word (codes "main") bytes
   scan_pairs (length behind) behind
 
+-- `HOME#SERIAL`, and the bytes after it
 unfoldable pub scan_channel : List ℕ → Option (Channel × List ℕ)
 scan_channel bytes = do
   home ← scan_path bytes
@@ -81,6 +86,7 @@ scan_channel bytes = do
   serial ← scan_number number_limit behind
   Some (record { home = home.0; serial = serial.0 }, serial.1)
 
+-- `PATH STEPS` with a line feed as quiet steps of the process, and the bytes after it
 unfoldable pub scan_quiet : List ℕ → Option (Entry × List ℕ)
 scan_quiet bytes = do
   path ← scan_path bytes
@@ -102,12 +108,14 @@ scan_of_path event bytes = do
   path ← scan_path_line bytes
   Some (Did (event path.0), path.1)
 
+-- `HOME#SERIAL` with a line feed as a rendezvous on the channel, and the bytes after it
 unfoldable pub scan_meet : List ℕ → Option (Entry × List ℕ)
 scan_meet bytes = do
   chan ← scan_channel bytes
   rest ← scan_word (codes "\n") chan.1
   Some (Did (Meet chan.0), rest)
 
+-- `PATH HOME#SERIAL` with a line feed as a poison of the child, and the bytes after it
 unfoldable pub scan_poison : List ℕ → Option (Entry × List ℕ)
 scan_poison bytes = do
   path ← scan_path bytes
@@ -126,6 +134,7 @@ scan_entry bytes =
     else (if starts_with eqb bytes (codes "close ") then scan_of_path Close (drop 6 bytes)
     else (if starts_with eqb bytes (codes "poison ") then scan_poison (drop 7 bytes) else None)))))
 
+-- `journal B` with a line feed, and the bytes after it
 unfoldable pub scan_budget : List ℕ → Option (ℕ × List ℕ)
 scan_budget bytes = do
   behind ← scan_word (codes "journal ") bytes
@@ -139,6 +148,7 @@ ends_at line None = Err line
 ends_at line (Some []) = Ok []
 ends_at line (Some (c ∷ cs)) = Err (line + 1)
 
+-- the bytes after the sum of steps and a line feed
 abbrev pub scan_steps_line : ℕ → List ℕ → Option (List ℕ)
 scan_steps_line sum bytes = scan_word (decimal sum) bytes >>= λ behind. scan_word (codes "\n") behind
 
@@ -156,6 +166,7 @@ abbrev pub with_front : List Entry → Result (List Entry) ℕ → Result (List 
 with_front front (Ok es) = Ok (front ++ es)
 with_front front (Err line) = Err line
 
+-- The entry before those that `on` reads after it, to which the sum with its steps is given. Where there is no entry, the number of its line.
 abbrev pub behind_entry : (ℕ → List ℕ → Result (List Entry) ℕ) → ℕ → ℕ → Option (Entry × List ℕ) → Result (List Entry) ℕ
 behind_entry on line sum None = Err line
 behind_entry on line sum (Some e) = with_front (e.0 ∷ []) (on (sum + steps_in e.0) e.1)
@@ -167,22 +178,26 @@ scan_lines (suc n) line sum bytes =
     if starts_with eqb bytes (codes "stop ") then scan_stop line sum (drop 5 bytes)
     else behind_entry (scan_lines n (line + 1)) line sum (scan_entry bytes)
 
+-- the budget with the entries, or the number of a faulty line
 abbrev pub with_budget : ℕ → Result (List Entry) ℕ → Result (ℕ × List Entry) ℕ
 with_budget b (Ok es) = Ok (b, es)
 with_budget b (Err line) = Err line
 
+-- The budget with the entries of the lines after it. Where there is no budget, the faulty line is 1.
 abbrev pub behind_budget : Option (ℕ × List ℕ) → Result (ℕ × List Entry) ℕ
 behind_budget None = Err 1
 behind_budget (Some b) = with_budget b.0 (scan_lines 4294967295 2 0 b.1)
 
+-- the budget and the entries of a journal's text, or the number of the line at which the scan ends without them
 unfoldable pub scan_journal : List ℕ → Result (ℕ × List Entry) ℕ
 scan_journal bytes = behind_budget (scan_budget bytes)
 
--- The code's fault fits what the definition reads. `Malformed` has the line of the definition's fault, and `NoMemory` may come at any text. By `ReadsTextAs` a value of the code is, through `view`, what the definition reads.
+-- The code's fault fits what the definition reads. `Malformed` has the line of the definition's fault, and `NoMemory` may come at any text.
 abbrev pub FailsTextAs : {Y : Type 0} → TextFault → Result Y ℕ → Type 0
 FailsTextAs texts.NoMemory read = Unit {0}
 FailsTextAs (texts.Malformed line) read = read ≡ Err line
 
+-- what the code read, by `view`, is what `read` is; for a fault `FailsTextAs` holds
 abbrev pub ReadsTextAs : {X Y : Type 0} → (X → Y) → Result X TextFault → Result Y ℕ → Type 0
 ReadsTextAs view (Ok x) read = read ≡ Ok (view x)
 ReadsTextAs view (Err e) read = FailsTextAs e read

@@ -50,6 +50,7 @@ many_words Locals = codes "too many locals"
 many_words Branches = codes "too many branches"
 many_words Operators = codes "too many operators"
 
+-- `refused LINE CAUSE AT`, for a text that can't be cut into tokens
 abbrev pub refusal_of_cutting : LexFault → List ℕ
 refusal_of_cutting fault = refusal_with_place fault.line (cause_of fault.kind) fault.at
 

@@ -22,6 +22,7 @@ Names = List (List ℕ)
 abbrev pub hex_digit : ℕ → ℕ
 hex_digit n = if nat_lt n 10 then 48 + n else 87 + n
 
+-- the two hexadecimal digits of a byte
 abbrev pub hex_byte : ℕ → List ℕ
 hex_byte b = hex_digit (b / 16) ∷ hex_digit (b % 16) ∷ []
 
@@ -54,6 +55,7 @@ name_text names n = unwrap_or (slice_get names n) (codes "?")
 unfoldable pub output_line : List ℕ → List ℕ
 output_line bytes = codes "output " ++ (decimal (length bytes) ++ (hex_part bytes ++ codes "\n"))
 
+-- a value of a channel, in decimal, with a space before it
 unfoldable pub value_part : ℤ → List ℕ
 value_part v = codes " " ++ number_text v
 
@@ -61,6 +63,7 @@ value_part v = codes " " ++ number_text v
 unfoldable pub history_line : Names → History → List ℕ
 history_line names h = codes "chan " ++ (channel_text h.chan.channel ++ (codes " " ++ (name_text names h.chan.name ++ (codes " :" ++ (flat_map value_part h.values ++ codes "\n")))))
 
+-- the word by which a trap is printed
 abbrev pub trap_word : Trap → List ℕ
 trap_word Overflow = codes "overflow"
 trap_word Zero = codes "zero"
@@ -72,6 +75,7 @@ unfoldable pub log_what_line : Names → Path → LogWhat → List ℕ
 log_what_line names path (Caught name line) = codes "catch " ++ (path_text path ++ (codes " " ++ (name_text names name ++ (codes " " ++ (decimal line ++ codes "\n")))))
 log_what_line names path (LoggedTrap trap line) = codes "trap " ++ (path_text path ++ (codes " " ++ (trap_word trap ++ (codes " " ++ (decimal line ++ codes "\n")))))
 
+-- the line of a log of a report
 abbrev pub log_line : Names → Log → List ℕ
 log_line names l = log_what_line names l.path l.what
 

@@ -24,6 +24,7 @@ sum_of_values (v ∷ vs) = v +ℤ sum_of_values vs
 abbrev pub residue : ℤ → ℕ
 residue v = unsigned_abs (int_rem_euclid v (pos 1000000))
 
+-- whether what was logged is a catch and no trap
 abbrev pub is_caught : LogWhat → Bool
 is_caught (Caught name line) = true
 is_caught (LoggedTrap trap line) = false
@@ -44,6 +45,7 @@ count_line word n = word ++ (codes " " ++ (decimal n ++ codes "\n"))
 unfoldable pub values_line : ℕ → ℕ → List ℕ
 values_line n sum = codes "values " ++ (decimal n ++ (codes " " ++ (decimal sum ++ codes "\n")))
 
+-- the four lines of counts: output, channels, values and catches
 abbrev pub counts_text : Ended → List ℕ
 counts_text e = count_line (codes "output") (length e.output) ++ (count_line (codes "channels") (length e.histories)
     ++ (values_line (length (all_values e.histories)) (residue (sum_of_values (all_values e.histories))) ++ count_line (codes "catches") (catch_count e.logs)))

@@ -28,9 +28,11 @@ pub record Answer : Type 0 where
   pub status : ℕ
   pub text : List ℕ
 
+-- the answer to a text that is no source: the line of its fault
 abbrev pub refused : SourceFault → Answer
 refused fault = record { status = 5; text = refusal_text fault }
 
+-- the answer with the line by which a journal is refused
 abbrev pub journal_refused : List ℕ → Answer
 journal_refused line = record { status = 9; text = line }
 

@@ -3,6 +3,7 @@ use Rattle.std.specs.Prelude.{ℕ}
 use Rattle.shim_results.specs.declared.status.ExitStatus.{ExitStatus}
 use Rattle.shim_results.specs.declared.status.ExitStatus.TheVariants.{Done, Failed, Usage, Blocked, Spent, Refused, FileFault, SinkFault, NoMemory, JournalFault}
 
+-- the number of an exit status
 abbrev pub exit_code : ExitStatus → ℕ
 exit_code Done = 0
 exit_code Failed = 1

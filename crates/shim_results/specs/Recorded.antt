@@ -37,9 +37,11 @@ pub record IsNoJournal (text : List ℕ) (number : ℕ) : Type 0 where
 unfoldable pub journal_line : ℕ → List ℕ → List ℕ
 journal_line line cause = codes "journal " ++ (decimal line ++ (codes " " ++ (cause ++ codes "\n")))
 
+-- `journal LINE malformed`
 abbrev pub malformed_line : ℕ → List ℕ
 malformed_line line = journal_line line (codes "malformed")
 
+-- `journal LINE CAUSE`, for entries that are no run to an end
 abbrev pub refusal_line : JournalRefusal → List ℕ
 refusal_line (OverBudget line) = journal_line line (codes "over budget")
 refusal_line (NotEnabled line) = journal_line line (codes "not enabled")

@@ -44,6 +44,7 @@ read_off x t = named x.source.main_throws (ended process_ops t)
 abbrev pub report_of : Source → Ended → List ℕ
 report_of source e = report source.names e
 
+-- the exit status of a run with the outcome
 abbrev pub status_of_outcome : Outcome → ℕ
 status_of_outcome Done = 0
 status_of_outcome (Uncaught i) = 1

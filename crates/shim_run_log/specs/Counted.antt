@@ -14,6 +14,7 @@ abbrev pub counted : List StepCount → finite.FinMap path_order ℕ
 counted [] = finite.empty
 counted (e ∷ es) = steps_taken (counted es) e.path e.count
 
+-- what holds of `counted` if entries change, change places, or have no steps
 pub record StepCountsFollow : Type 0 where
   -- a process that an entry names does so many steps more
   pub more : (es : List StepCount) (i : ℕ) (p : Path) (c n : ℕ) → slice_get es i ≡ Some (record { path = p; count = c }) → counted (slice_set es i (record { path = p; count = c + n })) ≡ steps_taken (counted es) p n

@@ -49,6 +49,7 @@ pub record IsHistoryIndex (numbers : BTreeMap NamedChannel ℕ) (kept : List His
 abbrev pub waits_in : BTreeMap Path NamedChannel → finite.FinMap path_order NamedChannel
 waits_in m = finite.from_entries m.entries
 
+-- the count of own steps of each process, by path
 abbrev pub counts_of : BTreeMap Path ℕ → finite.FinMap path_order ℕ
 counts_of m = finite.from_entries m.entries
 

@@ -21,6 +21,7 @@ pub record WhatMeans : Type 0 where
   pub bind : ℕ → Bind RWhat
   pub declares : ℕ → List LocalDeclaration
 
+-- what a statement with its line means, and what it declares in its own block, given the next slot
 pub record StmtMeans : Type 0 where
   pub bind : Bind RStmt
   pub declares : ℕ → List LocalDeclaration
@@ -48,16 +49,20 @@ abbrev pub first_declares : List StmtMeans → ℕ → List LocalDeclaration
 first_declares [] slot = []
 first_declares (f ∷ fs) slot = f.declares slot
 
+-- what a branch means, by its line
 abbrev pub BranchWhatMeans : Type 0
 BranchWhatMeans = ℕ → Bind RBranchWhat
 
+-- what a branch with its line means
 abbrev pub BranchMeans : Type 0
 BranchMeans = Bind RBranch
 
+-- a branch, by what its parts mean: its statements in a block of their own, or its call
 abbrev pub bind_branch_what_step : Whole → BranchWhat-F BranchWhatMeans WhatMeans BranchMeans StmtMeans → BranchWhatMeans
 bind_branch_what_step w (BranchWhat-F.BranchWhat::Block body) line = on_tree BranchBlock (bind_block (bind_all body))
 bind_branch_what_step w (BranchWhat-F.BranchWhat::Call c) line = bind_called BranchCall w c line
 
+-- a statement, by what its parts mean; only a declaration declares something in its own block
 abbrev pub bind_what_step : Whole → What-F BranchWhatMeans WhatMeans BranchMeans StmtMeans → WhatMeans
 bind_what_step w (What-F.Declare ty x e) = record { bind = bind_declare w ty x e; declares = λ slot. one_local (local_of x (Value ty) slot) }
 bind_what_step w (What-F.Assign x e) = record { bind = bind_assign x e; declares = no_locals }
@@ -76,18 +81,22 @@ bind_what_step w (What-F.Try body x y handler) = record { bind = λ line. bind_t
 bind_what_step w (What-F.Throw x e) = record { bind = bind_throw x e; declares = no_locals }
 bind_what_step w (What-F.Par branches) = record { bind = λ line. on_tree Par (bind_fork branches); declares = no_locals }
 
+-- a branch on its line, which its form has, too
 abbrev pub bind_branch_step : Branch-F BranchWhatMeans WhatMeans BranchMeans StmtMeans → BranchMeans
 bind_branch_step s = on_tree (λ t. record { line = s.line; what = t }) (s.what s.line)
 
+-- a statement on its line, which its form has, too
 abbrev pub bind_stmt_step : Stmt-F BranchWhatMeans WhatMeans BranchMeans StmtMeans → StmtMeans
 bind_stmt_step s = record { bind = on_tree (λ t. record { line = s.line; what = t }) (s.what.bind s.line); declares = s.what.declares }
 
+-- what a statement of a program means, and what it declares in its own block
 abbrev pub stmt_meaning : Whole → Stmt → StmtMeans
 stmt_meaning w = fold-Stmt BranchWhatMeans WhatMeans BranchMeans StmtMeans (bind_branch_what_step w) (bind_what_step w) bind_branch_step bind_stmt_step
 
 abbrev pub bind_stmt : Whole → Stmt → Bind RStmt
 bind_stmt w s = (stmt_meaning w s).bind
 
+-- what a statement is bound to, without its line
 abbrev pub bind_what : Whole → Stmt → Bind RWhat
 bind_what w s = (fold-What BranchWhatMeans WhatMeans BranchMeans StmtMeans (bind_branch_what_step w) (bind_what_step w) bind_branch_step bind_stmt_step s.what).bind s.line
 
@@ -97,6 +106,7 @@ bind_branch w = fold-Branch BranchWhatMeans WhatMeans BranchMeans StmtMeans (bin
 abbrev pub bind_stmts : Whole → List Stmt → Bind (List RStmt)
 bind_stmts w body = bind_all (map (stmt_meaning w) body)
 
+-- what the first of some statements declares in its own block, given the next slot
 abbrev pub declared_first : Whole → List Stmt → ℕ → List LocalDeclaration
 declared_first w body = first_declares (map (stmt_meaning w) body)
 

@@ -21,13 +21,15 @@ use Rattle.shim_scopes.specs.Refusals.{Refusal, and_then, refused_for}
 use Rattle.shim_scopes.specs.Binding.{binding_of, stream_in, bare, unknown_in_all, placed_all, exception_number, unhandled}
 use Rattle.shim_scopes.specs.Statements.{Whole, Around, Before, Bind, visible}
 
+-- the number of the first function that has the name, and the number of functions where none has it
 abbrev pub function_number : List Function → List ℕ → ℕ
 function_number fs x = position_else (length fs) (position (λ (f : Function). bytes_eq f.name x) fs)
 
+-- the first function that has the name
 abbrev pub function_of : List Function → List ℕ → Option Function
 function_of fs x = find (λ (f : Function). bytes_eq f.name x) fs
 
--- the leftmost name of a callee's `throws` that isn't in scope here
+-- the leftmost name of a callee's `throws` that isn't in force here
 abbrev pub unhandled_of_all : List Handled → Texts → Option (List ℕ)
 unhandled_of_all around [] = None
 unhandled_of_all around (x ∷ xs) = option_or (unhandled around x) (unhandled_of_all around xs)
@@ -49,11 +51,12 @@ same_sort Input Input = true
 same_sort Output Output = true
 same_sort _ _ = false
 
--- a name without a declaration around it is reported before
+-- whether the argument's variable has the sort of the parameter; true without a declaration, which is refused for itself
 abbrev pub sort_fits : Sort → Option Bound → Bool
 sort_fits s None = true
 sort_fits s (Some b) = same_sort s b.sort
 
+-- the name, where the answer is `false`
 abbrev pub if_false : List ℕ → Bool → Option (List ℕ)
 if_false x true = None
 if_false x false = Some x
@@ -63,18 +66,22 @@ abbrev pub wrong_ref : List LocalDeclaration → Param → Option (List ℕ) →
 wrong_ref around p None = Some p.name
 wrong_ref around p (Some x) = if_false x (sort_fits p.sort (binding_of x around))
 
+-- The name for which an argument is refused, by reference where the first is `true`, and else by value. By value it is the leftmost stream in the argument.
 abbrev pub wrong_by : Bool → List LocalDeclaration → Param → Expr → Option (List ℕ)
 wrong_by true around p e = wrong_ref around p (bare e)
 wrong_by false around p e = stream_in around e
 
+-- the name for which an argument is refused for its parameter, if it is
 abbrev pub wrong_arg : List LocalDeclaration → Param → Expr → Option (List ℕ)
 wrong_arg around p e = wrong_by p.by_ref around p e
 
+-- the name for which the leftmost refused one of some arguments is refused, each for the parameter at its place
 abbrev pub wrong_in_all : List LocalDeclaration → List Param → List Expr → Option (List ℕ)
 wrong_in_all around [] es = None
 wrong_in_all around (p ∷ ps) [] = None
 wrong_in_all around (p ∷ ps) (e ∷ es) = option_or (wrong_arg around p e) (wrong_in_all around ps es)
 
+-- A call of a function that was found or not. Its exceptions are examined first, then the number of arguments, then each argument.
 abbrev pub bind_known : Option Function → List Function → CallOf → ℕ → Around → Before → Result RCall Refusal
 bind_known None fs c line a b = Err (record { line = line; kind = UnknownFunction; name = c.function })
 bind_known (Some f) fs c line a b =
@@ -83,10 +90,12 @@ bind_known (Some f) fs c line a b =
     (refused_for line WrongKind (wrong_in_all (visible a b) f.params c.args)
     (Ok (record { function = function_number fs c.function; args = placed_all (visible a b) c.args; throws = map (exception_number a.handled) f.throws }))))
 
+-- a call: the names in its arguments are examined first, and then its function and the rest
 abbrev pub bind_call : Whole → CallOf → ℕ → Around → Before → Result RCall Refusal
 bind_call w c line a b =
     refused_for line UnknownName (unknown_in_all (visible a b) c.args)
     (bind_known (function_of w.functions c.function) w.functions c line a b)
 
+-- a call, with `g` of it as the tree; it declares nothing
 abbrev pub bind_called : {T : Type 0} → (RCall → T) → Whole → CallOf → ℕ → Bind T
 bind_called g w c line a b = and_then (bind_call w c line a b) (λ r. Ok (record { tree = g r; before = b }))

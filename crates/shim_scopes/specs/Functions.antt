@@ -19,10 +19,12 @@ use Rattle.shim_scopes.specs.Statements.{Whole, Before, BoundTo, with_declaratio
 use Rattle.shim_scopes.specs.Calls.{if_false}
 use Rattle.shim_scopes.specs.Bodies.{bind_stmts}
 
+-- the name `x`, where there is a name
 abbrev pub if_name : List ℕ → Option (List ℕ) → Option (List ℕ)
 if_name x None = None
 if_name x (Some n) = Some x
 
+-- the name, where it is among those of `seen`
 abbrev pub name_in : Texts → List ℕ → Option (List ℕ)
 name_in seen x = if_name x (find (λ n. bytes_eq n x) seen)
 
@@ -40,32 +42,40 @@ suits_main input output (p ∷ ps) = elim p.sort [
   | Output ↦ not output && suits_main input true ps
 ]
 
+-- the name of the function, where it is `main` with parameters that `main` may not take
 abbrev pub wrong_main : Function → Option (List ℕ)
 wrong_main f = if_false f.name (not (bytes_eq f.name (codes "main")) || suits_main false false f.params)
 
+-- what is before the next place once the parameter has the next slot
 abbrev pub with_param : Texts → Before → Param → Before
 with_param names b p = with_declaration names p.name p.sort b
 
+-- the same of some parameters, in their order
 abbrev pub params_from : Texts → Before → List Param → Before
 params_from names b [] = b
 params_from names b (p ∷ ps) = params_from names (with_param names b p) ps
 
+-- a parameter with the number of its name in place of the name
 abbrev pub placed_param : Texts → Param → UParam
 placed_param names p = record { sort = p.sort; by_ref = p.by_ref; name = name_index names p.name }
 
 abbrev pub placed_params : Texts → List Param → List UParam
 placed_params names ps = map (placed_param names) ps
 
+-- The exceptions around, and after them one of each name. The number of each is how many precede it.
 abbrev pub handled_from : List Handled → Texts → List Handled
 handled_from around [] = around
 handled_from around (x ∷ xs) = handled_from (around ++ record { name = x; number = length around } ∷ []) xs
 
+-- the number of each of these names among `names`
 abbrev pub numbers_of : Texts → Texts → List ℕ
 numbers_of names xs = map (name_index names) xs
 
+-- what is before the first parameter of a function: no declaration and no `try`
 abbrev pub function_begin : Before
 function_begin = record { own = []; slots = []; slot_names = []; tries = [] }
 
+-- the form of a function, by what its body is bound to
 abbrev pub made_function : Whole → Function → BoundTo (List RStmt) → RFunction
 made_function w f r = record {
   line = f.line;
@@ -96,10 +106,12 @@ bind_functions w earlier [] = Ok []
 bind_functions w earlier (f ∷ fs) =
     and_then (bind_function w earlier f) (λ r. and_then (bind_functions w (earlier ++ f.name ∷ []) fs) (λ rs. Ok (r ∷ rs)))
 
+-- the number of `main`, or the refusal of a program that has none
 abbrev pub main_at : Option ℕ → Result ℕ Refusal
 main_at None = Err (record { line = 1; kind = NoMain; name = codes "main" })
 main_at (Some main) = Ok main
 
+-- the number of the first function named `main`, or the refusal where there is none
 abbrev pub main_of : List Function → Result ℕ Refusal
 main_of fs = main_at (position (λ (f : Function). bytes_eq f.name (codes "main")) fs)
 

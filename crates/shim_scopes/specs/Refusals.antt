@@ -10,6 +10,7 @@ pub record Refusal : Type 0 where
   pub kind : ScopeKind
   pub name : List ℕ
 
+-- what `f` gives for the value, or the refusal if the place is refused
 abbrev pub and_then : {A B : Type 0} → Result A Refusal → (A → Result B Refusal) → Result B Refusal
 and_then (Ok a) f = f a
 and_then (Err r) f = Err r

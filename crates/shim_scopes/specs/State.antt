@@ -62,10 +62,12 @@ abbrev pub with_done : {T : Type 0} → List T → Meant (List T) → Meant (Lis
 with_done done (Ok r) = Ok (record { tree = done ++ r.tree; before = r.before })
 with_done done (Err r) = Err r
 
+-- the results `done` and then those that are meant, or the refusal that is meant
 abbrev pub after_some : {T : Type 0} → List T → Result (List T) Refusal → Result (List T) Refusal
 after_some done (Ok rs) = Ok (done ++ rs)
 after_some done (Err r) = Err r
 
+-- The fault is a refusal of the line, the kind and the name, or it is `NoMemory`.
 abbrev pub RefusesWith : ScopeFault → ℕ → ScopeKind → List ℕ → Type 0
 RefusesWith (Refused l k n) line kind name = (l ≡ line) × ((k ≡ kind) × (n ≡ name))
 RefusesWith NoMemory line kind name = Unit {0}
@@ -76,14 +78,17 @@ Passes (Ok t) line kind name = name ≡ None
 Passes (Err (Refused l k n)) line kind name = (name ≡ Some n) × ((l ≡ line) × (k ≡ kind))
 Passes (Err NoMemory) line kind name = Unit {0}
 
+-- `made` is the next slot of `old`. `new` is `old` with a declaration of `x` in that slot.
 pub record IsDeclaredAs (names : Texts) (x : List ℕ) (sort : Sort) (old : Before) (made : ℕ) (new : Before) : Type 0 where
   pub number : made ≡ length old.slots
   pub after : new ≡ with_declaration names x sort old
 
+-- `made` is the next slot of `old` if the handler has a variable `y`, and else `None`. `new` is `old` with the variable's declaration, if it has one.
 pub record IsBegun (names : Texts) (y : Option (List ℕ)) (old : Before) (made : Option ℕ) (new : Before) : Type 0 where
   pub slot : made ≡ variable_slot y old
   pub after : new ≡ variable_declared names y old
 
+-- `made` is the number that follows those of the `throws` and of the earlier `try` statements. In `new` the exception `x` is in force with that number, and its `try` is the last one.
 pub record IsTried (names : Texts) (x : List ℕ) (old : Scope) (made : ℕ) (new : Scope) : Type 0 where
   pub number : made ≡ old.throws + length old.tries
   pub after : new ≡ record old {
@@ -91,6 +96,7 @@ pub record IsTried (names : Texts) (x : List ℕ) (old : Scope) (made : ℕ) (ne
     tries = old.tries ++ name_index names x ∷ [];
   }
 
+-- In the scope `s` the body of `f` begins: only its parameters are declared, and only the exceptions of its `throws` are in force.
 pub record IsOpened (names : Texts) (f : Function) (s : Scope) : Type 0 where
   pub before : record { own = s.visible; slots = s.slots; slot_names = s.slot_names; tries = s.tries } ≡ params_from names function_begin f.params
   pub handled : s.handled ≡ handled_from [] f.throws

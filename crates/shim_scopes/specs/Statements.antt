@@ -43,9 +43,11 @@ pub record BoundTo (T : Type 0) : Type 0 where
   pub tree : T
   pub before : Before
 
+-- what a place is bound to: a tree, and what is before the next place, or the place that is refused
 abbrev pub Meant : Type 0 → Type 0
 Meant T = Result (BoundTo T) Refusal
 
+-- what a place is bound to, by what encloses its block and by what is before it
 abbrev pub Bind : Type 0 → Type 0
 Bind T = Around → Before → Meant T
 
@@ -53,6 +55,7 @@ Bind T = Around → Before → Meant T
 abbrev pub visible : Around → Before → List LocalDeclaration
 visible a b = a.outer ++ b.own
 
+-- the name `x`, where a declaration was found
 abbrev pub if_found : List ℕ → Option LocalDeclaration → Option (List ℕ)
 if_found x None = None
 if_found x (Some l) = Some x
@@ -65,6 +68,7 @@ declared_in own x = if_found x (find (λ (l : LocalDeclaration). bytes_eq l.name
 abbrev pub local_of : List ℕ → Sort → ℕ → LocalDeclaration
 local_of x sort slot = record { name = x; bound = record { slot = slot; sort = sort } }
 
+-- The block has one more declaration, of `x`, with the next slot. The function has one more slot, with the sort and with the number of the name.
 abbrev pub with_declaration : Texts → List ℕ → Sort → Before → Before
 with_declaration names x sort b = record {
   own = b.own ++ local_of x sort (length b.slots) ∷ [];
@@ -75,6 +79,7 @@ with_declaration names x sort b = record {
 
 -- simple statements
 
+-- A declaration of `x` whose initial expression, if any, is bound without it. A block may not declare one name twice.
 abbrev pub bind_declare : Whole → Ty → List ℕ → Option Expr → ℕ → Bind RWhat
 bind_declare w ty x e line a b =
     refused_for line UnknownName (unknown_in_option (visible a b) e)
@@ -82,12 +87,15 @@ bind_declare w ty x e line a b =
     (refused_for line WrongKind (stream_in_option (visible a b) e)
     (Ok (record { tree = Declare ty (length b.slots) (placed_option (visible a b) e); before = with_declaration w.names x (Value ty) b }))))
 
+-- `x` if no declaration of it is around, and else the leftmost name of `e` without a declaration around
 abbrev pub unknown_in_both : List LocalDeclaration → List ℕ → Expr → Option (List ℕ)
 unknown_in_both around x e = option_or (unknown around x) (unknown_in around e)
 
+-- the first of `x` and `y` that has no declaration around it
 abbrev pub unknown_of_two : List LocalDeclaration → List ℕ → List ℕ → Option (List ℕ)
 unknown_of_two around x y = option_or (unknown around x) (unknown around y)
 
+-- a statement that gives the variable `x` the value of `e`; `g` makes it of the slot and the expression
 abbrev pub bind_store : (ℕ → UExpr → RWhat) → List ℕ → Expr → ℕ → Bind RWhat
 bind_store g x e line a b =
     refused_for line UnknownName (unknown_in_both (visible a b) x e)
@@ -100,30 +108,35 @@ bind_assign = bind_store Assign
 abbrev pub bind_next_assign : List ℕ → Expr → ℕ → Bind RWhat
 bind_next_assign = bind_store NextAssign
 
+-- a `next` of the variable `x`, which may not be a stream
 abbrev pub bind_next : List ℕ → ℕ → Bind RWhat
 bind_next x line a b =
     refused_for line UnknownName (unknown (visible a b) x)
     (refused_for line WrongKind (no_number (visible a b) x)
     (Ok (record { tree = Next (slot_of (visible a b) x); before = b })))
 
+-- the statement `x = next y`, where neither name may be a stream
 abbrev pub bind_assign_next : List ℕ → List ℕ → ℕ → Bind RWhat
 bind_assign_next x y line a b =
     refused_for line UnknownName (unknown_of_two (visible a b) x y)
     (refused_for line WrongKind (option_or (no_number (visible a b) x) (no_number (visible a b) y))
     (Ok (record { tree = AssignNext (slot_of (visible a b) x) (slot_of (visible a b) y); before = b })))
 
+-- a `get` into the variable `x` from the input stream `y`
 abbrev pub bind_get : List ℕ → List ℕ → ℕ → Bind RWhat
 bind_get x y line a b =
     refused_for line UnknownName (unknown_of_two (visible a b) x y)
     (refused_for line WrongKind (option_or (no_number (visible a b) x) (no_input (visible a b) y))
     (Ok (record { tree = Get (slot_of (visible a b) x) (slot_of (visible a b) y); before = b })))
 
+-- a `put` of the value of `e` to the output stream `x`
 abbrev pub bind_put : List ℕ → Expr → ℕ → Bind RWhat
 bind_put x e line a b =
     refused_for line UnknownName (unknown_in_both (visible a b) x e)
     (refused_for line WrongKind (option_or (no_output (visible a b) x) (stream_in (visible a b) e))
     (Ok (record { tree = Put (slot_of (visible a b) x) (placed (visible a b) e); before = b })))
 
+-- a `throw` of the exception `x`, with the value of `e` if there is one
 abbrev pub bind_throw : List ℕ → Option Expr → ℕ → Bind RWhat
 bind_throw x e line a b =
     refused_for line UnknownName (unknown_in_option (visible a b) e)
@@ -137,6 +150,7 @@ bind_throw x e line a b =
 abbrev pub inside_block : Around → Before → Around
 inside_block a b = record a { outer = visible a b }
 
+-- what is before the first place of a block: the slots and `try` statements before the block, and no declaration of its own
 abbrev pub opened : Before → Before
 opened b = record b { own = [] }
 
@@ -144,9 +158,11 @@ opened b = record b { own = [] }
 abbrev pub after_block : Before → Before → Before
 after_block b inner = record inner { own = b.own }
 
+-- What `f` binds in a block of its own. After the block the declarations are those from before it.
 abbrev pub bind_block : {T : Type 0} → Bind T → Bind T
 bind_block f a b = and_then (f (inside_block a b) (opened b)) (λ r. Ok (record { tree = r.tree; before = after_block b r.before }))
 
+-- what `f` binds, with `g` of its tree in place of the tree
 abbrev pub on_tree : {S T : Type 0} → (S → T) → Bind S → Bind T
 on_tree g f a b = and_then (f a b) (λ r. Ok (record { tree = g r.tree; before = r.before }))
 
@@ -156,16 +172,19 @@ bind_two g f h a b = and_then (f a b) (λ r. and_then (h a r.before) (λ s. Ok (
 
 -- compound statements
 
+-- a test with its variables by their slots, or the refusal of a name in it that is unknown or a stream
 abbrev pub bind_test : Expr → ℕ → Around → Before → Result UExpr Refusal
 bind_test e line a b =
     refused_for line UnknownName (unknown_in (visible a b) e)
     (refused_for line WrongKind (stream_in (visible a b) e)
     (Ok (placed (visible a b) e)))
 
+-- an `if` of the test `e`: the test first, and then each of its parts in a block of its own
 abbrev pub bind_if : Expr → Bind (List RStmt) → Bind (List RStmt) → ℕ → Bind RWhat
 bind_if e first other line a b =
     and_then (bind_test e line a b) (λ test. bind_two (If test) (bind_block first) (bind_block other) a b)
 
+-- a `while` of the test `e`: the test first, and then the body in a block of its own
 abbrev pub bind_while : Expr → Bind (List RStmt) → ℕ → Bind RWhat
 bind_while e body line a b =
     and_then (bind_test e line a b) (λ test. on_tree (While test) (bind_block body) a b)
@@ -174,6 +193,7 @@ bind_while e body line a b =
 abbrev pub with_handled : List ℕ → Around → Before → Around
 with_handled x a b = record a { handled = a.handled ++ record { name = x; number = a.throws + length b.tries } ∷ [] }
 
+-- The function has one more `try`, with the number of the name of the exception `x`.
 abbrev pub tried : Whole → List ℕ → Before → Before
 tried w x b = record b { tries = b.tries ++ name_index w.names x ∷ [] }
 
@@ -182,6 +202,7 @@ abbrev pub variable_declared : Texts → Option (List ℕ) → Before → Before
 variable_declared names None b = b
 variable_declared names (Some y) b = with_declaration names y (Value Int32) b
 
+-- a handler after the declaration of its variable `y`, if it has one
 abbrev pub bind_handler : Whole → Option (List ℕ) → Bind (List RStmt) → Bind (List RStmt)
 bind_handler w y handler a b = handler a (variable_declared w.names y b)
 
@@ -212,6 +233,7 @@ bind_first_test declares test line a b =
     (refused_for line WrongKind (stream_in_option (visible a b ++ declares (length b.slots)) test)
     (Ok tt))
 
+-- a `for`: its test is examined first, and then its parts are bound in a block of their own
 abbrev pub bind_for : (ℕ → List LocalDeclaration) → Option Expr → Bind (List RStmt) → Bind (List RStmt) → Bind (List RStmt) → ℕ → Bind RWhat
 bind_for declares test first step body line a b =
     and_then (bind_first_test declares test line a b) (λ t. bind_block (bind_parts test first step body) a b)

@@ -17,6 +17,7 @@ pub record Acted (S : Type 0) : Type 0 where
   pub node : Node S
   pub effects : Effects
 
+-- the effects of an event that puts no byte and logs nothing
 abbrev pub nothing : Effects
 nothing = record { bytes = []; logs = [] }
 
@@ -29,6 +30,7 @@ putting (Some b) = record { bytes = b ∷ []; logs = [] }
 abbrev pub catch_logged : ℕ × ℕ → Effects
 catch_logged h = record { bytes = []; logs = Caught h.0 h.1 ∷ [] }
 
+-- the effects of a trap: no byte, and a log of its kind and line
 abbrev pub trapping : Trap → ℕ → Effects
 trapping kind line = record { bytes = []; logs = LoggedTrap kind line ∷ [] }
 
@@ -68,14 +70,17 @@ act_here o (Forked l ks) = cond (all_done ks) (Some (closed o l (states ks) (pre
 act_here o (Ended l) = None
 act_here o (Dead l x) = None
 
+-- The process l as a fork with the given children below it, and their effects. Where none are given there is none.
 abbrev pub within : {S : Type 0} → S → Option (Nodes S × Effects) → Option (Acted S)
 within l None = None
 within l (Some r) = Some (record { node = Forked l r.0; effects = r.1 })
 
+-- the given node as the first child, before the children ks, with its effects
 abbrev pub in_front : {S : Type 0} → Nodes S → Option (Acted S) → Option (Nodes S × Effects)
 in_front ks None = None
 in_front ks (Some a) = Some (node_and a.node ks, a.effects)
 
+-- the child k before the given later children, with their effects
 abbrev pub in_later : {S : Type 0} → Node S → Option (Nodes S × Effects) → Option (Nodes S × Effects)
 in_later k None = None
 in_later k (Some r) = Some (node_and k r.0, r.1)

@@ -31,9 +31,11 @@ outcome_of_root (Forked l ks) = Blocked
 outcome_of_root (Ended l) = Done
 outcome_of_root (Dead l d) = outcome_of_label d.label
 
+-- Of a tree with the given root: `Spent` if the walk has an event, else the outcome of the root.
 abbrev pub outcome : {S : Type 0} → Ops S → Node S → Outcome
 outcome o root = cond (is_empty (walk o root)) (outcome_of_root root) Spent
 
+-- the path with the channel at which its process waits, as a list of one, or of none where there is no channel
 abbrev pub wait_of : Path → Option NamedChannel → List (Path × NamedChannel)
 wait_of p None = []
 wait_of p (Some c) = (p, c) ∷ []
@@ -50,6 +52,7 @@ abbrev mutual
   all_waiting o no_node = []
   all_waiting o (node_and k ks) = waiting o k ++ all_waiting o ks
 
+-- a process and the channel at which it waits, as a report has them
 abbrev pub wait_at : Path × NamedChannel → WaitAt
 wait_at w = record { path = w.0; chan = w.1 }
 
@@ -58,12 +61,15 @@ abbrev pub waits_of : {S : Type 0} → Ops S → Node S → Outcome → List Wai
 waits_of o root Blocked = map wait_at (finite.entries (finite.from_entries {R = path_order} (waiting o root)))
 waits_of o root _ = []
 
+-- a channel and what its rendezvous gave, as a report has them
 abbrev pub history_of : Channel × Met → History
 history_of h = record { chan = record { channel = h.0; name = h.1.name }; values = h.1.values }
 
+-- a process and the count of its own steps, as a report has them
 abbrev pub own_steps : Path × ℕ → OwnSteps
 own_steps c = record { path = c.0; count = c.1 }
 
+-- a log of the process of the path, as a report has it
 abbrev pub log_at : Path → LogWhat → Log
 log_at p w = record { path = p; what = w }
 
@@ -72,6 +78,7 @@ abbrev pub all_logs : List (Path × List LogWhat) → List Log
 all_logs [] = []
 all_logs (e ∷ es) = map (log_at e.0) e.1 ++ all_logs es
 
+-- all that is read off a tree: output, histories, logs, waits, counts of events and of own steps, and the outcome
 unfoldable pub ended : {S : Type 0} → Ops S → Tree S → Read
 ended o t = record {
   output = t.output;
@@ -84,6 +91,7 @@ ended o t = record {
   outcome = outcome o t.root;
 }
 
+-- the values of a history, if there is one
 abbrev pub values_in : Option Met → Option (List ℤ)
 values_in None = None
 values_in (Some h) = Some h.values

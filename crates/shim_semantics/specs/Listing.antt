@@ -5,6 +5,7 @@ use Rattle.shim_semantics.specs.Places.{SoundBelow}
 use Rattle.shim_semantics.specs.Trees.{Tree, Event, after}
 use Rattle.shim_semantics.specs.Walks.{walk}
 
+-- e equals an element of the list
 abbrev pub IsAmong : {E : Type 0} → E → List E → Type 0
 IsAmong e [] = ⊥
 IsAmong e (f ∷ fs) = (e ≡ f) ⊎ IsAmong e fs

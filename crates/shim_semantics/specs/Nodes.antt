@@ -13,10 +13,12 @@ mutual
     Ended : S → Node S
     Dead : S → Death → Node S
 
+  -- the children of a fork, in order
   pub data Nodes (S : Type 0) : Type 0 where
     no_node : Nodes S
     node_and : Node S → Nodes S → Nodes S
 
+-- the state of the process of the node, whatever came of it
 abbrev pub state : {S : Type 0} → Node S → S
 state (Live l) = l
 state (Forked l ks) = l
@@ -60,6 +62,7 @@ prevailing_death (node_and (Forked l js) ks) = prevailing_death ks
 prevailing_death (node_and (Ended l) ks) = prevailing_death ks
 prevailing_death (node_and (Dead l d) ks) = prevailing d (prevailing_death ks)
 
+-- the state of each node of the list, without the nodes below it
 abbrev pub states : {S : Type 0} → Nodes S → List S
 states no_node = []
 states (node_and k ks) = state k ∷ states ks

@@ -17,6 +17,7 @@ at = apply_at found_above Some
 abbrev pub child_at : {S : Type 0} → ℕ → List ℕ → Nodes S → Option (Node S)
 child_at = apply_among found_above Some
 
+-- the branches of a path, without the numbers of the forks
 abbrev pub branches : Path → List ℕ
 branches [] = []
 branches (x ∷ p) = x.1 ∷ branches p
@@ -27,6 +28,7 @@ behind_front [] q = Some q
 behind_front (x ∷ p) [] = None
 behind_front (x ∷ p) (y ∷ q) = cond (same_pair x y) (behind_front p q) None
 
+-- the same of a path, if there is one
 abbrev pub option_branches : Option Path → Option (List ℕ)
 option_branches None = None
 option_branches (Some p) = Some (branches p)
@@ -35,6 +37,7 @@ option_branches (Some p) = Some (branches p)
 abbrev pub route : Path → Path → Option (List ℕ)
 route root p = option_branches (behind_front root p)
 
+-- the node to which the branches lead from n, if there are branches
 abbrev pub at_route : {S : Type 0} → Node S → Option (List ℕ) → Option (Node S)
 at_route n None = None
 at_route n (Some p) = at p n
@@ -43,6 +46,7 @@ at_route n (Some p) = at p n
 abbrev pub led_to : {S : Type 0} → Ops S → Node S → Path → Option (Node S)
 led_to o root p = at_route root (route (o.path (state root)) p)
 
+-- there is a node, its path is the channel's home, and it is ready on the channel
 abbrev pub home_is_ready : {S : Type 0} → Ops S → Channel → Option (Node S) → Bool
 home_is_ready o c None = false
 home_is_ready o c (Some n) = same_path (o.path (state n)) c.home && ready o c n

@@ -58,14 +58,17 @@ poison_node o c i (Live l) = None
 poison_node o c i (Ended l) = None
 poison_node o c i (Dead l x) = None
 
+-- the process l as a fork with the given children, if they are given
 abbrev pub above : {S : Type 0} → S → Option (Nodes S) → Option (Node S)
 above l None = None
 above l (Some ks) = Some (Forked l ks)
 
+-- the given child, if there is one, before the children ks
 abbrev pub before_rest : {S : Type 0} → Nodes S → Option (Node S) → Option (Nodes S)
 before_rest ks None = None
 before_rest ks (Some k) = Some (node_and k ks)
 
+-- the child k before the given children, if they are given
 abbrev pub after_one : {S : Type 0} → Node S → Option (Nodes S) → Option (Nodes S)
 after_one k None = None
 after_one k (Some ks) = Some (node_and k ks)
@@ -87,6 +90,7 @@ abbrev pub to_fork : ℕ → List ℕ → List ℕ
 to_fork i [] = []
 to_fork i (j ∷ q) = i ∷ to_fork j q
 
+-- of the branches that lead to a child, i and then the list, the last one: the child's place in its fork
 abbrev pub last_branch : ℕ → List ℕ → ℕ
 last_branch i [] = i
 last_branch i (j ∷ q) = last_branch j q

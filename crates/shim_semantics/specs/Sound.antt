@@ -18,6 +18,7 @@ carriers o c n = how_many (λ s. o.carries s c) (everyone n)
 abbrev pub holders : {S : Type 0} → Ops S → Node S → ℕ
 holders o n = how_many o.holds_output (everyone n)
 
+-- The tree of the root is sound: `SoundBelow` holds, and the root shares only channels that it declared. At most one process carries each channel, and at most one holds the output.
 pub record IsSound {S : Type 0} (o : Ops S) (root : Node S) : Type 0 where
   pub below : SoundBelow o root
   pub own : SharesItsOwn o (state root)

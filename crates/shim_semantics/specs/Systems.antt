@@ -1,6 +1,7 @@
 -- Runs of any system of events, and what its events keep.
 use Rattle.std.specs.Prelude.{◌≡◌, Option, Some, None, List, [], ◌∷◌}
 
+-- f of the value, if there is one
 abbrev pub on_some : {T : Type 0} → (T → Option T) → Option T → Option T
 on_some f None = None
 on_some f (Some t) = f t

@@ -14,6 +14,7 @@ pub record Met : Type 0 where
   pub name : ℕ
   pub values : List ℤ
 
+-- A root with the processes below it, and what events gave: output, histories, logs and counts.
 pub record Tree (S : Type 0) : Type 0 where
   pub root : Node S
   -- the bytes that were put
@@ -38,6 +39,7 @@ steps t = sum (map.values t.counts) + t.events
 abbrev pub start : {S : Type 0} → S → Tree S
 start l = record { root = Live l; output = []; histories = map.empty; logs = map.empty; counts = map.empty; events = 0 }
 
+-- One of the five things that change a tree. A path is that of the process, or of the poisoned child.
 pub data Event : Type 0 where
   -- a process does a step of its own
   Own : Path → Event
@@ -57,6 +59,7 @@ pub data OwnAction : Type 0 where
   Closes : OwnAction
   Nothing : OwnAction
 
+-- what a live process can do by itself at a stop
 abbrev pub own_action_at : StopView → OwnAction
 own_action_at AtQuiet = Steps
 own_action_at AtPut = Steps
@@ -66,12 +69,14 @@ own_action_at (AtNext c) = Nothing
 own_action_at (AtThrow label) = Steps
 own_action_at (AtTrap kind line) = Steps
 
+-- What the process of a node can do by itself. For a forked one it is the close, whether or not its children are done.
 abbrev pub own_action_of : {S : Type 0} → Ops S → Node S → OwnAction
 own_action_of o (Live l) = own_action_at (o.stop l)
 own_action_of o (Forked l ks) = Closes
 own_action_of o (Ended l) = Nothing
 own_action_of o (Dead l x) = Nothing
 
+-- the two are one action, which is not `Nothing`
 abbrev pub same_own_action : OwnAction → OwnAction → Bool
 same_own_action Steps Steps = true
 same_own_action Ends Ends = true
@@ -83,6 +88,7 @@ abbrev pub is_its : {S : Type 0} → Ops S → OwnAction → Path → Option (No
 is_its o k p None = false
 is_its o k p (Some n) = same_path (o.path (state n)) p && same_own_action k (own_action_of o n)
 
+-- what the process to which the branches lead leaves by its one thing, with the effects, if there are branches
 abbrev pub act_route : {S : Type 0} → Ops S → Node S → Option (List ℕ) → Option (Acted S)
 act_route o root None = None
 act_route o root (Some q) = act o q root
@@ -91,6 +97,7 @@ act_route o root (Some q) = act o q root
 abbrev pub acts : {S : Type 0} → Ops S → OwnAction → Path → Node S → Option (Acted S)
 acts o k p root = cond (is_its o k p (led_to o root p)) (act_route o root (route (o.path (state root)) p)) None
 
+-- how many steps of its own the process of the path did; 0 where the map has no count
 abbrev pub count_of : map.FinMap path_order ℕ → Path → ℕ
 count_of m p = unwrap_or (map.get m p) 0
 
@@ -98,6 +105,7 @@ count_of m p = unwrap_or (map.get m p) 0
 abbrev pub with_step_counted : map.FinMap path_order ℕ → Path → map.FinMap path_order ℕ
 with_step_counted m p = map.insert m p (count_of m p + 1)
 
+-- what was logged of the process of the path; nothing where the map has no entry
 abbrev pub logs_at : map.FinMap path_order (List LogWhat) → Path → List LogWhat
 logs_at m p = unwrap_or (map.get m p) []
 
@@ -130,6 +138,7 @@ abbrev pub with_met : ℕ → ℤ → Option Met → Met
 with_met name v None = record { name = name; values = v ∷ [] }
 with_met name v (Some h) = record { name = h.name; values = h.values ++ v ∷ [] }
 
+-- The histories with the value v added to that of the channel c. The name is used only where c had no history.
 abbrev pub recorded : map.FinMap channel_order Met → Channel → ℕ → ℤ → map.FinMap channel_order Met
 recorded m c name v = map.insert m c (with_met name v (map.get m c))
 

@@ -7,6 +7,7 @@ use Rattle.shim_semantics.specs.Nodes.{Node, Nodes, Live, Forked, Ended, Dead, n
 use Rattle.shim_semantics.specs.Poison.{is_doomed}
 use Rattle.shim_semantics.specs.Trees.{Tree, Event, Own, Meet, Poison, Close, End, after}
 
+-- the channel without its name, as a list of one, or of none
 abbrev pub as_list : Option NamedChannel → List Channel
 as_list None = []
 as_list (Some c) = c.channel ∷ []
@@ -23,6 +24,7 @@ abbrev mutual
   all_waited o no_node = []
   all_waited o (node_and k ks) = waited o k ++ all_waited o ks
 
+-- a channel as an entry of a finite map of which only the keys count
 abbrev pub as_key : Channel → Channel × Unit {0}
 as_key c = (c, tt)
 
@@ -72,6 +74,7 @@ abbrev mutual
   walk_all o l all i no_node = []
   walk_all o l all i (node_and k ks) = poisons_of o l all i k ++ (walk o k ++ walk_all o l all (i + 1) ks)
 
+-- the first element, if there is one
 abbrev pub head : {A : Type 0} → List A → Option A
 head [] = None
 head (x ∷ xs) = Some x
@@ -80,10 +83,12 @@ head (x ∷ xs) = Some x
 abbrev pub first_event : {S : Type 0} → Ops S → Tree S → Option Event
 first_event o t = head (walk o t.root)
 
+-- the second tree, if there is one, else the first
 abbrev pub or_stay : {S : Type 0} → Tree S → Option (Tree S) → Tree S
 or_stay t None = t
 or_stay t (Some u) = u
 
+-- the tree after the event, or t itself where there is no event or it is not enabled
 abbrev pub after_first : {S : Type 0} → Ops S → Tree S → Option Event → Tree S
 after_first o t None = t
 after_first o t (Some e) = or_stay t (after o e t)

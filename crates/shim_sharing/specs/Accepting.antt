@@ -7,6 +7,7 @@ use Rattle.shim_sharing.specs.declared.fault.ShareFault.TheVariants.{TwoWriters,
 use Rattle.shim_sharing.specs.Refusals.{refusal}
 use Rattle.shim_units.specs.Units.{lifted}
 
+-- the units where there is no fault, and else the fault
 abbrev pub unless_refused : Option ShareFault → Form → Result Form ShareFault
 unless_refused None form = Ok form
 unless_refused (Some fault) form = Err fault
@@ -35,7 +36,7 @@ IsMeantFault (TwoWriters line name first second) meant = meant ≡ TwoWriters li
 IsMeantFault (Alias line name) meant = meant ≡ Alias line name
 IsMeantFault NoMemory meant = Unit {0}
 
--- what passes isn't refused
+-- what passes isn't refused, and a refusal is the one that is meant; `NoMemory` claims nothing
 abbrev pub Passes : Result (Unit {0}) ShareFault → Option ShareFault → Type 0
 Passes (Ok t) refused = refused ≡ None
 Passes (Err (TwoWriters line name first second)) refused = refused ≡ Some (TwoWriters line name first second)

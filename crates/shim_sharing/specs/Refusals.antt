@@ -12,10 +12,12 @@ use Rattle.shim_units.specs.Lifting.{name_of}
 use Rattle.shim_units.specs.PartFold.{places_in}
 use Rattle.shim_units.specs.Units.{name_or_mark}
 
+-- an offence in the function `f` as the fault that is reported, with the name of its variable
 abbrev pub share_fault : List (List ℕ) → RFunction → Offence → ShareFault
 share_fault names f (TwoWriters line i j x) = refuses.TwoWriters line (name_or_mark names (name_of f x)) i j
 share_fault names f (Alias line x) = refuses.Alias line (name_or_mark names (name_of f x))
 
+-- the same of an offence that may be absent
 abbrev pub fault_for : List (List ℕ) → RFunction → Option Offence → Option ShareFault
 fault_for names f None = None
 fault_for names f (Some offence) = Some (share_fault names f offence)
@@ -24,6 +26,7 @@ fault_for names f (Some offence) = Some (share_fault names f offence)
 abbrev pub function_refusal : List (List ℕ) → List RFunction → RFunction → Option ShareFault
 function_refusal names all f = fault_for names f (first_offence f.slots (places_in all f.body))
 
+-- of the functions `fs` of a program, the refusal of the first that is refused; `all` are the functions of the program
 abbrev pub refusal_in : List (List ℕ) → List RFunction → List RFunction → Option ShareFault
 refusal_in names all [] = None
 refusal_in names all (f ∷ fs) = option_or (function_refusal names all f) (refusal_in names all fs)

@@ -11,6 +11,7 @@ use Rattle.shim_units.specs.Parts.SharingPlace.{Fork, Called}
 use Rattle.shim_units.specs.Rule.{stands_in}
 use Rattle.shim_units.specs.Captures.{Captures, captures, is_reference}
 
+-- `a`, where the answer is `true`
 abbrev pub if_true : {A : Type 0} → A → Bool → Option A
 if_true a true = Some a
 if_true a false = None
@@ -24,6 +25,7 @@ least_below (suc n) p = option_or (least_below n p) (if_true n (p n))
 abbrev pub common : ℕ → Captures → Captures → Option ℕ
 common n s t = least_below n (λ x. is_reference (s x) && is_reference (t x))
 
+-- the clash of branches i and j on a variable that both take by reference, if there is one
 abbrev pub clash_at : ℕ → ℕ → Option ℕ → Option Clash
 clash_at i j None = None
 clash_at i j (Some x) = Some (record { first = i; second = j; slot = x })
@@ -33,11 +35,12 @@ abbrev pub clash_with : ℕ → ℕ → Captures → ℕ → List Captures → O
 clash_with n i s j [] = None
 clash_with n i s j (t ∷ ts) = option_or (clash_at i j (common n s t)) (clash_with n i s (j + 1) ts)
 
--- the least pair of branches, the first of which is i, that share a variable
+-- the least pair of branches that take one variable by reference; the first branch of the list has the number i
 abbrev pub clash_from : ℕ → ℕ → List Captures → Option Clash
 clash_from n i [] = None
 clash_from n i (t ∷ ts) = option_or (clash_with n i t (i + 1) ts) (clash_from n (i + 1) ts)
 
+-- the offence of a fork on the line, by the clash of two of its branches, if any
 abbrev pub clash_offence : ℕ → Option Clash → Option Offence
 clash_offence line None = None
 clash_offence line (Some c) = Some (TwoWriters line c.first c.second c.slot)
@@ -53,10 +56,12 @@ abbrev pub given_again : List Given → List Given → Option ℕ
 given_again before [] = None
 given_again before (g ∷ gs) = option_or (again g.lent before gs g.bare) (given_again (before ++ g ∷ []) gs)
 
+-- the offence of a call on the line, by the variable that it gives by reference and as another bare argument, if any
 abbrev pub alias : ℕ → Option ℕ → Option Offence
 alias line None = None
 alias line (Some x) = Some (Alias line x)
 
+-- Why a place is refused, if it is. Of a fork it is the least clash, and of a call the leftmost alias.
 abbrev pub offence_at : List Sort → SharingPlace → Option Offence
 offence_at sorts (Fork line branches) = clash_offence line (clash_from (length sorts) 0 (map (captures sorts) branches))
 offence_at sorts (Called line gs) = alias line (given_again [] gs)

@@ -10,6 +10,7 @@ module _ {T : Type 0} where
   abbrev pub view_of : OwnDeque T → View T
   view_of d = worker_view d.deque
 
+  -- `old` and `new` are of one deque
   abbrev pub IsSameDeque : OwnDeque T → OwnDeque T → Type 0
   IsSameDeque old new = worker_deque new.deque ≡ worker_deque old.deque
 

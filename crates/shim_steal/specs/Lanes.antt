@@ -11,6 +11,7 @@ use Rattle.shim_steal.specs.Steps.{WasEmptyAt, WasEmpty}
 use Rattle.shim_steal.specs.Deques.{view_of, IsSameDeque}
 
 module _ {T : Type 0} where
+  -- the number of the lane itself
   abbrev pub home_of : Lane T → ℕ
   home_of l = l.home
 
@@ -18,6 +19,7 @@ module _ {T : Type 0} where
   abbrev pub lanes_of : Lane T → ℕ
   lanes_of l = length l.others.items + 1
 
+  -- `from` is the number of a lane other than l
   abbrev pub IsOtherLane : Lane T → ℕ → Type 0
   IsOtherLane l from = (from ≢ home_of l) × (from < lanes_of l)
 
@@ -25,6 +27,7 @@ module _ {T : Type 0} where
   abbrev pub pushes_of : Lane T → List T
   pushes_of l = (view_of l.own).pushed
 
+  -- the lane has pushed in `new` what it had pushed in `old`
   abbrev pub HasSamePushes : Lane T → Lane T → Type 0
   HasSamePushes old new = pushes_of new ≡ pushes_of old
 
@@ -37,6 +40,7 @@ module _ {T : Type 0} where
   abbrev pub takes_of : Lane T → List (ℕ × (ℕ × T))
   takes_of l = from_home l.home (view_of l.own).taken ++ takes_from l.home 0 l.others.items
 
+  -- the lane has taken in `new` what it had taken in `old`
   abbrev pub HasSameTakes : Lane T → Lane T → Type 0
   HasSameTakes old new = takes_of new ≡ takes_of old
 

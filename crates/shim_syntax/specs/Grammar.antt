@@ -35,21 +35,27 @@ pub record TextCounts : Type 0 where
   -- whether the text is one of version 2
   pub two : Bool
 
+-- the counts with which the reading begins: each is 0, and the version is 1
 abbrev pub nothing_read : TextCounts
 nothing_read = record { operators = 0; locals = 0; deepest = 0; two = false }
 
+-- the same counts, in a text of version 2
 abbrev pub in_version_2 : TextCounts → TextCounts
 in_version_2 w = record w { two = true }
 
+-- a function begins, and none of its declarations is counted yet
 abbrev pub new_function : TextCounts → TextCounts
 new_function w = record w { locals = 0 }
 
+-- one declaration more
 abbrev pub with_local : TextCounts → TextCounts
 with_local w = record w { locals = suc w.locals }
 
+-- an expression begins, and none of its operators is counted yet
 abbrev pub new_expression : TextCounts → TextCounts
 new_expression w = record w { operators = 0 }
 
+-- one operator more
 abbrev pub with_operator : TextCounts → TextCounts
 with_operator w = record w { operators = suc w.operators }
 
@@ -57,6 +63,7 @@ with_operator w = record w { operators = suc w.operators }
 abbrev pub at_level : ℕ → TextCounts → TextCounts
 at_level l w = record w { deepest = max w.deepest l }
 
+-- a body in braces begins, and no thing in it has been read yet
 abbrev pub new_body : TextCounts → TextCounts
 new_body w = record w { deepest = 0 }
 
@@ -68,7 +75,7 @@ behind_body d w = record w { deepest = max d w.deepest }
 abbrev pub as_branch : ℕ → TextCounts → ℕ
 as_branch l w = max l (suc w.deepest)
 
--- the row of an operator with two operands, from the one that binds tightest; 0 for any other terminal
+-- the row of an operator with two operands, counted from the one that binds tightest; 0 for any other sign
 abbrev pub row_of_sign : SignOf → ℕ
 row_of_sign g.Star = 1
 row_of_sign g.Slash = 1
@@ -90,11 +97,12 @@ row_of_sign g.AndAnd = 9
 row_of_sign g.OrOr = 10
 row_of_sign _ = 0
 
+-- the row of a terminal's sign, and 0 for a terminal that is no sign
 abbrev pub operator_row : Terminal → ℕ
 operator_row (Sign sign p) = row_of_sign sign
 operator_row _ = 0
 
--- which operator it is
+-- the operator with two operands of this sign, which has to be the sign of one; any sign that no line names gives `Mul`
 abbrev pub operator_of_sign : SignOf → BinOp
 operator_of_sign g.Slash = op.Div
 operator_of_sign g.Percent = op.Rem
@@ -291,6 +299,7 @@ mutual
     call_branch : {l : ℕ} {v w : TextCounts} {f : List ℕ} {p q o : Place} {s r : List Terminal} {xs : List Expr} → IsArguments c l v w s (Sign g.Semicolon o ∷ r) xs
         → IsBranch c l v w (Name f p ∷ Sign g.LeftParen q ∷ s) r (record { line = p.line; what = br.Call (record { function = f; args = xs }) })
 
+-- A parameter: its type or stream, an `&` where it has one, and its name. Without `&` only a stream is by reference.
 pub data IsParam : List Terminal → List Terminal → Param → Type 0 where
   param : {sort : SortOf} {x : List ℕ} {p q : Place} {r : List Terminal} → IsParam (Sort sort p ∷ Name x q ∷ r) r (record { sort = sort; by_ref = is_stream sort; name = x })
   reference : {sort : SortOf} {x : List ℕ} {p q o : Place} {r : List Terminal} → IsParam (Sort sort p ∷ Sign g.Amp q ∷ Name x o ∷ r) r (record { sort = sort; by_ref = true; name = x })

@@ -24,10 +24,11 @@ abbrev pub most : Limit → ℕ
 most Nesting = 64
 most (Count what) = most_of what
 
+-- whether the level or the number is at most the greatest that the limit allows
 abbrev pub is_within : Limit → ℕ → Bool
 is_within limit n = nat_le n (most limit)
 
--- Whether a thing that begins with the first of these tokens may have that level or that number.
+-- Whether a thing that begins with the first of these terminals may have that level or that number.
 abbrev pub Limits : Type 0
 Limits = List Terminal → Limit → ℕ → Bool
 
@@ -44,6 +45,7 @@ abbrev pub nesting_alone : Limits
 nesting_alone s Nesting n = is_within Nesting n
 nesting_alone s (Count what) n = true
 
+-- whether both are the same kind of count
 abbrev pub is_same : Many → Many → Bool
 is_same m.Functions m.Functions = true
 is_same m.Parameters m.Parameters = true
@@ -59,6 +61,6 @@ abbrev pub nesting_and : Many → Limits
 nesting_and what s Nesting n = is_within Nesting n
 nesting_and what s (Count other) n = not (is_same what other) || is_within (Count other) n
 
--- these limits, but none of them holds for what begins in the tokens `more` that are still to come
+-- these limits, but none of them holds for what begins in the terminals `more` that are still to come
 abbrev pub until : List Terminal → Limits → Limits
 until more c s limit n = c s limit n || nat_le (length s) (length more)

@@ -12,12 +12,14 @@ abbrev pub concatenated : List Texts → Texts
 concatenated [] = []
 concatenated (t ∷ ts) = t ++ concatenated ts
 
+-- the names in an expression, given those in each operand
 abbrev pub expr_occurs : Expr-F Texts → Texts
 expr_occurs (Expr-F.Number n) = []
 expr_occurs (Expr-F.Var x) = x ∷ []
 expr_occurs (Expr-F.Unary op a) = a
 expr_occurs (Expr-F.Binary op a b) = a ++ b
 
+-- The names in an expression, in the order of the text. The same of expressions, of an optional one and of a call: `in_exprs`, `in_option`, `in_call`.
 abbrev pub in_expr : Expr → Texts
 in_expr = fold-Expr Texts expr_occurs
 
@@ -37,10 +39,12 @@ in_variable (Some x) = x ∷ []
 abbrev pub in_call : CallOf → Texts
 in_call c = c.function ∷ in_exprs c.args
 
+-- the names in a branch, given those in each statement of its block
 abbrev pub branch_occurs : BranchWhat-F Texts Texts Texts Texts → Texts
 branch_occurs (BranchWhat-F.BranchWhat::Block body) = concatenated body
 branch_occurs (BranchWhat-F.BranchWhat::Call c) = in_call c
 
+-- the names in a statement, given those in each statement and each branch inside it
 abbrev pub what_occurs : What-F Texts Texts Texts Texts → Texts
 what_occurs (What-F.Declare ty x e) = x ∷ in_option e
 what_occurs (What-F.Assign x e) = x ∷ in_expr e
@@ -58,12 +62,15 @@ what_occurs (What-F.Try body x y handler) = concatenated body ++ x ∷ (in_varia
 what_occurs (What-F.Throw x e) = x ∷ in_option e
 what_occurs (What-F.Par branches) = concatenated branches
 
+-- the names in a statement, in the order of the text
 abbrev pub in_stmt : Stmt → Texts
 in_stmt = fold-Stmt Texts Texts Texts Texts branch_occurs what_occurs (λ b. b.what) (λ s. s.what)
 
+-- the names in a function: its own, its parameters', those of the exceptions that it throws, and those in its body
 abbrev pub in_function : Function → Texts
 in_function f = f.name ∷ (param_names f.params ++ (f.throws ++ concatenated (map in_stmt f.body)))
 
+-- all names in the functions, in the order of the text, each as often as it occurs
 abbrev pub identifiers : List Function → Texts
 identifiers [] = []
 identifiers (f ∷ fs) = in_function f ++ identifiers fs

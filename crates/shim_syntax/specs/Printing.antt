@@ -25,6 +25,7 @@ use Rattle.shim_syntax.specs.declared.tree.Param.{Param}
 use Rattle.shim_syntax.specs.declared.tree.Function.{Function}
 use Rattle.shim_syntax.specs.declared.tree.Program.{Program}
 
+-- a token of the canonical text, as it is printed
 pub record PrintedPiece : Type 0 where
   pub kind : TokenKind
   pub text : List ℕ
@@ -96,6 +97,7 @@ sign_text g.Bang = codes "!"
 sign_text g.Less = codes "<"
 sign_text g.Greater = codes ">"
 
+-- A keyword that a space follows. The same of a sign and of a name: `sign_piece`, `name_piece`.
 abbrev pub key_piece : Keyword → PrintedPiece
 key_piece word = record { kind = Key word; text = key_text word; ends_line = false; is_type = false }
 
@@ -159,6 +161,7 @@ sign_of_unary Neg = g.Minus
 sign_of_unary Not = g.Bang
 sign_of_unary Flip = g.Tilde
 
+-- the word of a type: a keyword, or for `int64` a name that is a type in version 2 alone
 abbrev pub type_piece : Ty → PrintedPiece
 type_piece Int64 = record { kind = Word; text = codes "int64"; ends_line = false; is_type = true }
 type_piece BoolTy = key_piece k.Bool
@@ -169,6 +172,7 @@ type_piece Uint8 = key_piece k.Uint8
 type_piece Uint16 = key_piece k.Uint16
 type_piece Uint32 = key_piece k.Uint32
 
+-- the word of a type or of a stream
 abbrev pub sort_piece : Sort → PrintedPiece
 sort_piece (Value ty) = type_piece ty
 sort_piece Input = key_piece k.Istream
@@ -184,6 +188,7 @@ abbrev pub wrapped : Bool → List PrintedPiece → List PrintedPiece
 wrapped true ps = sign_piece g.LeftParen ∷ (ps ++ sign_piece g.RightParen ∷ [])
 wrapped false ps = ps
 
+-- How an expression is printed, given how its operands are. A left operand has parentheses if its row is greater than the operator's, a right one if its row isn't less. An only operand has them if its row isn't 0.
 abbrev pub expr_step : Expr-F ExprShown → ExprShown
 expr_step (Expr-F.Number n) = record { row = 0; pieces = number_piece n ∷ [] }
 expr_step (Expr-F.Var x) = record { row = 0; pieces = name_piece x ∷ [] }
@@ -191,6 +196,7 @@ expr_step (Expr-F.Unary o a) = record { row = 0; pieces = sign_piece (sign_of_un
 expr_step (Expr-F.Binary o a b) =
     record { row = row_of_operator o; pieces = wrapped (nat_lt (row_of_operator o) a.row) a.pieces ++ sign_piece (sign_of_operator o) ∷ wrapped (nat_le (row_of_operator o) b.row) b.pieces }
 
+-- The row and the pieces of an expression. Each of the two alone: `expr_row`, `expr_pieces`.
 abbrev pub expr_shown : Expr → ExprShown
 expr_shown = fold-Expr ExprShown expr_step
 
@@ -205,10 +211,12 @@ abbrev pub more_args_pieces : List Expr → List PrintedPiece
 more_args_pieces [] = []
 more_args_pieces (e ∷ es) = sign_piece g.Comma ∷ (expr_pieces e ++ more_args_pieces es)
 
+-- arguments with commas between them
 abbrev pub args_pieces : List Expr → List PrintedPiece
 args_pieces [] = []
 args_pieces (e ∷ es) = expr_pieces e ++ more_args_pieces es
 
+-- a call without a semicolon
 abbrev pub call_pieces : Call → List PrintedPiece
 call_pieces c = name_piece c.function ∷ sign_piece g.LeftParen ∷ (args_pieces c.args ++ sign_piece g.RightParen ∷ [])
 
@@ -237,6 +245,7 @@ pub record StmtShown : Type 0 where
   pub pieces : List PrintedPiece
   pub semicolon : Bool
 
+-- the semicolon at the end of a statement, if the statement has one
 abbrev pub end_pieces : Bool → List PrintedPiece
 end_pieces true = line_end_piece g.Semicolon ∷ []
 end_pieces false = []
@@ -251,13 +260,16 @@ abbrev pub part_pieces : List StmtShown → List PrintedPiece
 part_pieces [] = []
 part_pieces (s ∷ ss) = s.pieces ++ part_pieces ss
 
+-- statements in braces; a line ends after each of the two
 abbrev pub block_pieces : List StmtShown → List PrintedPiece
 block_pieces body = line_end_piece g.LeftBrace ∷ (all_pieces body ++ line_end_piece g.RightBrace ∷ [])
 
+-- `else` with its block, or nothing if the block has no statement
 abbrev pub else_pieces : List StmtShown → List PrintedPiece
 else_pieces [] = []
 else_pieces (s ∷ ss) = key_piece k.Else ∷ block_pieces (s ∷ ss)
 
+-- `par` before a branch, but nothing before the first one
 abbrev pub par_pieces : Bool → List PrintedPiece
 par_pieces true = []
 par_pieces false = key_piece k.Par ∷ []
@@ -267,6 +279,7 @@ abbrev pub fork_pieces : Bool → List (List PrintedPiece) → List PrintedPiece
 fork_pieces first [] = []
 fork_pieces first (b ∷ bs) = par_pieces first ++ (b ++ fork_pieces false bs)
 
+-- the pieces of a branch, given how the statements of its block are printed
 abbrev pub print_branch_step : BranchWhat-F (List PrintedPiece) StmtShown (List PrintedPiece) StmtShown → List PrintedPiece
 print_branch_step (BranchWhat-F.BranchWhat::Block body) = block_pieces body
 print_branch_step (BranchWhat-F.BranchWhat::Call call) = call_pieces call ++ line_end_piece g.Semicolon ∷ []
@@ -279,6 +292,7 @@ simple ps = record { pieces = ps; semicolon = true }
 abbrev pub without_semicolon : List PrintedPiece → StmtShown
 without_semicolon ps = record { pieces = ps; semicolon = false }
 
+-- how a statement is printed, given how the statements and the branches inside it are
 abbrev pub print_stmt_step : What-F (List PrintedPiece) StmtShown (List PrintedPiece) StmtShown → StmtShown
 print_stmt_step (What-F.Declare ty x value) = simple (type_piece ty ∷ name_piece x ∷ first_value_pieces value)
 print_stmt_step (What-F.Assign x value) = simple (name_piece x ∷ sign_piece g.Equal ∷ expr_pieces value)
@@ -298,12 +312,15 @@ print_stmt_step (What-F.Try body x y handler) =
 print_stmt_step (What-F.Throw x e) = simple (key_piece k.Throw ∷ name_piece x ∷ thrown_number_pieces e)
 print_stmt_step (What-F.Par branches) = without_semicolon (fork_pieces true branches)
 
+-- the pieces of a statement, and whether a semicolon ends it
 abbrev pub stmt_shown : Stmt → StmtShown
 stmt_shown = fold-Stmt (List PrintedPiece) StmtShown (List PrintedPiece) StmtShown print_branch_step print_stmt_step (λ b. b.what) (λ s. s.what)
 
+-- the pieces of a branch, with the semicolon of a call
 abbrev pub branch_pieces : Branch → List PrintedPiece
 branch_pieces = fold-Branch (List PrintedPiece) StmtShown (List PrintedPiece) StmtShown print_branch_step print_stmt_step (λ b. b.what) (λ s. s.what)
 
+-- the `&` of a parameter that is by reference
 abbrev pub reference_pieces : Bool → List PrintedPiece
 reference_pieces true = sign_piece g.Amp ∷ []
 reference_pieces false = []
@@ -311,18 +328,22 @@ reference_pieces false = []
 abbrev pub param_pieces : Param → List PrintedPiece
 param_pieces p = sort_piece p.sort ∷ (reference_pieces p.by_ref ++ name_piece p.name ∷ [])
 
+-- parameters, each after a comma
 abbrev pub more_params_pieces : List Param → List PrintedPiece
 more_params_pieces [] = []
 more_params_pieces (p ∷ ps) = sign_piece g.Comma ∷ (param_pieces p ++ more_params_pieces ps)
 
+-- parameters with commas between them
 abbrev pub params_pieces : List Param → List PrintedPiece
 params_pieces [] = []
 params_pieces (p ∷ ps) = param_pieces p ++ more_params_pieces ps
 
+-- exceptions that a function throws, each after a comma
 abbrev pub more_throws_pieces : List (List ℕ) → List PrintedPiece
 more_throws_pieces [] = []
 more_throws_pieces (x ∷ xs) = sign_piece g.Comma ∷ name_piece x ∷ more_throws_pieces xs
 
+-- `throws` with its exceptions, or nothing if there are none
 abbrev pub throws_pieces : List (List ℕ) → List PrintedPiece
 throws_pieces [] = []
 throws_pieces (x ∷ xs) = key_piece k.Throws ∷ name_piece x ∷ more_throws_pieces xs
@@ -335,14 +356,18 @@ abbrev pub functions_pieces : List Function → List PrintedPiece
 functions_pieces [] = []
 functions_pieces (f ∷ fs) = function_pieces f ++ functions_pieces fs
 
+-- the number in the header of version 2
 abbrev pub version_piece : PrintedPiece
 version_piece = record { kind = Number (pos 2); text = codes "2"; ends_line = false; is_type = false }
 
+-- the header `shim 2;` of version 2; any other version has none
 abbrev pub header_pieces : ℕ → List PrintedPiece
 header_pieces version = if version == 2 then name_piece (codes "shim") ∷ version_piece ∷ line_end_piece g.Semicolon ∷ [] else []
 
+-- the pieces of a program, with its header
 abbrev pub pieces : Program → List PrintedPiece
 pieces program = header_pieces program.version ++ functions_pieces program.functions
 
+-- the canonical text of a program
 abbrev pub canonical : Program → List ℕ
 canonical program = pieces_text (pieces program)

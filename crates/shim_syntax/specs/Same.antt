@@ -15,6 +15,7 @@ stmt_without_lines =
     (λ b. roll-Branch (record { line = 0; what = b.what }))
     (λ s. roll-Stmt (record { line = 0; what = s.what }))
 
+-- The function with its line and each line in its body 0. The program with each line 0: `without_lines`.
 abbrev pub function_without_lines : Function → Function
 function_without_lines f = record { line = 0; name = f.name; params = f.params; throws = f.throws; body = map stmt_without_lines f.body }
 

@@ -12,12 +12,14 @@ abbrev pub sum_of : List ℕ → ℕ
 sum_of [] = 0
 sum_of (n ∷ ns) = n + sum_of ns
 
+-- The size of an expression, given those of its operands. A number, a variable and an operator count one each.
 abbrev pub expr_counts : Expr-F ℕ → ℕ
 expr_counts (Expr-F.Number n) = 1
 expr_counts (Expr-F.Var x) = 1
 expr_counts (Expr-F.Unary op a) = suc a
 expr_counts (Expr-F.Binary op a b) = suc (a + b)
 
+-- The size of an expression. The sum of the sizes of expressions, and the size of an optional one: `exprs_size`, `option_size`.
 unfoldable pub expr_size : Expr → ℕ
 expr_size = fold-Expr ℕ expr_counts
 
@@ -33,13 +35,16 @@ abbrev pub variable_size : Option (List ℕ) → ℕ
 variable_size None = 0
 variable_size (Some x) = 1
 
+-- one for the called name, and the sizes of the arguments
 abbrev pub call_size : CallOf → ℕ
 call_size c = suc (exprs_size c.args)
 
+-- The size of a branch, given those of the statements of its block. A block counts one itself.
 abbrev pub branch_counts : BranchWhat-F ℕ ℕ ℕ ℕ → ℕ
 branch_counts (BranchWhat-F.BranchWhat::Block body) = suc (sum_of body)
 branch_counts (BranchWhat-F.BranchWhat::Call c) = call_size c
 
+-- The size of a statement, given those of the statements and branches inside it. A statement counts one. The second name of an `AssignNext` or a `Get` counts one more, and a handler's variable, too.
 abbrev pub what_counts : What-F ℕ ℕ ℕ ℕ → ℕ
 what_counts (What-F.Declare ty x e) = suc (option_size e)
 what_counts (What-F.Assign x e) = suc (expr_size e)
@@ -57,6 +62,7 @@ what_counts (What-F.Try body x y handler) = suc (sum_of body + (variable_size y 
 what_counts (What-F.Throw x e) = suc (option_size e)
 what_counts (What-F.Par branches) = suc (sum_of branches)
 
+-- The size of what a statement does, with all inside it. The same of a statement and of a branch: `stmt_size`, `branch_size`.
 unfoldable pub what_size : What → ℕ
 what_size = fold-What ℕ ℕ ℕ ℕ branch_counts what_counts (λ b. b.what) (λ s. s.what)
 
@@ -72,6 +78,7 @@ stmts_size body = sum_of (map stmt_size body)
 abbrev pub branches_size : List BranchOf → ℕ
 branches_size branches = sum_of (map branch_size branches)
 
+-- one for the function, one for each parameter and each exception that it throws, and the sizes of its statements
 abbrev pub function_size : Function → ℕ
 function_size f = suc (length f.params + (length f.throws + stmts_size f.body))
 

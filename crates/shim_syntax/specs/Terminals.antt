@@ -14,6 +14,7 @@ use Rattle.shim_base.specs.Tokens.{Token, Place, Fault, Cuts, start, place_after
 use Rattle.shim_syntax.specs.declared.tree.Sort.{Sort as SortOf}
 use Rattle.shim_syntax.specs.declared.tree.Sort.TheVariants.{Value, Input, Output}
 
+-- a token as the grammar has it, or the end of the tokens; each with its place
 pub data Terminal : Type 0 where
   Name : List ℕ → Place → Terminal
   -- a number, `true` or `false`
@@ -44,6 +45,7 @@ of_keyword k.Istream p = Sort Input p
 of_keyword k.Ostream p = Sort Output p
 of_keyword key p = Key key p
 
+-- The terminal of a token, by its kind, bytes and place, as version 1 has it. The same of a whole token: `of_token`.
 abbrev pub of_kind : TokenKind → List ℕ → Place → Terminal
 of_kind Word text p = Name text p
 of_kind (KeyKind key) text p = of_keyword key p
@@ -58,6 +60,7 @@ abbrev pub of_end : Place → Option Fault → Terminal
 of_end end None = End end
 of_end end (Some fault) = Broken fault.kind (record { at = fault.at; line = fault.line })
 
+-- the terminals of the tokens, followed by the last terminal
 abbrev pub of_tokens : List Token → Terminal → List Terminal
 of_tokens [] last = last ∷ []
 of_tokens (t ∷ tokens) last = of_token t ∷ of_tokens tokens last
@@ -66,6 +69,7 @@ of_tokens (t ∷ tokens) last = of_token t ∷ of_tokens tokens last
 abbrev pub new_word : List ℕ
 new_word = codes "int64"
 
+-- The terminal of a word that is no keyword. If `two` holds, the text is of version 2, in which `int64` is a type.
 abbrev pub of_word : Bool → List ℕ → Place → Terminal
 of_word two x p = if two && bytes_eq x new_word then Sort (Value Int64) p else Name x p
 
@@ -93,14 +97,17 @@ abbrev pub first : List Terminal → Terminal
 first [] = End start
 first (t ∷ ts) = t
 
+-- all but the first of them
 abbrev pub rest : List Terminal → List Terminal
 rest [] = []
 rest (t ∷ ts) = ts
 
+-- whether it is the name `shim`
 abbrev pub is_shim : Terminal → Bool
 is_shim (Name x p) = bytes_eq x (codes "shim")
 is_shim _ = false
 
+-- whether it is a number of value 2
 abbrev pub is_two : Terminal → Bool
 is_two (Number n p) = int_eq n (pos 2)
 is_two _ = false
@@ -113,6 +120,7 @@ is_semicolon _ = false
 abbrev pub begins_two : List Terminal → Bool
 begins_two ts = is_shim (first ts) && (is_two (first (rest ts)) && is_semicolon (first (rest (rest ts))))
 
+-- the terminals in the version that their beginning determines
 abbrev pub in_version : List Terminal → List Terminal
 in_version ts = map (of_version (begins_two ts)) ts
 

@@ -8,6 +8,7 @@ use Rattle.shim_tests_small.specs.declared.small.Branch.TheVariants as branch
 use Rattle.shim_tests_small.specs.declared.small.Step.{Step}
 use Rattle.shim_tests_small.specs.declared.small.Step.TheVariants as step
 
+-- the state of a small process
 pub record SmallView : Type 0 where
   pub path : Path
   pub left : List Step
@@ -59,6 +60,7 @@ stop_at s (step.Throw label number ∷ left) = throw_stop label (ltb label (in_f
 stop_at s (step.ThrowTrap label ∷ left) = throw_stop label (ltb label (in_force s))
 stop_at s (step.Trap ∷ left) = at_trap
 
+-- the stop of the process, by the steps that are left
 abbrev pub stop_of : SmallView → StopView
 stop_of s = stop_at s s.left
 
@@ -71,6 +73,7 @@ abbrev pub opened : List Step → List (ℕ × ℕ) → List (ℕ × ℕ)
 opened (step.Try name line ∷ left) places = places ++ (name, line) ∷ []
 opened _ places = places
 
+-- the process after a quiet step, which opens an exception place where the step is a `try`
 abbrev pub quieted : SmallView → SmallView
 quieted s = record s { left = drop 1 s.left; places = opened s.left s.places }
 
@@ -104,6 +107,7 @@ abbrev pub computed : List Step → List Step
 computed (step.ThrowTrap label ∷ left) = step.Trap ∷ left
 computed left = left
 
+-- the process after the number of its throw was computed
 abbrev pub number_computed : SmallView → SmallView
 number_computed s = record s { left = computed s.left }
 
@@ -137,6 +141,7 @@ abbrev pub children_from : SmallView → ℕ → List Branch → List SmallView
 children_from s place [] = []
 children_from s place (b ∷ bs) = child_of s place b ∷ children_from s (place + 1) bs
 
+-- the children of the fork at which the process is, one for each branch
 abbrev pub children_of : SmallView → List SmallView
 children_of s = children_from s 0 (branches s.left)
 
@@ -171,6 +176,7 @@ abbrev pub value_given : ℤ → List SmallView → ℤ
 value_given v [] = v
 value_given v (k ∷ children) = k.value
 
+-- The process with the value of its first child. For `true` it is past the fork.
 abbrev pub joined : SmallView → List SmallView → Bool → SmallView
 joined s children goes_on = record s { value = value_given s.value children; left = if goes_on then drop 1 s.left else s.left }
 
@@ -183,6 +189,7 @@ abbrev pub given_to : Bool → NamedChannel → List NamedChannel
 given_to true c = []
 given_to false c = c ∷ []
 
+-- all functions of a small process's state that a tree asks for
 abbrev pub small_ops : Ops SmallView
 small_ops = record {
   sound = IsSoundSmall;

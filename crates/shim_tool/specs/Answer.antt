@@ -6,27 +6,35 @@ use Rattle.shim_tool.specs.Moments.{FilesAt}
 use Rattle.shim_tool.specs.Modes.{source_action_of, execution, reads_of, source_text}
 use Rattle.shim_tool.specs.Reads.{GrewByOneOf, ReadsAll, FilesResult, all, longer_file, failed_file}
 
+-- the line that is printed where the words ask for no job
 unfoldable pub usage_line : List ℕ
 usage_line = codes "usage: shim MODE FILE [INPUT]... [--input FILE] [--workers N] [--budget B] [--quantum Q] [--size N] [--journal FILE] [--steal]\n"
 
+-- the line that is printed where memory ran out
 unfoldable pub memory_line : List ℕ
 memory_line = codes "no memory\n"
 
+-- `file failed NAME`
 unfoldable pub failed_line : List ℕ → List ℕ
 failed_line name = codes "file failed " ++ (name ++ codes "\n")
 
+-- `file too long NAME LIMIT`
 unfoldable pub longer_line : List ℕ → ℕ → List ℕ
 longer_line name limit = codes "file too long " ++ (name ++ (codes " " ++ (decimal limit ++ codes "\n")))
 
+-- the answer where the words ask for no job
 abbrev pub usage : Answer
 usage = record { status = 2; text = usage_line }
 
+-- the answer where the read of the named file failed
 abbrev pub file_failed : List ℕ → Answer
 file_failed name = record { status = 6; text = failed_line name }
 
+-- the answer where the named file has more bytes than the limit
 abbrev pub file_too_long : List ℕ → ℕ → Answer
 file_too_long name limit = record { status = 6; text = longer_line name limit }
 
+-- the answer where memory ran out
 abbrev pub no_memory : Answer
 no_memory = record { status = 8; text = memory_line }
 

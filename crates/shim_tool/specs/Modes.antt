@@ -48,6 +48,7 @@ journal_readings (Some name) = record { name = name; limit = journal_limit } ∷
 abbrev pub inputs_readings : List (List ℕ) → List FileView
 inputs_readings names = map (λ name. record { name = name; limit = input_limit }) names
 
+-- the file that a job names as FILE, with the limit of a source
 abbrev pub source_reading : Job → FileView
 source_reading job = record { name = job.file; limit = source_limit }
 
@@ -114,9 +115,11 @@ abbrev pub made : Option Kind → ℕ → List ℕ
 made None size = []
 made (Some kind) size = generated kind size
 
+-- the text of the kind that FILE of the job names, of its size; empty where it names none
 abbrev pub made_text : Job → List ℕ
 made_text job = made (kind_named job.file) job.size
 
+-- the text of a job's source by its origin: the content of its file, or the generated text
 abbrev pub text_from : Origin → Job → List ℕ → List ℕ
 text_from Stored job content = content
 text_from Generated job content = made_text job

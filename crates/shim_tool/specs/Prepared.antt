@@ -20,6 +20,7 @@ use Rattle.shim_tool.specs.Reads.{HoldsAll, ReadsAll, OneReadFailed, FilesResult
 use Rattle.shim_tool.specs.Answer.{file_failed, file_too_long, usage}
 use Rattle.shim_tool.specs.Rows.{WasRead}
 
+-- what is prepared for a call: its answer, a run for workers, a run to record, or a run on each of several inputs
 pub data Prepared : Type 0 where
   answered : Answer → Prepared
   to_run : PreparedRun → Prepared
@@ -71,9 +72,11 @@ PreparesRead job (all contents) p = PreparesSource job (beside_in job contents) 
 PreparesRead job (failed_file r) p = p ≡ answered (file_failed r.name)
 PreparesRead job (longer_file r) p = p ≡ answered (file_too_long r.name r.limit)
 
+-- the job's files were read between the two moments, and p is prepared from what the reads gave
 abbrev pub PreparesJob : Job → FilesAt → FilesAt → Prepared → Type 0
 PreparesJob job before now p = (files_read : FilesResult) × ReadsAll (reads_of job) before now files_read × PreparesRead job files_read p
 
+-- The same of what the words ask for. Where they ask for no job no read failed, and the answer is the usage line.
 abbrev pub Prepares : Option Job → FilesAt → FilesAt → Prepared → Type 0
 Prepares None before now p = (now.failed ≡ before.failed) × (p ≡ answered usage)
 Prepares (Some job) before now p = PreparesJob job before now p

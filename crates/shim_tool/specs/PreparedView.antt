@@ -4,6 +4,7 @@ use Rattle.shim_tool.specs.declared.prepared.Prepared.TheVariants.{Answered, ToR
 use Rattle.shim_tool.specs.Prepared.{Prepared, answered, to_run, to_record, to_run_each}
 use Rattle.shim_results.specs.Views.{answer_view}
 
+-- what the code prepared, as the definitions name it
 abbrev pub prepared_view : CodePrepared → Prepared
 prepared_view (Answered answer) = answered (answer_view answer)
 prepared_view (ToRun run) = to_run run

@@ -38,6 +38,7 @@ pub data FilesResult : Type 0 where
   failed_file : FileView → FilesResult
   longer_file : FileView → FilesResult
 
+-- the content before those that the later reads gave, or the file at which these ended
 abbrev pub then_read : List ℕ → FilesResult → FilesResult
 then_read content (all rest) = all (content ∷ rest)
 then_read content (failed_file r) = failed_file r

@@ -31,6 +31,7 @@ ActsAmong o i q before effects after = act_child o i q before ≡ Some (after, e
 abbrev pub acted_on : {S : Type 0} → Ops S → Path → Node S → Option (Acted S)
 acted_on o p root = act_route o root (route (o.path (state root)) p)
 
+-- the process to which the branches of the path lead does its one thing
 abbrev pub ActsOn : {S : Type 0} → Ops S → Path → Node S → Effects → Node S → Type 0
 ActsOn o p before effects after = acted_on o p before ≡ Some (record { node = after; effects = effects })
 

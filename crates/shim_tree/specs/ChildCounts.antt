@@ -15,6 +15,7 @@ live_in (Some (Forked l ks)) = None
 live_in (Some (Ended l)) = None
 live_in (Some (Dead l x)) = None
 
+-- the children that a fork made; none where the process trapped
 abbrev pub forked_children : {S : Type 0} → ForkedView S → List S
 forked_children (Parted l ks) = ks
 forked_children (Trapped l) = []

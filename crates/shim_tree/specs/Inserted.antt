@@ -4,6 +4,7 @@ use Rattle.std.specs.declared.cmp.Ordering.{Ordering}
 use Rattle.std.specs.declared.cmp.Ordering.TheVariants.{Less, Equal, Greater}
 use Rattle.shim_base.specs.Paths.{Channel, channel_order}
 
+-- c before d and the channels cs if it is less, d and cs alone if it is equal, else d before the channels `more`
 abbrev pub put_before : Ordering → Channel → Channel → List Channel → List Channel → List Channel
 put_before Less c d cs more = c ∷ d ∷ cs
 put_before Equal c d cs more = d ∷ cs

@@ -17,10 +17,12 @@ child_in i (Forked l ks) = child_at i [] ks
 child_in i (Ended l) = None
 child_in i (Dead l d) = None
 
+-- how many nodes the list has, without the nodes below them
 abbrev pub how_many_of : {S : Type 0} → Nodes S → ℕ
 how_many_of no_node = 0
 how_many_of (node_and k ks) = suc (how_many_of ks)
 
+-- how many children the process of the node has; only a forked one has any
 abbrev pub child_count : {S : Type 0} → Node S → ℕ
 child_count (Live l) = 0
 child_count (Forked l ks) = how_many_of ks
@@ -57,6 +59,7 @@ lives_of_rest zero ks = all_lives ks
 lives_of_rest (suc i) no_node = []
 lives_of_rest (suc i) (node_and k ks) = lives_of_rest i ks
 
+-- the live processes at and below the children of a node from the place i on
 abbrev pub lives_from : {S : Type 0} → ℕ → Node S → List S
 lives_from i (Live l) = []
 lives_from i (Forked l ks) = lives_of_rest i ks

@@ -7,6 +7,7 @@ use Rattle.shim_tree.specs.NodeRefs.{how_many_of}
 use Rattle.shim_tree.specs.declared.view.ProcessView.{ProcessView}
 use Rattle.shim_tree.specs.declared.view.ProcessView.TheVariants as code
 
+-- a node without the nodes below it
 pub data NodeView (S : Type 0) : Type 0 where
   ViewLive : S → NodeView S
   -- with the number of its fork, and how many children it has
@@ -32,6 +33,7 @@ fork_of o (l ∷ ls) = last_fork (o.path l)
 abbrev pub as_word : ℕ → ℕ
 as_word n = min n 4294967295
 
+-- the view of a node; a forked one has its fork's number and its number of children in 32 bits
 abbrev pub node_view : {S : Type 0} → Ops S → Node S → NodeView S
 node_view o (Live l) = ViewLive l
 node_view o (Forked l ks) = ViewForked l (fork_of o (states ks)) (as_word (how_many_of ks))

@@ -16,10 +16,12 @@ is_stream Output = true
 abbrev pub lends : UParam → Bool
 lends p = p.by_ref || is_stream p.sort
 
+-- the first parameter takes its argument by reference; without parameters none does
 abbrev pub lends_first : List UParam → Bool
 lends_first [] = false
 lends_first (p ∷ ps) = lends p
 
+-- the parameters after the first
 abbrev pub behind_first : List UParam → List UParam
 behind_first [] = []
 behind_first (p ∷ ps) = ps
@@ -28,9 +30,11 @@ abbrev pub params_of : Option RFunction → List UParam
 params_of None = []
 params_of (Some f) = f.params
 
+-- the parameters of function n of the list, and none where the list has no function n
 abbrev pub params_at : List RFunction → ℕ → List UParam
 params_at fs n = params_of (slice_get fs n)
 
+-- the variable that an expression is, where it is one; its operands don't count
 abbrev pub bare_step : UExpr-F (Option ℕ) → Option ℕ
 bare_step (UExpr-F.Var x) = Some x
 bare_step _ = None

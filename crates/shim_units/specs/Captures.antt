@@ -43,10 +43,12 @@ abbrev copied : Bool → Capture
 copied true = Copy
 copied false = Nothing
 
+-- by reference where the truth value is `true`, and else as the other capture
 abbrev pub referred : Bool → Capture → Capture
 referred true other = Reference
 referred false other = other
 
+-- no capture where the text declares the variable itself, and else the given one
 abbrev pub outer : Bool → Capture → Capture
 outer true capture = Nothing
 outer false capture = capture
@@ -55,6 +57,7 @@ outer false capture = capture
 abbrev pub taken_as : Sort → Bool → Bool → Bool → Capture
 taken_as sort declared written named = outer declared (referred (written || (is_stream sort && named)) (copied named))
 
+-- how a variable of that sort is taken, and not at all where there is no sort
 abbrev pub taken_of : Option Sort → Bool → Bool → Bool → Capture
 taken_of None declared written named = Nothing
 taken_of (Some sort) declared written named = taken_as sort declared written named

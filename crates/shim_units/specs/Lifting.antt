@@ -21,10 +21,12 @@ use Rattle.shim_units.specs.Moving.{slot_index_of, slot_index_of_option, slot_in
 
 -- what a function says of its slots and `try` statements, by their numbers
 
+-- the sort, and that of a `bool` where there is none
 abbrev pub sort_or_bool : Option Sort → Sort
 sort_or_bool None = Value ty.Bool
 sort_or_bool (Some sort) = sort
 
+-- the sort of slot x of the function, and that of a `bool` where the function has no slot x
 abbrev pub sort_of : RFunction → ℕ → Sort
 sort_of f x = sort_or_bool (slice_get f.slots x)
 
@@ -32,6 +34,7 @@ abbrev pub number_or_zero : Option ℕ → ℕ
 number_or_zero None = 0
 number_or_zero (Some n) = n
 
+-- the number of the name of slot x of the function, and 0 where the function has no name for it
 abbrev pub name_of : RFunction → ℕ → ℕ
 name_of f x = number_or_zero (slice_get f.slot_names x)
 
@@ -44,6 +47,7 @@ try_name f x = number_or_zero (slice_get f.tries (x - length f.throws))
 abbrev before_rest : {T : Type 0} → Lifted T → Lifted (List T) → Lifted (List T)
 before_rest r q = record { tree = r.tree ∷ q.tree; units = r.units ++ q.units }
 
+-- The parts are lifted in order. Each is given the number of the next unit, after the units that are lifted out of the parts before it.
 abbrev pub lift_all : {T : Type 0} → List (Part T) → Lifts (List T)
 lift_all [] context w n = record { tree = []; units = [] }
 lift_all (p ∷ ps) context w n = before_rest (p.lift context w n) (lift_all ps context w (n + length (p.lift context w n).units))
@@ -52,15 +56,18 @@ lift_all (p ∷ ps) context w n = before_rest (p.lift context w n) (lift_all ps 
 abbrev pub unlifted : {T : Type 0} → T → Lifted T
 unlifted t = record { tree = t; units = [] }
 
+-- a lifted part with its tree changed by g, and with the same units
 abbrev pub on_tree : {S T : Type 0} → (S → T) → Lifted S → Lifted T
 on_tree g r = record { tree = g r.tree; units = r.units }
 
+-- Two parts are lifted in order, and g makes one tree of their trees. The units of the second part are numbered after those of the first.
 abbrev pub lift_two : {R S T : Type 0} → (R → S → T) → Lifts R → Lifts S → Lifts T
 lift_two g f h context w n =
     let r = f context w n in
     let q = h context w (n + length r.units) in
     record { tree = g r.tree q.tree; units = r.units ++ q.units }
 
+-- the same of three parts
 abbrev pub lift_three : {Q R S T : Type 0} → (Q → R → S → T) → Lifts Q → Lifts R → Lifts S → Lifts T
 lift_three g e f h context w n =
     let p = e context w n in
@@ -82,9 +89,11 @@ is_among (y ∷ ys) x = nat_eq y x || is_among ys x
 abbrev pub given_exceptions : List ℕ → List ℕ → List ℕ
 given_exceptions raises exceptions = filter (is_among raises) exceptions
 
+-- the parameter by which a branch's unit takes slot x of the function, by reference where the captures t have it by reference
 abbrev pub branch_param : RFunction → Captures → ℕ → UParam
 branch_param f t x = record { sort = sort_of f x; by_ref = is_reference (t x); name = name_of f x }
 
+-- The argument that gives a branch's unit slot x of the function. The slots are those of the unit around the branch.
 abbrev pub branch_arg : List ℕ → Captures → ℕ → Arg
 branch_arg slots t x = by_mode (is_reference (t x)) (slot_index_of slots x)
 
@@ -126,12 +135,15 @@ branch_unit context n t slots exceptions inner tries body =
 abbrev pub branch_captures : LiftContext → List (Part UStmt) → Captures
 branch_captures context body = captures context.function.slots (all_uses context.functions body)
 
+-- the variables that a block branch takes of the unit around it, by the function's numbers
 abbrev pub branch_slots : LiftContext → List (Part UStmt) → SlotMap → List ℕ
 branch_slots context body w = taken (branch_captures context body) w.slots
 
+-- the exceptions of the unit around it that a block branch throws or passes on, by the function's numbers
 abbrev pub branch_exceptions : List (Part UStmt) → SlotMap → List ℕ
 branch_exceptions body w = given_exceptions (all_raises body) w.exceptions
 
+-- a block branch's variables and exceptions, by the function's numbers: those that it takes of the unit around it, and then its own
 abbrev pub branch_inner : LiftContext → List (Part UStmt) → SlotMap → SlotMap
 branch_inner context body w = branch_slot_map (branch_slots context body w) (all_declares body) (branch_exceptions body w) (all_tries body)
 
@@ -146,10 +158,12 @@ lift_branch body context w n =
 
 -- the kinds of statements and branches
 
+-- A block branch becomes the call of a unit of its own. A call keeps its function, and its arguments and exceptions get the numbers of the unit around it.
 abbrev pub lift_branch_what : {T V : Type 0} → RBranchWhat-F (ℕ → Part V) (ℕ → Part T) (Part UBranch) (Part UStmt) → Lifts UCall
 lift_branch_what (RBranchWhat-F.RBranchWhat::Block body) context w n = lift_branch body context w n
 lift_branch_what (RBranchWhat-F.RBranchWhat::Call c) context w n = unlifted (moved_call context.functions c w)
 
+-- what a statement does, with its unit's numbers of variables and exceptions, and the units that are lifted out of it
 abbrev pub lift_what : {T V : Type 0} → RWhat-F (ℕ → Part V) (ℕ → Part T) (Part UBranch) (Part UStmt) → Lifts UWhat
 lift_what (RWhat-F.Declare ty x e) context w n = unlifted (Declare ty (slot_index_of w.slots x) (moved_option w.slots e))
 lift_what (RWhat-F.Assign x e) context w n = unlifted (Assign (slot_index_of w.slots x) (renumbered w.slots e))

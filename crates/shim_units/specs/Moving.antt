@@ -11,6 +11,7 @@ use Rattle.shim_units.specs.declared.unit.UCall.{UCall}
 use Rattle.shim_units.specs.Calls.{bare, lends_first, behind_first, params_at}
 use Rattle.shim_units.specs.declared.slot_map.SlotMap.{SlotMap}
 
+-- the position, and n where there is none
 abbrev pub position_else : ℕ → Option ℕ → ℕ
 position_else n None = n
 position_else n (Some at) = at
@@ -27,6 +28,7 @@ slot_index_of_option all (Some x) = Some (slot_index_of all x)
 abbrev pub slot_indices_of : List ℕ → List ℕ → List ℕ
 slot_indices_of all xs = map (slot_index_of all) xs
 
+-- an expression over a unit's slots, given its operands over them
 abbrev pub moved_step : List ℕ → UExpr-F UExpr → UExpr
 moved_step slots (UExpr-F.Number n) = Number n
 moved_step slots (UExpr-F.Var x) = Var (slot_index_of slots x)
@@ -37,14 +39,17 @@ moved_step slots (UExpr-F.Binary op a b) = Binary op a b
 unfoldable pub renumbered : List ℕ → UExpr → UExpr
 renumbered slots = fold-UExpr UExpr (moved_step slots)
 
+-- an expression over a unit's slots, where there is one
 abbrev pub moved_option : List ℕ → Option UExpr → Option UExpr
 moved_option slots None = None
 moved_option slots (Some e) = Some (renumbered slots e)
 
+-- the variable x as an argument, by reference where the truth value is `true`, and else by value
 abbrev pub by_mode : Bool → ℕ → Arg
 by_mode true x = Ref x
 by_mode false x = Pass x
 
+-- The argument as a unit has it: a bare variable by the unit's slot, and by reference if it is lent. Any other argument is an expression over the unit's slots.
 abbrev pub arg_of : List ℕ → Bool → Option ℕ → UExpr → Arg
 arg_of slots lent None e = Fresh (renumbered slots e)
 arg_of slots lent (Some x) e = by_mode lent (slot_index_of slots x)

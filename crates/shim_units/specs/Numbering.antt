@@ -18,6 +18,7 @@ what_numbers (UWhat-F.Block body) = total body
 what_numbers (UWhat-F.Try body x y handler) = 1 + total body + total handler
 what_numbers _ = 1
 
+-- how many numbers a statement takes, with those of the statements in it
 abbrev pub size_of : UStmt → ℕ
 size_of = fold-UStmt ℕ ℕ what_numbers (λ s. s.what)
 

@@ -4,10 +4,12 @@ use Rattle.shim_scopes.specs.declared.tree.RWhat.{RWhat-F}
 use Rattle.shim_scopes.specs.declared.tree.RBranchWhat.{RBranchWhat-F}
 use Rattle.shim_units.specs.Parts.{Part, all_raises, all_declares, all_tries}
 
+-- the exceptions that a branch throws or passes on
 abbrev pub branch_what_raises : {S T U V : Type 0} → RBranchWhat-F (ℕ → Part S) (ℕ → Part T) (Part U) (Part V) → List ℕ
 branch_what_raises (RBranchWhat-F.RBranchWhat::Block body) = all_raises body
 branch_what_raises (RBranchWhat-F.RBranchWhat::Call c) = c.throws
 
+-- the exceptions that a statement throws or passes on, with those of its block branches
 abbrev pub what_raises : {S T U V : Type 0} → RWhat-F (ℕ → Part S) (ℕ → Part T) (Part U) (Part V) → List ℕ
 what_raises (RWhat-F.If e first other) = all_raises first ++ all_raises other
 what_raises (RWhat-F.While e body) = all_raises body

@@ -16,6 +16,7 @@ use Rattle.shim_units.specs.Places.{what_places, branch_what_places}
 use Rattle.shim_units.specs.Own.{what_raises, branch_what_raises, what_declares, what_tries}
 use Rattle.shim_units.specs.Lifting.{on_tree, lift_all, lift_what, lift_branch_what}
 
+-- What there is to what a branch in that line does, by what there is to its statements. It declares no variable for the unit around it, and has no `try` there.
 abbrev pub branch_what_step : RBranchWhat-F (ℕ → Part UCall) (ℕ → Part UWhat) (Part UBranch) (Part UStmt) → ℕ → Part UCall
 branch_what_step b line = record {
   uses = λ fs. branch_what_uses fs b;
@@ -26,6 +27,7 @@ branch_what_step b line = record {
   lift = lift_branch_what b;
 }
 
+-- what there is to what a statement in that line does, by what there is to its parts
 abbrev pub what_step : RWhat-F (ℕ → Part UCall) (ℕ → Part UWhat) (Part UBranch) (Part UStmt) → ℕ → Part UWhat
 what_step s line = record {
   uses = λ fs. what_uses fs s;
@@ -47,12 +49,14 @@ in_line g p = record {
   lift = λ context w n. on_tree g (p.lift context w n);
 }
 
+-- What there is to a branch, by what there is to what it does. `stmt_step` is the same of a statement.
 abbrev pub branch_step : RBranch-F (ℕ → Part UCall) (ℕ → Part UWhat) (Part UBranch) (Part UStmt) → Part UBranch
 branch_step b = in_line (λ c. record { line = b.line; call = c }) (b.what b.line)
 
 abbrev pub stmt_step : RStmt-F (ℕ → Part UCall) (ℕ → Part UWhat) (Part UBranch) (Part UStmt) → Part UStmt
 stmt_step s = in_line (λ t. record { line = s.line; what = t }) (s.what s.line)
 
+-- What there is to a statement. `branch_part` is the same of a branch.
 abbrev pub part : RStmt → Part UStmt
 part = fold-RStmt (ℕ → Part UCall) (ℕ → Part UWhat) (Part UBranch) (Part UStmt) branch_what_step what_step branch_step stmt_step
 
@@ -67,20 +71,26 @@ branch_parts branches = map branch_part branches
 
 -- of some statements
 
+-- the uses of variables in the statements, by the functions that may be called
 abbrev pub uses_in : List RFunction → List RStmt → List Use
 uses_in fs body = all_uses fs (parts body)
 
+-- the forks and calls in the statements, for the sharing rule, by the functions that may be called
 abbrev pub places_in : List RFunction → List RStmt → List SharingPlace
 places_in fs body = all_places fs (parts body)
 
+-- the exceptions that the statements throw or pass on
 abbrev pub raises_in : List RStmt → List ℕ
 raises_in body = all_raises (parts body)
 
+-- the variables of declarations and of handlers in the statements, without those in block branches
 abbrev pub declares_in : List RStmt → List ℕ
 declares_in body = all_declares (parts body)
 
+-- the exceptions of the `try` statements in the text of the statements, without those in block branches
 abbrev pub tries_in : List RStmt → List ℕ
 tries_in body = all_tries (parts body)
 
+-- the statements as a unit has them, with the units that are lifted out of them
 abbrev pub lift_in : List RStmt → Lifts (List UStmt)
 lift_in body = lift_all (parts body)

@@ -37,6 +37,7 @@ pub record Part (T : Type 0) : Type 0 where
   pub tries : List ℕ
   pub lift : Lifts T
 
+-- The uses of variables in the parts, in one list, in the order of the parts. `all_places`, `all_raises`, `all_declares` and `all_tries` are the same of the other lists of a part.
 abbrev pub all_uses : {T : Type 0} → List RFunction → List (Part T) → List Use
 all_uses fs [] = []
 all_uses fs (p ∷ ps) = p.uses fs ++ all_uses fs ps

@@ -17,6 +17,7 @@ use Rattle.shim_units.specs.declared.unit.UBranch.{UBranch}
 use Rattle.shim_units.specs.declared.unit.Unit.{Unit as UnitOf}
 use Rattle.shim_units.specs.Numbering.{size_all}
 
+-- the size of an expression, given the sizes of its operands: each number, each variable and each operator counts one
 abbrev pub expr_counts : UExpr-F ℕ → ℕ
 expr_counts (UExpr-F.Number n) = 1
 expr_counts (UExpr-F.Var x) = 1
@@ -26,6 +27,7 @@ expr_counts (UExpr-F.Binary op a b) = suc (a + b)
 unfoldable pub expr_size : UExpr → ℕ
 expr_size = fold-UExpr ℕ expr_counts
 
+-- the size of an expression, and 0 where there is none
 abbrev pub option_size : Option UExpr → ℕ
 option_size None = 0
 option_size (Some e) = expr_size e
@@ -39,12 +41,15 @@ pub record Extent : Type 0 where
   pub forked : ℕ
   pub inside : ℕ
 
+-- the extent of a part of size n that declares no variable and has no fork
 abbrev pub plain : ℕ → Extent
 plain n = record { size = n; own = 0; forked = 0; inside = 0 }
 
+-- the extent of a part of size n that declares one variable and has no fork
 abbrev pub declaration : ℕ → Extent
 declaration n = record { size = n; own = 1; forked = 0; inside = 0 }
 
+-- the extent with n added to its size
 abbrev pub larger : ℕ → Extent → Extent
 larger n e = record { size = n + e.size; own = e.own; forked = e.forked; inside = e.inside }
 
@@ -65,13 +70,16 @@ abbrev pub variable_extent : Option ℕ → Extent
 variable_extent None = plain 0
 variable_extent (Some x) = declaration 1
 
+-- one for the function that is called, and the sizes of the arguments
 abbrev pub call_size : RCall → ℕ
 call_size c = suc (sum_of (map expr_size c.args))
 
+-- the extent of what a branch does, given the extents of its statements
 abbrev pub branch_extents : RBranchWhat-F Extent Extent Extent Extent → Extent
 branch_extents (RBranchWhat-F.RBranchWhat::Block body) = in_own_units (sum_of_all body)
 branch_extents (RBranchWhat-F.RBranchWhat::Call c) = plain (call_size c)
 
+-- the extent of what a statement does, given the extents of its parts
 abbrev pub what_extents : RWhat-F Extent Extent Extent Extent → Extent
 what_extents (RWhat-F.Declare ty x e) = declaration (suc (option_size e))
 what_extents (RWhat-F.Assign x e) = plain (suc (expr_size e))
@@ -89,6 +97,7 @@ what_extents (RWhat-F.Try body x y handler) = larger 1 (sum_of_two (sum_of_all b
 what_extents (RWhat-F.Throw x e) = plain (suc (option_size e))
 what_extents (RWhat-F.Par branches) = in_own_units (sum_of_all branches)
 
+-- The extent of what a branch does. `what_extent`, `branch_extent` and `stmt_extent` are the same of what a statement does, of a branch and of a statement.
 abbrev pub branch_what_extent : RBranchWhat → Extent
 branch_what_extent = fold-RBranchWhat Extent Extent Extent Extent branch_extents what_extents (λ b. b.what) (λ s. s.what)
 
@@ -101,12 +110,15 @@ branch_extent = fold-RBranch Extent Extent Extent Extent branch_extents what_ext
 abbrev pub stmt_extent : RStmt → Extent
 stmt_extent = fold-RStmt Extent Extent Extent Extent branch_extents what_extents (λ b. b.what) (λ s. s.what)
 
+-- the extents of the statements, added up
 abbrev pub extent : List RStmt → Extent
 extent body = sum_of_all (map stmt_extent body)
 
+-- The extents of a fork's branches, added up. The extent of the fork itself is `in_own_units` of them.
 abbrev pub fork_extent : List RBranch → Extent
 fork_extent branches = sum_of_all (map branch_extent branches)
 
+-- one for the function, one for each parameter and each exception in its `throws`, and the size of its body
 abbrev pub function_size : RFunction → ℕ
 function_size f = suc (length f.params + (length f.throws + (extent f.body).size))
 
@@ -115,6 +127,7 @@ functions_size fs = sum_of (map function_size fs)
 
 -- units
 
+-- A variable counts one. An argument that is computed has the size of its expression.
 abbrev pub arg_size : Arg → ℕ
 arg_size (Ref x) = 1
 arg_size (Pass x) = 1
@@ -123,16 +136,20 @@ arg_size (Fresh e) = expr_size e
 abbrev pub args_size : List Arg → ℕ
 args_size args = sum_of (map arg_size args)
 
+-- one for the unit that is called, and the sizes of the arguments
 abbrev pub unit_call_size : UCall → ℕ
 unit_call_size c = suc (args_size c.args)
 
+-- a branch of a fork in a unit has the size of its call
 abbrev pub unit_branch_size : UBranch → ℕ
 unit_branch_size b = unit_call_size b.call
 
+-- one for the variable of a handler, and 0 where it has none
 abbrev pub slot_size : Option ℕ → ℕ
 slot_size None = 0
 slot_size (Some x) = 1
 
+-- the size of what a statement of a unit does, given the sizes of the statements in it
 abbrev pub what_counts : UWhat-F ℕ ℕ → ℕ
 what_counts (UWhat-F.Declare ty x e) = suc (option_size e)
 what_counts (UWhat-F.Assign x e) = suc (expr_size e)
@@ -150,6 +167,7 @@ what_counts (UWhat-F.Try body x y handler) = suc (sum_of body + (slot_size y + s
 what_counts (UWhat-F.Throw x e) = suc (option_size e)
 what_counts (UWhat-F.Par branches) = suc (sum_of (map unit_branch_size branches))
 
+-- The size of what a statement of a unit does. `stmt_size` is the same of the statement.
 abbrev pub what_size : UWhat → ℕ
 what_size = fold-UWhat ℕ ℕ what_counts (λ s. s.what)
 

@@ -9,6 +9,7 @@ use Rattle.shim_units.specs.Parts.{LiftContext}
 use Rattle.shim_units.specs.Lifting.{branch_slot_map, made_unit}
 use Rattle.shim_units.specs.PartFold.{declares_in, tries_in, lift_in}
 
+-- the text, and a question mark where there is none
 abbrev pub text_or_mark : Option (List ℕ) → List ℕ
 text_or_mark None = codes "?"
 text_or_mark (Some text) = text
@@ -17,6 +18,7 @@ text_or_mark (Some text) = text
 abbrev pub name_or_mark : List (List ℕ) → ℕ → List ℕ
 name_or_mark names n = text_or_mark (slice_get names n)
 
+-- the numbers below n, in ascending order
 abbrev pub upto : ℕ → List ℕ
 upto zero = []
 upto (suc n) = upto n ++ n ∷ []
@@ -30,6 +32,7 @@ pub record LiftedFunction : Type 0 where
   pub own : UnitOf
   pub lifted : List UnitOf
 
+-- A function as a unit, with the units that are lifted out of it. The function has that number. The first of the lifted units, if there is one, has the number `next`.
 abbrev pub lift_function : List (List ℕ) → List RFunction → ℕ → ℕ → RFunction → LiftedFunction
 lift_function names all number next f =
     let context : LiftContext = record { functions = all; function = f; number = number; name = name_or_mark names f.name; first = next } in
@@ -50,6 +53,7 @@ lift_functions names all number next (f ∷ fs) =
     let rest = lift_functions names all (number + 1) (next + length r.lifted) fs in
     record { own = r.own ∷ rest.own; lifted = r.lifted ++ rest.lifted }
 
+-- the exceptions in the `throws` of a function, and none where there is no function
 abbrev pub throws_of : Option RFunction → List ℕ
 throws_of None = []
 throws_of (Some f) = f.throws

@@ -12,6 +12,7 @@ use Rattle.shim_units.specs.Captures.{Captures, captures, declares_variable, wri
 abbrev pub usage_of : List Use → ℕ → Usage
 usage_of us x = record { declared = declares_variable us x; written = writes us x; named = names us x }
 
+-- the usage with one more use of the variable, in that way
 abbrev pub with_use : Usage → How → Usage
 with_use m how = record { declared = m.declared || is_declared how; written = m.written || is_written how; named = true }
 
@@ -28,6 +29,7 @@ or_nothing (Some t) = t
 abbrev pub captures_of : List Capture → Captures
 captures_of ts x = or_nothing (slice_get ts x)
 
+-- how a variable of that sort and usage is taken, and not at all where either is missing
 abbrev pub taken_with : Option Sort → Option Usage → Capture
 taken_with None m = Nothing
 taken_with (Some sort) None = Nothing

@@ -12,9 +12,11 @@ use Rattle.shim_units.specs.declared.found.Use.{Use}
 use Rattle.shim_units.specs.Parts.{Part, all_uses}
 use Rattle.shim_units.specs.Calls.{bare, lends_first, behind_first, params_at}
 
+-- a use of the variable with slot x, in that way
 abbrev pub used : How → ℕ → Use
 used how x = record { slot = x; how = how }
 
+-- the uses in an expression, given those in its operands: a variable is one use, in which it is named
 abbrev pub names_step : UExpr-F (List Use) → List Use
 names_step (UExpr-F.Number n) = []
 names_step (UExpr-F.Var x) = used Named x ∷ []
@@ -25,6 +27,7 @@ names_step (UExpr-F.Binary op a b) = a ++ b
 unfoldable pub names_in : UExpr → List Use
 names_in = fold-UExpr (List Use) names_step
 
+-- the uses in an expression, and none where there is no expression
 abbrev pub names_in_option : Option UExpr → List Use
 names_in_option None = []
 names_in_option (Some e) = names_in e
@@ -34,14 +37,17 @@ abbrev pub lent_uses : Option ℕ → List Use → List Use
 lent_uses None named = named
 lent_uses (Some x) named = used Written x ∷ []
 
+-- the uses in an argument, whose parameter takes it by reference where the truth value is `true`
 abbrev pub arg_uses : Bool → UExpr → List Use
 arg_uses true e = lent_uses (bare e) (names_in e)
 arg_uses false e = names_in e
 
+-- The uses in the arguments of a call, each by its parameter. An argument without a parameter counts as given by value.
 abbrev pub args_uses : List UParam → List UExpr → List Use
 args_uses ps [] = []
 args_uses ps (e ∷ es) = arg_uses (lends_first ps) e ++ args_uses (behind_first ps) es
 
+-- the uses in the arguments of a call, by the parameters of the called function
 abbrev pub call_uses : List RFunction → RCall → List Use
 call_uses fs c = args_uses (params_at fs c.function) c.args
 
@@ -50,10 +56,12 @@ abbrev pub variable_uses : Option ℕ → List Use
 variable_uses None = []
 variable_uses (Some x) = used Declared x ∷ []
 
+-- the uses of variables in what a branch does
 abbrev pub branch_what_uses : {S T U V : Type 0} → List RFunction → RBranchWhat-F (ℕ → Part S) (ℕ → Part T) (Part U) (Part V) → List Use
 branch_what_uses fs (RBranchWhat-F.RBranchWhat::Block body) = all_uses fs body
 branch_what_uses fs (RBranchWhat-F.RBranchWhat::Call c) = call_uses fs c
 
+-- the uses of variables in what a statement does, with those in its blocks and branches
 abbrev pub what_uses : {S T U V : Type 0} → List RFunction → RWhat-F (ℕ → Part S) (ℕ → Part T) (Part U) (Part V) → List Use
 what_uses fs (RWhat-F.Declare ty x e) = used Declared x ∷ names_in_option e
 what_uses fs (RWhat-F.Assign x e) = used Written x ∷ names_in e

@@ -17,6 +17,7 @@ use Rattle.shim_syntax.specs.declared.tree.BranchWhat.TheVariants as br
 abbrev pub Renaming : Type 0
 Renaming = List ℕ → List ℕ
 
+-- the expression of renamed parts, with a variable of its own renamed
 abbrev pub rename_expr_step : Renaming → Expr-F Expr → Expr
 rename_expr_step f (Expr-F.Number n) = e.Number n
 rename_expr_step f (Expr-F.Var x) = e.Var (f x)
@@ -38,10 +39,12 @@ renamed_variable f (Some x) = Some (f x)
 abbrev pub renamed_call : Renaming → Call → Call
 renamed_call f c = record { function = f c.function; args = map (renamed_expr f) c.args }
 
+-- what a branch does, of renamed parts: a call of its own is renamed
 abbrev pub rename_branch_what_step : Renaming → BranchWhat-F BranchWhat What Branch Stmt → BranchWhat
 rename_branch_what_step f (BranchWhat-F.BranchWhat::Block body) = br.Block body
 rename_branch_what_step f (BranchWhat-F.BranchWhat::Call c) = br.Call (renamed_call f c)
 
+-- what a statement does, of renamed parts: identifiers, expressions and a call of its own are renamed
 abbrev pub rename_what_step : Renaming → What-F BranchWhat What Branch Stmt → What
 rename_what_step f (What-F.Declare ty x a) = st.Declare ty (f x) (renamed_option f a)
 rename_what_step f (What-F.Assign x a) = st.Assign (f x) (renamed_expr f a)
@@ -59,9 +62,11 @@ rename_what_step f (What-F.Try body x y handler) = st.Try body (f x) (renamed_va
 rename_what_step f (What-F.Throw x a) = st.Throw (f x) (renamed_option f a)
 rename_what_step f (What-F.Par branches) = st.Par branches
 
+-- the branch of renamed parts, which has no identifier of its own
 abbrev pub rename_branch_step : Branch-F BranchWhat What Branch Stmt → Branch
 rename_branch_step b = record { line = b.line; what = b.what }
 
+-- the statement of renamed parts, which has no identifier of its own
 abbrev pub rename_stmt_step : Stmt-F BranchWhat What Branch Stmt → Stmt
 rename_stmt_step s = record { line = s.line; what = s.what }
 
@@ -92,5 +97,6 @@ renamed_function f g = record {
 abbrev pub renamed_functions : Renaming → List Function → List Function
 renamed_functions f fs = map (renamed_function f) fs
 
+-- the program with each identifier replaced, those of functions and exceptions, too
 abbrev pub renamed : Renaming → Program → Program
 renamed f p = record { version = p.version; functions = renamed_functions f p.functions }

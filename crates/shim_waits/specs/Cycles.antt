@@ -53,6 +53,7 @@ abbrev pub passed_since : Path → List Path → List Path → List Path
 passed_since p [] more = more
 passed_since p (q ∷ qs) more = cond (same_path q p) (q ∷ more) (passed_since p qs (q ∷ more))
 
+-- f of the path, if there is one, else no path
 abbrev pub from_some : (Path → List Path) → Option Path → List Path
 from_some f None = []
 from_some f (Some q) = f q
@@ -68,6 +69,7 @@ lesser_by Less p q = p
 lesser_by Equal p q = p
 lesser_by Greater p q = q
 
+-- the least of p and the paths of the list
 abbrev pub least_of : Path → List Path → Path
 least_of p [] = p
 least_of p (q ∷ qs) = lesser_by (path_order p (least_of q qs)) p (least_of q qs)
@@ -82,6 +84,7 @@ abbrev pub from_least : List Path → List Path
 from_least [] = []
 from_least (p ∷ ps) = turned_to (least_of p ps) [] (p ∷ ps)
 
+-- the ring that is reached from the path, if there is one, by at most as many waits as the list has
 abbrev pub ring_from : List Wait → Option Path → List Path
 ring_from ws None = []
 ring_from ws (Some p) = ring (length ws) ws [] p

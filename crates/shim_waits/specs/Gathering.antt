@@ -46,14 +46,17 @@ abbrev pub wait_to : {S : Type 0} → Ops S → S → NamedChannel → Holder �
 wait_to o l c h b None = None
 wait_to o l c h b (Some d) = Some (record { path = o.path l; chan = c; holder = h.path; by = o.path b; at = d }, h.number)
 
+-- the wait of l at c by the holder h and the process b, if there is b and it waits at a channel
 abbrev pub wait_on : {S : Type 0} → Ops S → S → NamedChannel → Holder → Option S → Option (Wait × ℕ)
 wait_on o l c h None = None
 wait_on o l c h (Some b) = wait_to o l c h b (next_channel (o.stop b))
 
+-- the same by the kept holder, if there is one, and the live process of its number
 abbrev pub wait_by_holder : {S : Type 0} → Ops S → List S → S → NamedChannel → Option Holder → Option (Wait × ℕ)
 wait_by_holder o lives l c None = None
 wait_by_holder o lives l c (Some h) = wait_on o l c h (slice_get lives h.number)
 
+-- the same at the channel, if there is one, by the holder that is kept for it
 abbrev pub numbered_wait_at : {S : Type 0} → Ops S → List S → BTreeMap NamedChannel Holder → S → Option NamedChannel → Option (Wait × ℕ)
 numbered_wait_at o lives holders l None = None
 numbered_wait_at o lives holders l (Some c) = wait_by_holder o lives l c (holder_in holders c.channel)

@@ -36,6 +36,7 @@ abbrev pub PathsAscend : List Path → Type 0
 PathsAscend [] = Unit {0}
 PathsAscend (p ∷ ps) = AllOf (λ q. path_order p q ≡ Less) ps × PathsAscend ps
 
+-- What holds of the explanation of a blocked tree: each live process has one wait, by another process. One cycle is reached from the first wait.
 pub record BlockedIsExplained {S : Type 0} (o : Ops S) : Type 0 where
   pub held_up : (t : Tree S) (l : S) → IsBlockedTree o t → IsAmong l (lives t.root) → IsHeldUp o t.root l
   -- so each has one wait, and these are in the order of paths

@@ -13,6 +13,7 @@ abbrev pub numbers_since : ℕ → List ℕ → List ℕ → List ℕ
 numbers_since i [] more = more
 numbers_since i (j ∷ js) more = cond (eqb j i) (j ∷ more) (numbers_since i js (j ∷ more))
 
+-- f of the number, if there is one, else no number
 abbrev pub from_number : (ℕ → List ℕ) → Option ℕ → List ℕ
 from_number f None = []
 from_number f (Some i) = f i

@@ -33,14 +33,17 @@ abbrev pub wait_by : Path → NamedChannel → Path → Path → Option NamedCha
 wait_by p c f b None = None
 wait_by p c f b (Some d) = Some (record { path = p; chan = c; holder = f; by = b; at = d })
 
+-- the wait of the process p at the channel c by the process f and the live process b, if there is b and it waits
 abbrev pub wait_through : {S : Type 0} → Ops S → Path → NamedChannel → Path → Option S → Option Wait
 wait_through o p c f None = None
 wait_through o p c f (Some b) = wait_by p c f (o.path b) (next_channel (o.stop b))
 
+-- the same by the process of the node f, if there is one, and the leftmost live process at or below it
 abbrev pub wait_held : {S : Type 0} → Ops S → Path → NamedChannel → Option (Node S) → Option Wait
 wait_held o p c None = None
 wait_held o p c (Some f) = wait_through o p c (o.path (state f)) (head (lives f))
 
+-- the same at the channel, if there is one, by the first process that holds it up
 abbrev pub wait_at_next : {S : Type 0} → Ops S → Node S → Path → Option NamedChannel → Option Wait
 wait_at_next o root p None = None
 wait_at_next o root p (Some c) = wait_held o p c (first_of (holds_up o c.channel) root)

@@ -6,6 +6,7 @@ use Rattle.shim_walk.specs.declared.action.Action.TheVariants.{Go, Store, StoreF
 use Rattle.shim_walk_frames.specs.Turns.{successor_of}
 use Rattle.shim_locations.specs.Given.{arguments_of}
 
+-- the action of the same name in the definition of a process
 abbrev pub action_of : Action → ActionOf
 action_of (Go successor) = action.Go (successor_of successor)
 action_of (Store x v) = action.Store x v

@@ -7,6 +7,7 @@ use Rattle.shim_process.specs.Steps.{half, stored_in}
 use Rattle.shim_walk.specs.declared.receiver.Receiver.{Receiver}
 use Rattle.shim_walk.specs.declared.receiver.Receiver.TheVariants.{Whole, First, Nothing}
 
+-- The value is stored in the slot's location. Then the whole statement is done, or its first part. Where there is nothing to receive, nothing changes.
 abbrev pub received : Receiver → ℤ → LocalState → LocalState
 received (Whole x) v l = gone On (stored_in x v l)
 received (First x) v l = record (stored_in x v l) { frame = half l.frame }

@@ -8,6 +8,7 @@ use Rattle.shim_walk.specs.declared.next_action.StatementContext.{StatementConte
 abbrev pub exceptions_of : List Handler → List ℕ
 exceptions_of places = map (λ p. p.exception) places
 
+-- the view of a statement with the values that the code hands on
 abbrev pub context_view : StatementContext → StatementView
 context_view c = record {
   locations = c.locations.now;

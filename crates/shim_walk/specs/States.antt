@@ -9,6 +9,7 @@ use Rattle.shim_walk.specs.declared.trapped_at.TrappedAt.{TrappedAt as CodeTrapp
 use Rattle.shim_walk_frames.specs.FrameViews.{FrameView}
 use Rattle.shim_walk_frames.specs.Depths.{shown}
 
+-- the trap and the line that the code keeps, in the definition's form
 abbrev pub trapped_at_of : Option CodeTrappedAt → Option TrappedAt
 trapped_at_of None = None
 trapped_at_of (Some s) = Some (record { kind = s.kind; line = s.line })

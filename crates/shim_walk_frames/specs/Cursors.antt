@@ -27,6 +27,7 @@ IsRightCursor body (Some f) at = IsCursor body f at
 abbrev pub HasOwnCursor : List UnitOf → FrameView → Type 0
 HasOwnCursor units s = IsRightCursor (unit_stmts units s.unit) s.cursor s.at
 
+-- none of the frames has a cursor but its own
 abbrev pub AllHaveOwnCursors : List UnitOf → List FrameView → Type 0
 AllHaveOwnCursors units [] = Unit {0}
 AllHaveOwnCursors units (s ∷ ss) = HasOwnCursor units s × AllHaveOwnCursors units ss

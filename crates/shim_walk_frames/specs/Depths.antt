@@ -17,17 +17,20 @@ unit_stmts units n = (unit_or (slice_get units n)).body
 abbrev pub shown : List UnitOf → FrameView → Frame
 shown units s = frame_of (unit_stmts units s.unit) s
 
+-- the part of a process's state that a return changes
 pub record Depth : Type 0 where
   pub frame : Frame
   pub callers : List Frame
   pub locations : Locations
 
+-- the frames and the locations after returns from the innermost frame, as long as nothing is left to do in it
 abbrev pub returned : List Frame → Frame → Locations → Depth
 returned [] f locations = record { frame = f; callers = []; locations = locations }
 returned (caller ∷ callers) f locations =
     if is_over f.todo then returned callers (went On caller) (take f.floor locations)
     else record { frame = f; callers = caller ∷ callers; locations = locations }
 
+-- the frames and the locations of a process whose innermost frame and callers are given as views
 abbrev pub depth_of : List UnitOf → FrameView → List FrameView → Locations → Depth
 depth_of units top callers locations = record { frame = shown units top; callers = map (shown units) callers; locations = locations }
 

@@ -6,6 +6,7 @@ use Rattle.shim_walk_frames.specs.declared.handler.Handler.{Handler}
 use Rattle.shim_walk_frames.specs.declared.cursor.Cursor.{Cursor}
 use Rattle.shim_walk_frames.specs.Pieces.{left_all}
 
+-- a frame with numbers in the text of its unit in place of what is still to do
 pub record FrameView : Type 0 where
   pub unit : ℕ
   -- the number of the statement at which it stands

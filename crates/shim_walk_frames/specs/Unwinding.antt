@@ -15,10 +15,12 @@ abbrev pub taking_in : Option HandlerVariable → ℤ → List ℕ → Locations
 taking_in None v slots locations = locations
 taking_in (Some y) v slots locations = slice_set locations (number_of slots y.slot) (Some (caught_location y.channel v))
 
+-- the locations after the variable of the place's handler, where there are both, got the number
 abbrev pub catching_in : Option ExceptionPlace → ℤ → Frame → Locations → Locations
 catching_in None v f locations = locations
 catching_in (Some p) v f locations = taking_in p.variable v f.slots locations
 
+-- the frames and the locations after a throw to exception place n with the number v
 abbrev pub unwound_in : List Frame → Frame → ℕ → ℤ → Locations → Depth
 unwound_in [] f n v locations = returned [] (handling (slice_get f.places (n - f.outer)) (n - f.outer) f) (catching_in (slice_get f.places (n - f.outer)) v f locations)
 unwound_in (caller ∷ callers) f n v locations =
@@ -44,10 +46,12 @@ abbrev pub variable_of : Option Handler → Option HandlerVariable
 variable_of None = None
 variable_of (Some a) = a.variable
 
+-- exception place n of those of the frames, which are counted from the outermost; the first frame is the innermost
 abbrev pub handler_in : FrameView → ℕ → List FrameView → Option Handler
 handler_in s n [] = slice_get s.places (n - s.outer)
 handler_in s n (caller ∷ callers) = if nat_lt n s.outer then handler_in caller n callers else slice_get s.places (n - s.outer)
 
+-- the name and the line of a handler's `try`, or 0 for both where there is no handler
 abbrev pub name_and_line_of : Option Handler → ℕ × ℕ
 name_and_line_of None = (0, 0)
 name_and_line_of (Some a) = (a.name, a.line)

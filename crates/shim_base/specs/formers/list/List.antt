@@ -24,6 +24,7 @@ use Rattle.shim_base.specs.contracts.list.List.TheInside as inside
 abbrev pub the_former : Former {0} → Former {0}
 the_former g = former.list g
 
+-- the elements of a list, in their order: the list itself
 abbrev pub the_items : (X : Type 0) → ListOf X → ListOf X
 the_items X xs = xs
 
