@@ -25,6 +25,7 @@ pub record ModeRow : Type 0 where
   -- what is done with a source that is accepted
   pub task : Task
 
+-- the row of each mode
 abbrev pub row_of : Mode → ModeRow
 row_of Run = record { word = codes "run"; origin = Stored; beside = Input; task = Runs InSomeOrder Report }
 row_of Reference = record { word = codes "ref"; origin = Stored; beside = Input; task = Runs ByFirstEvents Report }
@@ -41,6 +42,7 @@ row_of Batch = record { word = codes "batch"; origin = Stored; beside = Inputs; 
 abbrev pub row_view : CodeModeRow → ModeRow
 row_view row = record { word = row.word.now; origin = row.origin; beside = row.beside; task = row.task }
 
+-- all modes, in the order of their table
 abbrev pub modes : List Mode
 modes = Run ∷ Reference ∷ Check ∷ Code ∷ Gen ∷ Up ∷ Trace ∷ Replay ∷ Why ∷ Batch ∷ []
 

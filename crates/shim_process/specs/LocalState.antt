@@ -99,7 +99,7 @@ location_of locations slots x = at_number locations (number_of slots x)
 abbrev pub env_of : Locations → List ℕ → Env
 env_of locations slots x = location_value (location_of locations slots x)
 
--- the type of a variable; that of a stream is never asked for
+-- the type of a variable of this sort; `int32` is given for a stream, of which no type is asked for
 abbrev pub type_of : Sort → Ty
 type_of (sort.Value t) = t
 type_of sort.Input = ty.Int32

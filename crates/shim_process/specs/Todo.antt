@@ -28,7 +28,7 @@ what_items (UWhat-F.Block body) s n = items_of body n
 what_items (UWhat-F.For first test step body) s n = items_of first n ++ Do (n + whole_size first) s ∷ []
 what_items _ s n = Do n s ∷ []
 
--- what is to be done for a statement
+-- the items of a statement, from its number: `what_items` over the items of its parts
 abbrev pub items : UStmt → ItemsFrom
 items = para-UStmt (UStmt → ItemsFrom) ItemsFrom what_items (λ s. s.what.1 (record { line = s.line; what = s.what.0 }))
 

@@ -56,7 +56,7 @@ status_of_outcome Spent = 4
 abbrev pub status_of : Execution → ℕ
 status_of x = status_of_outcome (end_of x).outcome
 
--- a status for how runs ended: below those of what was never run, and not that of words that ask for nothing
+-- a status of a run's end: 0, 1, 3 or 4
 abbrev pub IsEndStatus : ℕ → Type 0
 IsEndStatus status = (status < 5) × (status ≡ 2 → ⊥)
 

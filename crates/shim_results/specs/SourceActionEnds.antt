@@ -25,7 +25,7 @@ IsRefusedBy records asked line = ⊥
 IsRefusedBy (replays journal) asked line = IsJournalRefused asked.source asked.input journal line
 IsRefusedBy (runs_each names inputs) asked line = ⊥
 
--- The status for how the meaning of x ended. A source that is described has 0. A source that is run on several inputs has no one execution, so `IsRunBy` gives no x for which its 0 is used.
+-- The status for how the meaning of x ended; 0 for a source that is described. Of a source that is run on several inputs the 0 means nothing: `Batches` has its status.
 abbrev pub status_by : SourceAction → Execution → ℕ
 status_by (runs course shown) x = status_of x
 status_by (describes relation) x = 0

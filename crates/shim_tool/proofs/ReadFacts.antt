@@ -3,7 +3,7 @@ use Rattle.std.proofs.Common.{ℕ, ◌≡◌, ◌<◌, ◌≤◌, ◌++◌, List
 use Rattle.shim_edge.specs.Files.{file_of, HasFile}
 use Rattle.shim_tool.specs.Moments.{FilesAt, KeepsFiles}
 use Rattle.shim_tool.specs.Modes.{FileView}
-use Rattle.shim_tool.specs.Reads.{AreContents, ComesToRead, GrewByOneOf, Holds, HoldsAll, HoldsUpTo, IsContent, IsTooLong, ReadsAll, OneReadFailed, ReadFailed, FilesResult, all, longer_file, then_read, failed_file, longer, unread, whole, KnownFiles}
+use Rattle.shim_tool.specs.Reads.{AreContents, ComesToRead, GrewByOneOf, Holds, HoldsAll, HoldsUpTo, IsContent, IsTooLong, ReadsAll, OneReadFailed, ReadFailed, FilesResult, IsMissing, all, longer_file, then_read, failed_file, longer, unread, whole, KnownFiles}
 
 -- the bytes that were read are those that the files hold
 held_bytes : (held : KnownFiles) (r : FileView) (bytes content : List ℕ) → Holds held r.name content → IsContent r held bytes → bytes ≡ content
@@ -110,6 +110,36 @@ one_too_long held (x ∷ xs) q r bytes (inl is) h over (inr (b, content, comes))
     absurd (omega (arith, its.0, size, over))
 one_too_long held (x ∷ xs) q r bytes (inr (c, holds, within, up)) h over (inl its) long = absurd (not_too_long held x c holds within (subst (λ (y : FileView). IsTooLong y held) its long))
 one_too_long held (x ∷ xs) q r bytes (inr (c, holds, within, up)) h over (inr (b, content, comes)) long = one_too_long held xs q r bytes up h over comes long
+
+-- a file that isn't there has no content that was read
+missing_unread : (held : KnownFiles) (r : FileView) (bytes : List ℕ) → IsMissing held r.name → IsContent r held bytes → ⊥
+missing_unread held r bytes m is = agree held m.known is.1 where
+  agree : (o : KnownFiles) → o ≡ Some m.files → IfSome o (λ files. file_of files r.name ≡ Some bytes) → ⊥
+  agree None e c = absurd (cc)
+  agree (Some files) e c = let f : file_of files r.name ≡ None = ap (λ (l : List (List ℕ × List ℕ)). file_of l r.name) (let g : files ≡ m.files = cc in g) ∙ m.absent in absurd (cc)
+
+missing_not_long : (held : KnownFiles) (r : FileView) → IsMissing held r.name → IsTooLong r held → ⊥
+missing_not_long held r m long = agree held m.known long where
+  agree : (o : KnownFiles) → o ≡ Some m.files → IfSome o (λ files. IsSomeAnd (file_of files r.name) (λ bytes. r.limit < length bytes)) → ⊥
+  agree None e c = absurd (cc)
+  agree (Some files) e c =
+      let f : file_of files r.name ≡ None = ap (λ (l : List (List ℕ × List ℕ)). file_of l r.name) (let g : files ≡ m.files = cc in g) ∙ m.absent in
+      let P : Option (List ℕ) → Type 0 = λ o. IsSomeAnd o (λ bytes. r.limit < length bytes) in subst P f c
+
+-- where a file isn't there, with those before it held, not all were read
+pub not_all_there : (held : KnownFiles) (rs : List FileView) (read : List (List ℕ)) (r : FileView) → HoldsUpTo held rs r → IsMissing held r.name → AreContents held rs read → ⊥
+not_all_there held [] read r up m are = up
+not_all_there held (x ∷ xs) [] r up m are = are
+not_all_there held (x ∷ xs) (b ∷ bs) r (inl is) m (content, are) = missing_unread held r b m (subst (λ (q : FileView). IsContent q held b) (sym is) content)
+not_all_there held (x ∷ xs) (b ∷ bs) r (inr (c, holds, within, up)) m (content, are) = not_all_there held xs bs r up m are
+
+-- nor was one found too long
+pub none_long_there : (held : KnownFiles) (rs : List FileView) (q r : FileView) → HoldsUpTo held rs r → IsMissing held r.name → ComesToRead held rs q → IsTooLong q held → ⊥
+none_long_there held [] q r up m comes long = up
+none_long_there held (x ∷ xs) q r (inl is) m (inl its) long = missing_not_long held r m (subst (λ (y : FileView). IsTooLong y held) (its ∙ sym is) long)
+none_long_there held (x ∷ xs) q r (inl is) m (inr (b, content, comes)) long = missing_unread held r b m (subst (λ (y : FileView). IsContent y held b) (sym is) content)
+none_long_there held (x ∷ xs) q r (inr (c, holds, within, up)) m (inl its) long = not_too_long held x c holds within (subst (λ (y : FileView). IsTooLong y held) its long)
+none_long_there held (x ∷ xs) q r (inr (c, holds, within, up)) m (inr (b, content, comes)) long = none_long_there held xs q r up m comes long
 
 -- where a read failed its name was added, and else the names are as they were
 grew_later : (r : FileView) (rs : List FileView) (before between now : FilesAt) → between.failed ≡ before.failed → GrewByOneOf rs between now → GrewByOneOf (r ∷ rs) before now

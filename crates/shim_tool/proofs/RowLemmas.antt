@@ -29,12 +29,12 @@ use Rattle.shim_results.proofs.SourceSlots.{source_uses_own_slots}
 use Rattle.shim_results.proofs.Statuses.{each_status}
 use Rattle.shim_tool.specs.Moments.{FilesAt, SinkAt}
 use Rattle.shim_tool.specs.Modes.{FileView, beside_in, source_action_of, execution, executions, inputs_in, reads_of, source_text, IsBatch, IsExecution}
-use Rattle.shim_tool.specs.Reads.{AreContents, HoldsAll, HoldsUpTo, Holds, OneReadFailed, FilesResult, all, longer_file, failed_file}
+use Rattle.shim_tool.specs.Reads.{AreContents, HoldsAll, HoldsUpTo, Holds, IsMissing, OneReadFailed, FilesResult, all, longer_file, failed_file}
 use Rattle.shim_tool.specs.Answer.{Answers, AnswersRead, FailedGrew, MayAnswer, longer_line, memory_line, usage_line}
 use Rattle.shim_tool.specs.Call.{Ran, Writes}
 use Rattle.shim_tool.specs.Rows.{Printed, PrintedWithText, PrintedOrFailed, PrintedUnlessUnread, WasRead, PrintedStopped, EndRow, SpentRow, CountRow, BeginningRow, IsBatchAsked, IsEndOfOne, PrintedOfEach, BatchRow, RefusedRow, FileCause, FileRow, SinkRow, MemoryRow, WordsRow, JournalRow, FilesRow, IsComplete, IsJobRefused}
 use Rattle.shim_tool.proofs.Batches.{batch_inputs}
-use Rattle.shim_tool.proofs.ReadFacts.{ReadsGave, reads_grew, reads_gave, same_contents, none_failed, none_too_long, not_all_read, one_too_long}
+use Rattle.shim_tool.proofs.ReadFacts.{ReadsGave, reads_grew, reads_gave, same_contents, none_failed, none_long_there, none_too_long, not_all_read, not_all_there, one_too_long}
 
 -- What came of an answer: it was written, or memory was wanted, or the sink failed.
 pub data Wrote (ask : Option Job) (before now : FilesAt) (ob on : SinkAt) (result : ℕ) : Type 0 where
@@ -537,6 +537,7 @@ pub file_row : (ask : Option Job) (before now : FilesAt) (ob on : SinkAt) (resul
 file_row ask before now ob on result ran = record {
   only = λ six. by_wrote ask (wrote ask before now ob on result ran) six;
   when = λ job r bytes asks up h over. when job r bytes up h over (ran_job ask job before now ob on result ran asks);
+  missing = λ job r asks up m. missing job r up m (ran_job ask job before now ob on result ran asks);
 } where
   by_source : (job : Job) (contents : List (List ℕ)) (answer : Answer) → OutcomeOf job contents answer → Printed answer.status answer.text ob on result → result ≡ 6 → FileCause (Some job) before now ob on
   by_source job contents answer (does source has done only free) printed six = absurd (action_no_fault 6 (omega arith) (omega arith) answer.status (does_status job contents source answer has done) (sym printed.0 ∙ six))
@@ -568,6 +569,18 @@ file_row ask before now ob on result ran = record {
   when job r bytes up h over (answered answer (files_read, reads_all, is) printed) = when_saw job r bytes answer files_read up h over (reads_gave (reads_of job) before now files_read reads_all) is printed
   when job r bytes up h over (lacked printed) = inl (inr (inr printed.0))
   when job r bytes up h over (failed answer may is rose part) = inl (inr (inl is))
+
+  missing_saw : (job : Job) (r : FileView) (answer : Answer) (files_read : FilesResult) → HoldsUpTo before.held (reads_of job) r → IsMissing before.held r.name → ReadsGave (reads_of job) before now files_read
+      → AnswersRead job files_read answer → Printed answer.status answer.text ob on result → ((result ≡ 6) × OneReadFailed (reads_of job) before now) ⊎ (result ≡ 7) ⊎ (result ≡ 8)
+  missing_saw job r answer (all contents) up m (are, same) is printed = absurd (not_all_there before.held (reads_of job) contents r up m are)
+  missing_saw job r answer (failed_file q) up m (comes, read) is printed = inl (printed.0 ∙ ap (λ (a : Answer). a.status) is, (q, comes, read))
+  missing_saw job r answer (longer_file q) up m (comes, same, long) is printed = absurd (none_long_there before.held (reads_of job) q r up m comes long)
+
+  missing : (job : Job) (r : FileView) → HoldsUpTo before.held (reads_of job) r → IsMissing before.held r.name → Wrote (Some job) before now ob on result
+      → ((result ≡ 6) × OneReadFailed (reads_of job) before now) ⊎ (result ≡ 7) ⊎ (result ≡ 8)
+  missing job r up m (answered answer (files_read, reads_all, is) printed) = missing_saw job r answer files_read up m (reads_gave (reads_of job) before now files_read reads_all) is printed
+  missing job r up m (lacked printed) = inr (inr printed.0)
+  missing job r up m (failed answer may is rose part) = inr (inl is)
 
 -- an answer to a job has neither the status for memory that ran out nor that of a sink that failed
 answers_no_fault : (fault : ℕ) → 7 ≤ fault → fault ≤ 8 → (ask : Option Job) (before now : FilesAt) (answer : Answer) → Answers ask before now answer → answer.status ≡ fault → ⊥

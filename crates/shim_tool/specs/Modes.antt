@@ -73,7 +73,7 @@ abbrev pub first_content : List (List ℕ) → List ℕ
 first_content [] = []
 first_content (content ∷ rest) = content
 
--- those behind the first
+-- the contents after the first
 abbrev pub contents_behind : List (List ℕ) → List (List ℕ)
 contents_behind [] = []
 contents_behind (content ∷ rest) = rest
@@ -83,18 +83,19 @@ abbrev pub where_named : Option (List ℕ) → List (List ℕ) → List ℕ
 where_named None contents = []
 where_named (Some name) contents = first_content contents
 
+-- the contents after those of a file that is read only where it is named
 abbrev pub behind_named : Option (List ℕ) → List (List ℕ) → List (List ℕ)
 behind_named None contents = contents
 behind_named (Some name) contents = contents_behind contents
 
--- what was read beside a source, from the contents of the files behind it
+-- what was read beside a source, from the contents of the files after it
 abbrev pub beside_of : Extra → Job → List (List ℕ) → Beside
 beside_of Nothing job rest = record { input = []; journal = []; inputs = [] }
 beside_of Input job rest = record { input = where_named job.input rest; journal = []; inputs = [] }
 beside_of InputAndJournal job rest = record { input = where_named job.input rest; journal = first_content (behind_named job.input rest); inputs = [] }
 beside_of Inputs job rest = record { input = []; journal = []; inputs = rest }
 
--- the same of the contents of all files of a job
+-- what was read beside a source, of the contents of all files of a job
 abbrev pub beside_in : Job → List (List ℕ) → Beside
 beside_in job contents = beside_of (row_of job.mode).beside job (contents_behind contents)
 

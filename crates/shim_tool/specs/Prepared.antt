@@ -62,7 +62,7 @@ LeavesToRunEach job inputs bytes p =
 abbrev pub PreparesSource : Job → Beside → List ℕ → Prepared → Type 0
 PreparesSource job beside bytes p = OfBytes (PreparesProgram job beside) (λ fault q. q ≡ answered (refused fault)) bytes p
 
--- `PreparesSource` holds with this input, whatever else was read beside the source: no single run reads more
+-- p fits `PreparesSource` with this input, whatever journal and inputs of a batch are beside it: a mode that runs a source once reads neither
 abbrev pub PreparesRun : Job → List ℕ → List ℕ → Prepared → Type 0
 PreparesRun job input bytes p = (beside : Beside) → beside.input ≡ input → PreparesSource job beside bytes p
 

@@ -1,5 +1,5 @@
 -- What reads of files give that are read one after the other, up to the first that can't be had.
-use Rattle.std.specs.Prelude.{ℕ, ◌≡◌, ◌<◌, ◌≤◌, ◌⊎◌, IsTrue, List, [], ◌∷◌, ◌++◌, length, Option, Some, IfSome, IsSomeAnd}
+use Rattle.std.specs.Prelude.{ℕ, ◌≡◌, ◌<◌, ◌≤◌, ◌⊎◌, IsTrue, List, [], ◌∷◌, ◌++◌, length, Option, Some, None, IfSome, IsSomeAnd}
 use Rattle.shim_edge.specs.Files.{file_of, HasFile}
 use Rattle.shim_tool.specs.Moments.{FilesAt, KeepsFiles}
 use Rattle.shim_tool.specs.Modes.{FileView}
@@ -61,6 +61,12 @@ pub record Holds (held : KnownFiles) (name bytes : List ℕ) : Type 0 where
   pub files : List (List ℕ × List ℕ)
   pub known : held ≡ Some files
   pub found : file_of files name ≡ Some bytes
+
+-- the files are known, and none of them has the name
+pub record IsMissing (held : KnownFiles) (name : List ℕ) : Type 0 where
+  pub files : List (List ℕ × List ℕ)
+  pub known : held ≡ Some files
+  pub absent : file_of files name ≡ None
 
 -- the files are known, and hold these contents, each of which is as short as it has to be
 abbrev pub HoldsAll : KnownFiles → List FileView → List (List ℕ) → Type 0

@@ -20,7 +20,7 @@ use Rattle.shim_results.specs.Answer.{Answer, AnswersProgram, IsNoSource, IsRefu
 use Rattle.shim_results.specs.SourceActionEnds.{EndsBy, IsReached, IsReachedWithin, IsShown, IsShownAt, IsStoppedBy, IsTextBy, status_by}
 use Rattle.shim_tool.specs.Moments.{FilesAt, SinkAt}
 use Rattle.shim_tool.specs.Modes.{FileView, source_action_of, execution, executions, input_in, inputs_in, journal_in, reads_of, source_text, IsBatch, IsExecution}
-use Rattle.shim_tool.specs.Reads.{AreContents, ComesToRead, Holds, HoldsAll, HoldsUpTo, IsTooLong, OneReadFailed, ReadFailed}
+use Rattle.shim_tool.specs.Reads.{AreContents, ComesToRead, Holds, HoldsAll, HoldsUpTo, IsMissing, IsTooLong, OneReadFailed, ReadFailed}
 use Rattle.shim_tool.specs.Answer.{MayAnswer, FailedGrew, usage_line, failed_line, longer_line, memory_line}
 
 -- the status is this, and this text was written, whole
@@ -125,11 +125,13 @@ FileCause ask before now out_before out_now = (job : Job) × (r : FileView) × (
     ((ReadFailed r.name before now × (out_now.taken ≡ then_bytes out_before.taken (failed_line r.name)))
     ⊎ ((now.failed ≡ before.failed) × IsTooLong r before.held × (out_now.taken ≡ then_bytes out_before.taken (longer_line r.name r.limit))))
 
--- 6: failed, only where a read of a file that the job reads failed in this call; too long, exactly where such a file, with those before it read, has more bytes than it may have
+-- 6: only where a read of a file that the job reads failed in this call, or such a file is too long, with those before it read. Exactly where, after known files within their limits, one is known to have more bytes than it may have, or not to be there.
 pub record FileRow (ask : Option Job) (before now : FilesAt) (out_before out_now : SinkAt) (result : ℕ) : Type 0 where
   pub only : result ≡ 6 → FileCause ask before now out_before out_now
   pub when : (job : Job) (r : FileView) (bytes : List ℕ) → ask ≡ Some job → HoldsUpTo before.held (reads_of job) r → Holds before.held r.name bytes → r.limit < length bytes
       → PrintedUnlessUnread 6 (longer_line r.name r.limit) job before now out_before out_now result
+  pub missing : (job : Job) (r : FileView) → ask ≡ Some job → HoldsUpTo before.held (reads_of job) r → IsMissing before.held r.name
+      → ((result ≡ 6) × OneReadFailed (reads_of job) before now) ⊎ (result ≡ 7) ⊎ (result ≡ 8)
 
 -- the journal of a job is to be replayed, and is refused with this line
 abbrev pub IsJobRefused : Job → List (List ℕ) → Source → List ℕ → Type 0

@@ -155,7 +155,8 @@ pub fn shim<F: Files, K: Sink, G: Gate, R: Threads + Wait + Sync>(
     ensures refused { RefusedRow (job (texts_of words.now)) (files_at F.held F.sound F.failed files.old)
         (files_at F.held F.sound F.failed files.new) (sink_at K.taken K.faults out.old)
         (sink_at K.taken K.faults out.new) result }
-    // 6: a read of the file, of an input or of the journal failed, or one of them is too long.
+    // 6: only where a read of the file, of an input or of the journal failed, or one of them is too long; exactly where
+    // one of them, behind known ones within their limits, is known to be too long or not to be there.
     ensures file { FileRow (job (texts_of words.now)) (files_at F.held F.sound F.failed files.old)
         (files_at F.held F.sound F.failed files.new) (sink_at K.taken K.faults out.old)
         (sink_at K.taken K.faults out.new) result }

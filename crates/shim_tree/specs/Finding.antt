@@ -23,7 +23,7 @@ abbrev pub or_sooner : Channel → Option Channel → Channel
 or_sooner c None = c
 or_sooner c (Some d) = sooner (channel_order c d) c d
 
--- the first in order of the channels of the list that pass, and of another
+-- of `best` and those channels of the list that pass, the first in the order of channels; `None` where there is none
 abbrev pub least : (Channel → Bool) → Option Channel → List Channel → Option Channel
 least passes best [] = best
 least passes best (c ∷ cs) = least passes (cond (passes c) (Some (or_sooner c best)) best) cs
