@@ -1,5 +1,5 @@
 -- The test of two steps tells whether they are the same.
-use Rattle.std.proofs.Common.{◌≡◌, Bool, true, Decides, refl, ap, subst, eqb-true, eq-eqb}
+use Rattle.std.proofs.Common.{◌≡◌, Bool, false, true, Decides, refl, ap, subst, eqb-true, eq-eqb}
 use Rattle.std.proofs.lemmas.Bool.{and_parts, and_from}
 use Rattle.shim_tests_small.specs.declared.small.Branch.{Branch}
 use Rattle.shim_tests_small.specs.declared.small.Branch.TheVariants as branch
@@ -7,6 +7,10 @@ use Rattle.shim_tests_small.specs.declared.small.Step.{Step}
 use Rattle.shim_tests_small.specs.declared.small.Step.TheVariants as step
 use Rattle.shim_tests_small.specs.contracts.small.BranchPartialEq.TheImpl as branch_test
 use Rattle.shim_tests_small.specs.contracts.small.StepPartialEq.TheImpl as test
+
+-- the test of two variants that differ is `false`
+not_same : false ≡ true → ⊥
+not_same e = cc
 
 abbrev same_branch : Branch → Branch → Bool
 same_branch = branch_test.ghosts.eq
@@ -28,7 +32,7 @@ branch_is (branch.Outer label number) (branch.Outer label1 number1) e =
     let both = and_parts _ _ e in
     λ i. branch.Outer (eqb-true label label1 both.0 i) (eqb-true number number1 both.1 i)
 branch_is branch.Nothing branch.Nothing e = refl
-branch_is _ _ e = absurd cc
+branch_is _ _ e = absurd (not_same e)
 
 abbrev same_step : Step → Step → Bool
 same_step = test.ghosts.eq
@@ -61,7 +65,7 @@ step_is (step.Throw label number) (step.Throw label1 number1) e =
     λ i. step.Throw (eqb-true label label1 both.0 i) (eqb-true number number1 both.1 i)
 step_is (step.ThrowTrap label) (step.ThrowTrap label1) e = ap step.ThrowTrap (eqb-true label label1 e)
 step_is step.Trap step.Trap e = refl
-step_is _ _ e = absurd cc
+step_is _ _ e = absurd (not_same e)
 
 pub step_decides : (a b : Step) → Decides (same_step a b) (a ≡ b)
 step_decides a b = (step_is a b, λ e. subst (λ x. same_step a x ≡ true) e (step_refl a))
