@@ -3,7 +3,7 @@ use shim_base::{BinOp, Boxed, List, Ty, UnOp};
 use shim_syntax::Sort;
 
 /// A function. Its name, and those of its slots and exceptions, are numbers in the list of names.
-#[derive(Debug, Drop, PartialEq, Eq)]
+#[derive(Debug, Drop)]
 pub struct RFunction {
     pub line: u32,
     pub name: u32,
@@ -19,14 +19,14 @@ pub struct RFunction {
     pub body: List<RStmt>,
 }
 
-#[derive(Debug, Drop, PartialEq, Eq)]
+#[derive(Debug, Drop)]
 pub struct UParam {
     pub sort: Sort,
     pub by_ref: bool,
     pub name: u32,
 }
 
-#[derive(Debug, Drop, PartialEq, Eq)]
+#[derive(Debug, Drop)]
 #[cycle(statements)]
 pub struct RStmt {
     pub line: u32,
@@ -35,7 +35,7 @@ pub struct RStmt {
 
 /// What a statement does, with slots in place of names of variables and numbers in place of those
 /// of exceptions.
-#[derive(Debug, Drop, PartialEq, Eq)]
+#[derive(Debug, Drop)]
 #[cycle(statements)]
 pub enum RWhat {
     Declare(Ty, u32, Option<UExpr>),
@@ -58,14 +58,14 @@ pub enum RWhat {
 }
 
 /// One branch of a fork.
-#[derive(Debug, Drop, PartialEq, Eq)]
+#[derive(Debug, Drop)]
 #[cycle(statements)]
 pub struct RBranch {
     pub line: u32,
     pub what: RBranchWhat,
 }
 
-#[derive(Debug, Drop, PartialEq, Eq)]
+#[derive(Debug, Drop)]
 #[cycle(statements)]
 pub enum RBranchWhat {
     Block(List<RStmt>),
@@ -73,7 +73,7 @@ pub enum RBranchWhat {
 }
 
 /// A call of a function by its number; `throws` has the caller's exception for each of the callee's.
-#[derive(Debug, Drop, PartialEq, Eq)]
+#[derive(Debug, Drop)]
 pub struct RCall {
     pub function: u32,
     pub args: List<UExpr>,
@@ -81,7 +81,7 @@ pub struct RCall {
 }
 
 /// An expression over slots.
-#[derive(Debug, Drop, PartialEq, Eq)]
+#[derive(Debug, Drop)]
 pub enum UExpr {
     Number(i64),
     Var(u32),

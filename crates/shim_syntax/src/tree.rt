@@ -2,7 +2,7 @@
 use shim_base::{BinOp, Boxed, List, Name, Ty, UnOp};
 
 /// A whole source.
-#[derive(Debug, Drop, PartialEq, Eq)]
+#[derive(Drop)]
 pub struct Program {
     /// The version of the text: 1 or 2.
     pub version: u32,
@@ -10,7 +10,7 @@ pub struct Program {
 }
 
 /// A function. Its line, as every line of the tree, is that of its first token, counted from 1.
-#[derive(Debug, Drop, PartialEq, Eq)]
+#[derive(Drop)]
 pub struct Function {
     pub line: u32,
     pub name: Name,
@@ -29,7 +29,7 @@ pub enum Sort {
     Output,
 }
 
-#[derive(Debug, Drop, PartialEq, Eq)]
+#[derive(Drop)]
 pub struct Param {
     pub sort: Sort,
     /// Whether it is given by reference; a stream always is.
@@ -37,7 +37,7 @@ pub struct Param {
     pub name: Name,
 }
 
-#[derive(Debug, Drop, PartialEq, Eq)]
+#[derive(Drop)]
 #[cycle(statements)]
 pub struct Stmt {
     pub line: u32,
@@ -45,7 +45,7 @@ pub struct Stmt {
 }
 
 /// What a statement does.
-#[derive(Debug, Drop, PartialEq, Eq)]
+#[derive(Drop)]
 #[cycle(statements)]
 pub enum What {
     /// `int x;`, with a first value where one is given. `int x, y;` is two of these, on one line.
@@ -82,27 +82,27 @@ pub enum What {
 }
 
 /// One branch of a fork.
-#[derive(Debug, Drop, PartialEq, Eq)]
+#[derive(Drop)]
 #[cycle(statements)]
 pub struct Branch {
     pub line: u32,
     pub what: BranchWhat,
 }
 
-#[derive(Debug, Drop, PartialEq, Eq)]
+#[derive(Drop)]
 #[cycle(statements)]
 pub enum BranchWhat {
     Block(List<Stmt>),
     Call(Call),
 }
 
-#[derive(Debug, Drop, PartialEq, Eq)]
+#[derive(Drop)]
 pub struct Call {
     pub function: Name,
     pub args: List<Expr>,
 }
 
-#[derive(Debug, Drop, PartialEq, Eq)]
+#[derive(Drop)]
 pub enum Expr {
     Number(i64),
     Var(Name),

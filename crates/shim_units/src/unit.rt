@@ -5,7 +5,7 @@ use shim_syntax::Sort;
 
 /// A function, or a block branch that was lifted out of one. The names of its slots and of its `try` statements
 /// are numbers in the program's list of names; its own name is a text.
-#[derive(Debug, Drop, PartialEq, Eq)]
+#[derive(Debug, Drop)]
 pub struct Unit {
     /// The function's name; behind it, for a lifted branch, a dot and the branch's number there.
     pub title: List<u8>,
@@ -24,7 +24,7 @@ pub struct Unit {
     pub body: List<UStmt>,
 }
 
-#[derive(Debug, Drop, PartialEq, Eq)]
+#[derive(Debug, Drop)]
 #[cycle(statements)]
 pub struct UStmt {
     pub line: u32,
@@ -32,7 +32,7 @@ pub struct UStmt {
 }
 
 /// What a statement does, with the unit's slots and numbers of exceptions.
-#[derive(Debug, Drop, PartialEq, Eq)]
+#[derive(Debug, Drop)]
 #[cycle(statements)]
 pub enum UWhat {
     Declare(Ty, u32, Option<UExpr>),
@@ -55,21 +55,21 @@ pub enum UWhat {
 }
 
 /// One branch of a fork: the call of a unit.
-#[derive(Debug, Drop, PartialEq, Eq)]
+#[derive(Debug, Drop)]
 pub struct UBranch {
     pub line: u32,
     pub call: UCall,
 }
 
 /// A call of a unit by its number; `throws` has the caller's exception for each that the unit is given.
-#[derive(Debug, Drop, PartialEq, Eq)]
+#[derive(Debug, Drop)]
 pub struct UCall {
     pub unit: u32,
     pub args: List<Arg>,
     pub throws: List<u32>,
 }
 
-#[derive(Debug, Drop, PartialEq, Eq)]
+#[derive(Debug, Drop)]
 pub enum Arg {
     /// A variable by reference, or a stream.
     Ref(u32),
