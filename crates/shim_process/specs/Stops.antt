@@ -100,6 +100,7 @@ stmt_thrown (Some stmt) s = what_thrown (out-UWhat stmt.what) s
 abbrev pub thrown_value : LocalState → Value
 thrown_value l = stmt_thrown (next_stmt l.frame.todo) (statement_view l)
 
+-- the number of a value, and none of a trap
 abbrev pub number_or_none : Value → Option ℤ
 number_or_none (Ok v) = Some v
 number_or_none (Err t) = None

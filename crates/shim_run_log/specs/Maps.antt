@@ -36,7 +36,7 @@ histories_of numbers kept = finite.from_entries (map (λ e. (e.0.channel, met_at
 abbrev pub IsNumbered : BTreeMap NamedChannel ℕ → List History → Type 0
 IsNumbered numbers kept = (c : Channel) (i : ℕ) → (number_in numbers c ≡ Some i) ↔ (history_channel kept i ≡ Some c)
 
--- each channel that has an entry has a value
+-- no channel has an entry without a value
 abbrev pub AllHaveValues : finite.FinMap channel_order Met → Type 0
 AllHaveValues m = (c : Channel) (h : Met) → finite.get m c ≡ Some h → h.values ≢ []
 

@@ -16,6 +16,7 @@ use Rattle.shim_scopes.specs.Refusals.{Refusal}
 use Rattle.shim_scopes.specs.Statements.{Whole, Around, Before, Meant, with_declaration, variable_slot, variable_declared}
 use Rattle.shim_scopes.specs.Functions.{params_from, function_begin, handled_from}
 
+-- the functions and the names of a program, for all its statements
 abbrev pub whole : List Function → Texts → Whole
 whole functions names = record { functions = functions; names = names }
 

@@ -43,7 +43,7 @@ parted (Trapped l) = Live l
 abbrev pub thrown : {S : Type 0} → Ops S → S → Death → Acted S
 thrown o l d = cond (ltb d.label (o.base l)) (record { node = Dead l d; effects = nothing }) (record { node = Live (o.unwind l d.label (handed d.given)); effects = catch_logged (o.handler l d.label) })
 
--- a process that stands at a throw of this label throws it with this number; where the expression trapped it stands trapped
+-- What a throw of label x comes to. `Some v`: the process throws x with the number v. `None`: the number's expression trapped, and the process lives on, trapped.
 abbrev pub throwing : {S : Type 0} → Ops S → S → ℕ → Option ℤ → Acted S
 throwing o l x None = record { node = Live (o.thrown l); effects = nothing }
 throwing o l x (Some v) = thrown o l (death_with x v)

@@ -9,6 +9,7 @@ use Rattle.shim_semantics.specs.Trees.{Tree, Event, after, start}
 use Rattle.shim_semantics.specs.Sound.{IsSound, SharesItsOwn}
 use Rattle.shim_semantics.specs.Systems.{run, IsInvariant}
 
+-- the root node of the tree is sound
 abbrev pub IsSoundTree : {S : Type 0} → Ops S → Tree S → Type 0
 IsSoundTree o t = IsSound o t.root
 

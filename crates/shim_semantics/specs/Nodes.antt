@@ -32,12 +32,14 @@ goes (Forked l ks) = true
 goes (Ended l) = false
 goes (Dead l x) = false
 
+-- whether the process of the node died
 abbrev pub is_dead : {S : Type 0} → Node S → Bool
 is_dead (Live l) = false
 is_dead (Forked l ks) = false
 is_dead (Ended l) = false
 is_dead (Dead l x) = true
 
+-- whether the process of the node ended
 abbrev pub has_ended : {S : Type 0} → Node S → Bool
 has_ended (Live l) = false
 has_ended (Forked l ks) = false

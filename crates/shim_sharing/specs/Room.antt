@@ -14,5 +14,6 @@ pub record HasRoomToLift (w : SlotMap) (next : ℕ) (e : Extent) : Type 0 where
 pub record FunctionHasRoom (next : ℕ) (f : RFunction) : Type 0 where
   pub fits : next + function_size f < 2 ^ 32
 
+-- `next` and the size of these functions add up to less than 2^32
 pub record FunctionsHaveRoom (next : ℕ) (fs : List RFunction) : Type 0 where
   pub fits : next + functions_size fs < 2 ^ 32

@@ -38,6 +38,7 @@ pub record PrintedPiece : Type 0 where
 abbrev pub piece_text : PrintedPiece → List ℕ
 piece_text p = p.text ++ (if p.ends_line then 10 else 32) ∷ []
 
+-- the text of pieces, one after the other
 abbrev pub pieces_text : List PrintedPiece → List ℕ
 pieces_text pieces = flat_map piece_text pieces
 
@@ -136,6 +137,7 @@ row_of_operator op.BitOr = 8
 row_of_operator op.And = 9
 row_of_operator op.Or = 10
 
+-- the sign by which an operator with two operands is written
 abbrev pub sign_of_operator : BinOp → SignOf
 sign_of_operator op.Mul = g.Star
 sign_of_operator op.Div = g.Slash
@@ -156,6 +158,7 @@ sign_of_operator op.BitOr = g.Bar
 sign_of_operator op.And = g.AndAnd
 sign_of_operator op.Or = g.OrOr
 
+-- the sign by which an operator with one operand is written
 abbrev pub sign_of_unary : UnOp → SignOf
 sign_of_unary Neg = g.Minus
 sign_of_unary Not = g.Bang
