@@ -5,10 +5,11 @@ import subprocess
 
 
 class NoShim(Exception):
-    """There is no program, or it isn't `shim`."""
+    """There is no program, or it isn't `shim`; a tool ends with this status, 127 as a shell does where none can be started."""
 
-    def __init__(self, why):
+    def __init__(self, why, status):
         super().__init__("%s %s. Set SHIM to the path of the program." % (command(), why))
+        self.status = status
 
 
 def command():
@@ -29,7 +30,7 @@ def call(*words):
     try:
         told = subprocess.run([command(), *words], stdout=subprocess.PIPE)
     except OSError as why:
-        raise NoShim("can't be started: %s" % why.strerror) from None
+        raise NoShim("can't be started: %s" % why.strerror, 127) from None
     return told.stdout, told.returncode
 
 
@@ -48,5 +49,5 @@ def ask(mode, *words):
     told, status = call(mode, *words)
     form = ANSWERS.get(mode if status in (0, 1, 3, 4) else status)
     if status >= 0 and not (form and re.fullmatch(form, told, re.DOTALL)):
-        raise NoShim("isn't shim: no answer of shim is like its answer")
+        raise NoShim("isn't shim: no answer of shim is like its answer", 1)
     return told, status

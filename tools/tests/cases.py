@@ -2,7 +2,7 @@
 """Runs the cases of crates/shim_conformance whose title has a text by the built program, over files of the system.
 The gate runs them all by calls inside the proved program; this is for a look at some, in seconds. Cases in which
 reads or writes fail are left out, and those of what lies below the tool. Prints `ok TITLE (CALLS)` for each, or what
-differs, and ends with 1 where something does.
+differs, and ends with 1 where something does, or no case was run.
 
 SHIM names the program, ./shim where nothing is said. Scripts that want cases take them from here.
 Use: make shim && tools/tests/cases.py [TEXT]
@@ -91,7 +91,7 @@ def main():
     print("%d cases passed, %d failed, %d left out, which only the crate runs" % counts)
     if not found:
         sys.exit("no case has this in its title: %s" % text)
-    return 0 if all(passed) else 1
+    return 0 if passed and all(passed) else 1
 
 
 if __name__ == "__main__":

@@ -155,7 +155,7 @@ def main():
         same("a run of which nothing is drawn", (bars(text), text.splitlines()[-2], error, status), ([("participant", "p"), ("activate", "p")], "== end spent 50 ==", "", 0))
         same("Ctrl-C", call("bash", "-c", command, "bash", DRAW, alone), ("", "shim-draw: stopped: nothing is drawn\n", 130))
     same("blanks in the list", call(DRAW, "run", *filter, "--channels", " mean , sample"), call(DRAW, "run", *filter, "--channels", "sample,mean"))
-    for names, said, status in (("nothing", "without a rendezvous there: nothing", 1), ("mean,nothing, none", "without a rendezvous there: nothing, none", 1),
+    for names, said, status in (("nothing", "--channels: no rendezvous in what is drawn on nothing", 2), ("mean,nothing, none", "--channels: no rendezvous in what is drawn on nothing, none", 2),
                                 ("mean,", "--channels wants names with commas between them", 2)):
         same("no such channel", call(DRAW, "run", *filter, "--channels", names), ("", "shim-draw: %s\n" % said, status))
     same("no such kind", call(DRAW, "run", hello, "--output", "x.txt")[1:], ("shim-draw: --output x.txt: it has to end with .puml, .svg or .png\n", 2))
@@ -163,7 +163,7 @@ def main():
         same("another program", call("env", "SHIM=" + other, DRAW, "run", hello),
              ("", "shim-draw: %s isn't shim: no answer of shim is like its answer. Set SHIM to the path of the program.\n" % other, 1))
     same("little memory", call("bash", "-c", 'ulimit -v 400000; "$1" run %s' % hello, "bash", DRAW)[1:],
-         ("shim-draw: no memory for its own work; give it 1 GiB of address space (ulimit -v)\n", 1))
+         ("shim-draw: no memory for its own work; give it 1 GiB of address space (ulimit -v)\n", 8))
     same("without arguments", call(DRAW)[1].splitlines()[-1], "shim-draw: error: the following arguments are required: {run,why}, FILE")
     # Waits, what isn't blocked, and options of `run`.
     for name, value in (("--journal", "nowhere"), ("--from", "0"), ("--to", "5"), ("--channels", "tray")):

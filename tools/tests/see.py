@@ -64,13 +64,13 @@ def odd(program):
         same("Ctrl-C", do('mkfifo f; timeout --foreground --preserve-status -s INT 2 "$1" run loop.shim --input f'), wanted)
         same("a name that isn't UTF-8", do('"$1" run $(printf "caf\\351") | head -n 1')[0], "shim-see: the argument 'caf\\xe9' isn't UTF-8; rename the file, or name it by a link\n")
         set_it = "Set SHIM to the path of the program.\n"
-        same("no program", do('SHIM=/nowhere "$1" run x'), ("shim-see: /nowhere can't be started: No such file or directory. " + set_it, 1))
+        same("no program", do('SHIM=/nowhere "$1" run x'), ("shim-see: /nowhere can't be started: No such file or directory. " + set_it, 127))
         for other in ("true", "false", "echo"):
             wanted = ("shim-see: %s isn't shim: no answer of shim is like its answer. %s" % (other, set_it), 1)
             for words in ("run", "ref", "check", "code", "batch loop.shim"):
                 same("another program", do('SHIM=%s "$1" %s loop.shim' % (other, words)), wanted)
         same("little memory", do('ulimit -v 400000; "$1" run loop.shim'),
-             ("shim-see: no memory for its own work; give it 1 GiB of address space (ulimit -v)\n", 1))
+             ("shim-see: no memory for its own work; give it 1 GiB of address space (ulimit -v)\n", 8))
 
 
 def main():
