@@ -2,13 +2,14 @@
 """Measures what shim costs. Each subcommand is a question: `bench.py --help` lists them, `bench.py QUESTION --help`
 its words.
 
-Commands that belong together run in turn, for some rounds. A line tells of one command the least time, the least
-processor time and the greatest memory, and its ratios to a peer in the same run: those of the times, of the processor
-times and of the memories. Beside others' work the second says more. Wants gcc; another peer that isn't installed is
-left out, and a line says so. With --before each command of shim runs by that build, too, has to write the same but
-where the budget stops it, and the line tells the ratios to it. `steps` counts instructions, and with --before
-`reading` and `net sizes` do, too, where valgrind is there: these are the same whatever else the machine does. Nothing
-else is tested but that each command ends as it should, and that those write the same that have to.
+Commands that belong together run in turn, for some rounds. A line tells of one command the least time, the median of
+the times, the least processor time and the greatest memory, and its ratios to a peer in the same run: those of the
+four. Beside others' work the third says more, and where the machine's speed changes the second does. Wants gcc; another
+peer that isn't installed is left out, and a line says so. With --before each command of shim runs by that build, too,
+has to write the same but where the budget stops it, and the line tells the ratios to it. `steps` counts instructions,
+and with --before `reading` and `net sizes` do, too, where valgrind is there: these are the same whatever else the
+machine does. Nothing else is tested but that each command ends as it should, and that those write the same that have
+to.
 
 Use: make shim && bench/bench.py QUESTION [NAME..] [--rounds N] [--shim PATH] [--before PATH]
 """
@@ -20,6 +21,7 @@ import os
 import re
 import resource
 import shutil
+import statistics
 import subprocess
 import sys
 import time
@@ -52,7 +54,7 @@ def question(names=(), rounds=5, **numbers):
 
 
 class Run:
-    """A command, and of its rounds the least time, the least processor time and the greatest memory.
+    """A command, and of its rounds the times, the least processor time and the greatest memory.
 
     `ends` are the statuses it may have, `last` is its last line, `idle` a run whose times are taken off, `given` the
     file on its standard input and `to` the one of its output, and `before` the same by another build."""
@@ -63,8 +65,8 @@ class Run:
         self.command, self.ends, self.last, self.idle, self.given = command, ends, last, idle, given
         self.to = to or "out %d" % next(self.numbers)
         self.before = self.status = None
-        self.least = self.least_spent = float("inf")
-        self.kib = 0
+        self.least_spent, self.kib = float("inf"), 0
+        self.times = []
 
     def once(self):
         with open(self.given) as given, open(self.to, "wb") as out:
@@ -73,7 +75,8 @@ class Run:
             took, spent, kib, self.status = map(float, it.read().split())
         if self.ends and self.status not in self.ends or self.last not in (None, self.last_line()):
             sys.exit(self.told())
-        self.least, self.least_spent, self.kib = min(self.least, took), min(self.least_spent, spent), max(self.kib, kib)
+        self.least_spent, self.kib = min(self.least_spent, spent), max(self.kib, kib)
+        self.times.append(took)
 
     def all(self):
         """What is measured of it: its idle run and itself, by each build."""
@@ -91,9 +94,12 @@ class Run:
         return "%s: %d, %s" % (" ".join(self.command), self.status, self.last_line())
 
     def figures(self):
-        """The time, the processor time and the memory."""
-        took, spent = (self.idle.least, self.idle.least_spent) if self.idle else (0, 0)
-        return self.least - took, self.least_spent - spent, self.kib
+        """The least time, the median time, the processor time and the memory. Of the idle run's times each is taken off
+        that of the same round."""
+        if not self.idle:
+            return min(self.times), statistics.median(self.times), self.least_spent, self.kib
+        median = statistics.median(map(float.__sub__, self.times, self.idle.times))
+        return min(self.times) - min(self.idle.times), median, self.least_spent - self.idle.least_spent, self.kib
 
 
 def same(one, *others):
@@ -138,8 +144,9 @@ class Bench:
         return run
 
     def say(self, row):
-        run, (took, spent, kib) = row.run, row.run.figures()
-        line = "  %-40s %.4f s, %.4f of processor time, %.1f MiB" % (row.what, took, spent, kib / 1024)
+        run, (took, median, spent, kib) = row.run, row.run.figures()
+        line = "  %-40s %.4f s, median %.4f, %.4f of processor time" % (row.what, took, median, spent)
+        line += ", %.1f MiB" % (kib / 1024)
         if run.status:
             line += ", status %d" % run.status
         units = row.units if row.units != 0 else int(run.last_line().split()[-1])
@@ -318,32 +325,42 @@ WORK = {
 }
 
 
-def in_c_as_long(name, seconds):
-    """Rows of four jobs of C that count, as many seconds of processor time together, by 1, 2 and 4 threads."""
+def in_c_as_long(job, seconds):
+    """Rows of four jobs of C, as many seconds of processor time together, by 1, 2 and 4 threads."""
     turns = 10000000
-    _, sample = peer("", "./peers", "count", 1, 4, turns)
+    _, sample = peer("", "./peers", job, 1, 4, turns)
     sample.once()
     turns = int(turns * seconds / sample.least_spent)
-    by = {count: peer("", "./peers", "count", count, 4, turns, last=str(4 * turns))[1] for count in (1, 2, 4)}
-    what = name + ", as long in C, %d threads"
-    return [Row(what % count, run, [("1 thread", by[1])]) for count, run in by.items()]
+    by = {count: peer("", "./peers", job, count, 4, turns, last=str(4 * turns))[1] for count in (1, 2, 4)}
+    return [Row("as long in C, %s, %d threads" % (job, count), run, [("1 thread", by[1])]) for count, run in by.items()]
 
 
 @question(WORK)
 def workers(bench, name):
-    """What more workers bring, and what --steal does: four branches that count, beside threads of C that work as long,
-    and trees, pipes and storms. All have to write the same."""
-    counting = shapes.ENDLESS.replace("true", "k < 300000")
-    write("counts.shim", counting)
-    write("large.shim", shapes.in_shim(shapes.ORDINARY, MIB, counting))
+    """What more workers bring, and what --steal does: four branches that count, beside four runs of one branch each and
+    threads of C that work as long, and trees, pipes and storms. All have to write the same. Beside a large source and
+    input a run whose branches end at once is taken off."""
+    for turns, ending in ((300000, ""), (0, ".idle")):
+        counting = shapes.ENDLESS.replace("true", "k < %d" % turns)
+        write("counts.shim" + ending, counting)
+        write("large.shim" + ending, shapes.in_shim(shapes.ORDINARY, MIB, counting))
     write("input", bytes(4 * MIB))
     words = [*WORK[name].split(), *MOST]
-    runs = {by: bench.shim(*words, *options) for by, options in WORKERS.items()}
-    stealing = {by: bench.shim(*words, *WORKERS[by], "--steal") for by in ("1 worker", "2 workers", "4 workers")}
-    yield [*(Row("%s, %s" % (name, by), run, [("1 worker", runs["1 worker"])]) for by, run in runs.items()),
-           *(Row("%s, %s, --steal" % (name, by), run, [("without", runs[by])]) for by, run in stealing.items())]
+    idle = bench.shim("run", "large.shim.idle", *words[2:], *ONE) if "large" in words[1] else None
+    runs = {by: bench.shim(*words, *options, idle=idle) for by, options in WORKERS.items()}
+    stealing = {by: bench.shim(*words, *WORKERS[by], "--steal", idle=idle)
+                for by in ("1 worker", "2 workers", "4 workers")}
+    rows = [*(Row("%s, %s" % (name, by), run, [("1 worker", runs["1 worker"])]) for by, run in runs.items()),
+            *(Row("%s, %s, --steal" % (name, by), run, [("without", runs[by])]) for by, run in stealing.items())]
     if "counts" in words[1]:
-        yield in_c_as_long(name, runs["1 worker"].least_spent)
+        write("branch.shim", "void main() { int k; while (k < 300000) { k = k + 1; } }")
+        command = "for i in 1 2 3 4; do %s run branch.shim --workers 1 & done; wait" % bench.given.shim
+        all_runs = Run(["sh", "-c", command])
+        rows.append(Row("a run of each branch, all at once", all_runs, [("1 worker", runs["1 worker"])]))
+        runs["1 worker"].once()
+        for job in ("count", "mix"):
+            rows += in_c_as_long(job, runs["1 worker"].least_spent)
+    yield rows
     same(*runs.values(), *stealing.values())
 
 

@@ -1,6 +1,6 @@
 /* What C takes for the work of some programs, and a small process that measures another one. Use: peers pipe SIZE,
-   peers count THREADS TIMES TURNS, peers queues THREADS PIECES, peers words FILE, peers sum FILE BYTES, or
-   peers launch FILE COMMAND.. */
+   peers count THREADS TIMES TURNS, peers mix THREADS TIMES TURNS, peers queues THREADS PIECES, peers words FILE,
+   peers sum FILE BYTES, or peers launch FILE COMMAND.. */
 #include <pthread.h>
 #include <sched.h>
 #include <stdatomic.h>
@@ -54,7 +54,9 @@ static void *counter(void *none) { for (int32_t k = 0; k < size; k++) give(&coun
 static void *tripler(void *none) { for (long i = 0; i < size; i++) give(&tripled, take(&counts) * 3); return none; }
 static void *summer(void *none) { for (long i = 0; i < size; i++) sum = (sum + take(&tripled)) % 1000000; return none; }
 
-/* Threads that count by themselves, some times each; the compiler may not leave that out. */
+/* Threads that work by themselves, some times each; the compiler may not leave that out. `count_up` waits in each turn
+   for the number that it stored, and leaves most of a core's units idle. `mix` keeps them busy, as an interpreter does:
+   beside it another thread on the same core is slower. */
 static long times;
 static atomic_long counted;
 static void *count_up(void *none) {
@@ -62,6 +64,16 @@ static void *count_up(void *none) {
     volatile long k = 0;
     while (k < size) k = k + 1;
     counted += k;
+  }
+  return none;
+}
+
+static void *mix(void *none) {
+  for (long i = 0; i < times; i++) {
+    uint64_t a = 1, b = 2, c = 3, d = 4, e = 5, f = 6;
+    long k = 0;
+    for (; k < size; k++) a += b, b ^= (uint64_t)k, c += d, d ^= c >> 3, e += (uint64_t)k, f ^= e;
+    counted += a + b + c + d + e + f ? k : 0;
   }
   return none;
 }
@@ -153,9 +165,10 @@ int main(int argc, char **argv) {
   if (!strcmp(work, "pipe")) {
     run_all((job *[]){counter, tripler, summer}, 3);
     result = sum;
-  } else if (!strcmp(work, "count")) {
+  } else if (!strcmp(work, "count") || !strcmp(work, "mix")) {
+    job *one = strcmp(work, "mix") ? count_up : mix;
     times = atol(argv[3]) / atoi(argv[2]);
-    run_all((job *[]){count_up, count_up, count_up, count_up}, atoi(argv[2]));
+    run_all((job *[]){one, one, one, one}, atoi(argv[2]));
     result = counted;
   } else if (!strcmp(work, "queues")) {
     is_done = size == 0;
