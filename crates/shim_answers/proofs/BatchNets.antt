@@ -13,7 +13,7 @@ use Rattle.shim_process.proofs.AllLaws.{process_laws}
 use Rattle.shim_net.specs.Nets.{NetView, started}
 use Rattle.shim_net.specs.Standings.{IsQuiescentNet, IsSpentNet}
 use Rattle.shim_net.proofs.Ends as ends
-use Rattle.shim_batch.specs.Runs.{HasRun}
+use Rattle.shim_batch.specs.Runs.{RunsToEnd}
 use Rattle.shim_results.specs.RunEnds.{Execution, report_of, IsEnd}
 use Rattle.shim_answers.specs.EndedNets.{IsEndedNet, end_of_net}
 use Rattle.shim_results.specs.Batches.{greatest, input_line, on_each, reports_of, statuses_of}
@@ -25,11 +25,11 @@ net_gives : (x : Execution) (n : NetView LocalState) → IsEndedNet x n → IsEn
 net_gives x n net =
     net_ended x n (end_of_net x.source n) net (ends.agrees process_ops n net.keeps net.quiescent_or_spent process_laws) (ends.read_off process_ops n net.keeps net.quiescent_or_spent process_laws) refl
 
-net_gave : (x : Execution) (before after : NetView LocalState) → before ≡ started (root x.source x.input) x.budget → HasRun process_ops before after → IsEnd InSomeOrder x (end_of_net x.source after)
+net_gave : (x : Execution) (before after : NetView LocalState) → before ≡ started (root x.source x.input) x.budget → RunsToEnd process_ops before after → IsEnd InSomeOrder x (end_of_net x.source after)
 net_gave x before after begun ran = net_gives x after (net_of x (root x.source x.input) before after refl begun ran.root ran.budget ran.keeps ran.quiescent_or_spent)
 
 -- so do several, each on its input
-pub nets_gave : (x : Execution) (inputs : List (List ℕ)) (nets done : List (NetView LocalState)) → AllZip (λ input net. net ≡ started (root x.source input) x.budget) inputs nets → AllZip (HasRun process_ops) nets done
+pub nets_gave : (x : Execution) (inputs : List (List ℕ)) (nets done : List (NetView LocalState)) → AllZip (λ input net. net ≡ started (root x.source input) x.budget) inputs nets → AllZip (RunsToEnd process_ops) nets done
     → AllZip (IsEnd InSomeOrder) (on_each x inputs) (map (λ net. end_of_net x.source net) done)
 nets_gave x [] [] [] begun ran = tt
 nets_gave x [] [] (m ∷ done) begun ran = absurd ran
@@ -42,7 +42,7 @@ nets_gave x (i ∷ inputs) (n ∷ nets) (m ∷ done) begun ran = (net_gave (reco
 abbrev pub HaveStopped : List (NetView LocalState) → Type 0
 HaveStopped nets = All (λ net. IsQuiescentNet process_ops net ⊎ IsSpentNet process_ops net) nets
 
-pub have_stopped : (nets done : List (NetView LocalState)) → AllZip (HasRun process_ops) nets done → HaveStopped done
+pub have_stopped : (nets done : List (NetView LocalState)) → AllZip (RunsToEnd process_ops) nets done → HaveStopped done
 have_stopped [] [] ran = All-nil (λ net. IsQuiescentNet process_ops net ⊎ IsSpentNet process_ops net)
 have_stopped [] (m ∷ done) ran = absurd ran
 have_stopped (n ∷ nets) [] ran = absurd ran
@@ -93,7 +93,7 @@ module _ (source : Source) where
 
 -- what was read off the nets that ran answers all runs
 pub each_answered : (names : List (List ℕ)) (x : Execution) (inputs : List (List ℕ)) (nets done : List (NetView LocalState)) (es : List Ended) (status : ℕ) (text : List ℕ)
-    → length inputs ≡ length names → AllZip (λ input net. net ≡ started (root x.source input) x.budget) inputs nets → AllZip (HasRun process_ops) nets done → es ≡ map (λ net. end_of_net x.source net) done
+    → length inputs ≡ length names → AllZip (λ input net. net ≡ started (root x.source input) x.budget) inputs nets → AllZip (RunsToEnd process_ops) nets done → es ≡ map (λ net. end_of_net x.source net) done
     → status ≡ greatest (statuses_of es) → text ≡ reports_of x.source names es → AnswersEach names x inputs (record { status = status; text = text })
 each_answered names x inputs nets done es status text named begun ran read status_is written = (
   named,

@@ -14,7 +14,7 @@ use Rattle.shim_results.specs.Reasons.{report_with_reasons}
 use Rattle.shim_results.specs.SourceActions.{SourceAction, runs, describes, records, replays, runs_each, accepted_line, shown_of, IsTextInVersion2}
 use Rattle.shim_results.specs.Answer.{Answer, AnswersDescription, OfBytes, refused}
 
--- the code of its units as text
+-- the code of a source's units as text
 abbrev pub code_text : Source → List ℕ
 code_text source = listing (code_units source.units)
 
@@ -24,7 +24,7 @@ description_of Functions program source text = text ≡ accepted_line source
 description_of Instructions program source text = text ≡ code_text source
 description_of Version2 program source text = IsTextInVersion2 program text
 
--- a source of which something is printed, and which isn't run
+-- The answer to these bytes: the description of the source in them, which isn't run. Of bytes that are no source it is the line of their first fault.
 abbrev pub AnswersDescribedSource : Description → List ℕ → Answer → Type 0
 AnswersDescribedSource description bytes answer = OfBytes (AnswersDescription (description_of description)) (λ fault a. a ≡ refused fault) bytes answer
 

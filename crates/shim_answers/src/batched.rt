@@ -87,7 +87,7 @@ fn greatest_status(ends: &[Ended]) -> ExitStatus
     status
 }
 
-// Adds the report of a run behind the line of its input.
+// Adds the line of an input, and after it the report of the run on that input.
 #[tactic(auto, unfolding(shim_results::specs::Batches::input_line))]
 fn push_report(
     alloc: Global,
@@ -106,7 +106,7 @@ fn push_report(
     Ok(())
 }
 
-// The reports of a source's runs in order, each behind the line of its input.
+// The reports of a source's runs in order, each after the line of its input.
 fn reports(
     alloc: Global,
     source: &Accepted,

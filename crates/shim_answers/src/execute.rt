@@ -76,7 +76,7 @@ fn run_code<G: Gate, R: Threads + Wait + Sync>(
     run_net(rt, alloc, job, begun, gate)
 }
 
-// What such a run comes to.
+// How a run of a source's compiled code by workers ends.
 fn end_of_code<G: Gate, R: Threads + Wait + Sync>(
     rt: &R,
     alloc: Global,
@@ -137,7 +137,7 @@ pub fn answer_record<G: Gate, R: Threads + Wait + Sync>(
     })
 }
 
-// How many units are those of functions. Those that were lifted out of functions stand behind them.
+// How many units are those of functions. Those that were lifted out of functions stand after them.
 fn function_count(units: &[Unit]) -> usize
     ensures { result ≡ functions_from 0 units.now }
 {

@@ -61,7 +61,8 @@ fn replay_entries_of(
     }
 }
 
-// The same of a journal in a text, which is refused, too, where it is none.
+// Runs a source by the journal in a text, and answers how that ended. A text that is no journal is refused with its
+// line, too.
 fn replay_text(
     alloc: Global,
     source: &Accepted,

@@ -2,7 +2,7 @@
 use Rattle.std.specs.Prelude.{ℕ, ◌≡◌, List, Option}
 use Rattle.shim_base.specs.Tokens.{Token, Place, Fault, Cuts}
 
--- the bytes are cut into these tokens up to this end, and in no other way
+-- The bytes, the first of which stands at this place, are cut into tokens up to their end or to a fault. They are cut in one way and in no other.
 pub record IsCutOnce (place : Place) (bytes : List ℕ) : Type 0 where
   pub tokens : List Token
   pub end : Option Fault

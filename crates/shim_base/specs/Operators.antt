@@ -40,7 +40,7 @@ applied Rem a b = if is_zero b then Err Zero else Ok (int_rem a b)
 applied Add a b = fitted (a +ℤ b)
 -- the exact difference
 applied Sub a b = fitted (a -ℤ b)
--- the exact product of a and 2 to the b; a b that is no count traps first
+-- the exact product of a and 2 to the b; whether b is a count is asked before whether the product fits
 applied Shl a b = if is_count b then fitted (a *ℤ pos (2 ^ unsigned_abs b)) else Err Shift
 -- the quotient of a and 2 to the b, rounded down
 applied Shr a b = if is_count b then Ok (int_shr a (unsigned_abs b)) else Err Shift

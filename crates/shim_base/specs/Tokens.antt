@@ -26,7 +26,7 @@ is_letter b = (nat_le 65 b && nat_le b 90) || (nat_le 97 b && nat_le b 122) || b
 abbrev pub is_name_byte : ℕ → Bool
 is_name_byte b = is_letter b || is_digit b
 
--- what a table has beside a spelling
+-- what a table has beside this spelling, in the first row with it; none if no row has it
 abbrev pub row_for : {A : Type 0} → List (List ℕ × A) → List ℕ → Option A
 row_for [] text = None
 row_for (row ∷ rows) text = if bytes_eq row.0 text then Some row.1 else row_for rows text
@@ -163,11 +163,11 @@ pub data Skips : List ℕ → List ℕ → List ℕ → Type 0 where
   -- `//` and the rest of its line, without the line feed
   line_comment : (inside rest : List ℕ) → All (λ b. b ≢ 10) inside → (rest ≡ []) ⊎ Begins rest (10 ∷ [])
       → Skips (line_opener ++ (inside ++ rest)) (line_opener ++ inside) rest
-  -- up to the next `*/`, and with it
+  -- `/*` and all up to the next `*/` after it, with that
   block_comment : (inside rest : List ℕ) → ((front : List ℕ) → Begins (inside ++ block_closer) (front ++ block_closer) → length inside ≤ length front)
       → Skips (block_opener ++ (inside ++ (block_closer ++ rest))) (block_opener ++ (inside ++ block_closer)) rest
 
--- why no token can be taken, where neither spacing nor a comment is passed over
+-- Why no token can be taken at the front of the bytes. That neither spacing nor a comment is passed over there is asked beside this, since bytes that begin with spacing have the fault `BadByte`, too.
 abbrev pub IsFault : LexKind → List ℕ → Type 0
 IsFault BadByte bytes = (bytes ≢ []) × (IsComment bytes → ⊥) × ((text rest : List ℕ) (kind : TokenKind) → IsLongestToken bytes text rest kind → ⊥)
 IsFault LongName bytes = (IsComment bytes → ⊥) × (text : List ℕ) × (rest : List ℕ) × IsLongestToken bytes text rest Word × (64 < length text)

@@ -34,7 +34,7 @@ FitsType ty n = (least ty ≤ℤ n) × (n <ℤ (least ty +ℤ size ty))
 abbrev pub reduced : Ty → ℤ → ℤ
 reduced ty v = int_rem_euclid (v -ℤ least ty) (size ty) +ℤ least ty
 
--- what is kept of v: whether it isn't 0, or v reduced
+-- what a variable of the type keeps of v: of `Bool` 0 for 0 and else 1, of each other type v reduced
 abbrev pub stored : Ty → ℤ → ℤ
 stored Bool (pos zero) = pos 0
 stored Bool v = pos 1

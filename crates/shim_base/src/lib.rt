@@ -1,4 +1,5 @@
-//! The values that every layer speaks of: lists, boxes, names, types, operators, tokens and numbers as text.
+//! The values that the other crates share: lists, boxes, paths, channels, names, types, operators, kinds of tokens,
+//! out of memory, and numbers as text.
 #![tactic(auto)]
 
 mod boxed;

@@ -84,7 +84,7 @@ impl<T> List<T> {
 }
 
 impl<T: Drop> List<T> {
-    // Makes room for more values: for just these at first, and later for as many again as there are.
+    // Makes room for `more` values, or for as many as the list has, if these are more.
     // `Vec` alone would begin with room for four, and most lists of a syntax tree have one element.
     #[cold]
     #[inline(never)]
@@ -109,8 +109,8 @@ impl<T: Drop> List<T> {
         Ok(())
     }
 
-    /// Moves the values of another list behind those of this one. A refusal drops them and leaves the
-    /// list as it was.
+    /// Moves the values of another list to the end of this one. A refusal drops them and leaves this list as
+    /// it was.
     pub fn append(&mut self, other: List<T>) -> Result<(), NoMemory>
         ensures ok { OnOk result (self.new ≡ self.old ++ other) }
         ensures err { OnErr result (self.new ≡ self.old) }

@@ -1,7 +1,7 @@
 // Out of memory, as one error of its own.
 use std::alloc::{AllocError, AllocFailed};
 
-/// No memory was found. Of all refusals this one alone may come at any time.
+/// Memory was refused, or a number is too large for its type. Of all refusals this one alone may come at any time.
 #[derive(Clone, Copy, Debug, PartialEq, Eq)]
 pub struct NoMemory;
 

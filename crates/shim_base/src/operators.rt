@@ -153,7 +153,7 @@ fn remainder(a: i64, b: i64) -> Result<i64, Trap>
     Ok(a.wrapping_rem(b))
 }
 
-// The count of a shift.
+// The number as the count of a shift, or `Shift` where it isn't from 0 to 63.
 #[inline(always)]
 fn count(b: i64) -> Result<u32, Trap>
     ensures { result ≡ if is_count b then Ok (unsigned_abs b) else Err Trap.Shift }
@@ -172,7 +172,8 @@ fn shift_left(a: i64, b: i64) -> Result<i64, Trap>
     doubled(a, count(b)?)
 }
 
-// The number times 2 to the count. In 128 bits no such product overflows.
+// The number times 2 to the count, or `Overflow` where the product doesn't fit 64 bits with a sign. In 128 bits
+// no product of a number and this power overflows.
 #[inline(always)]
 #[tactic(auto, using(crate::proofs::Shifts::int_shl_is))]
 fn doubled(a: i64, count: u32) -> Result<i64, Trap>

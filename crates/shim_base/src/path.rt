@@ -7,12 +7,12 @@ use std::cmp::Ordering;
 use std::marker::Model;
 
 /// How a process is reached from the root: for each fork on the way the fork's number at its process
-/// and the branch's number, both counted from 0. Contracts see a list of pairs. Copies share it, so a copy
-/// costs a count.
+/// and the branch's number, both counted from 0. Contracts see a list of pairs. Copies of a path share the pairs:
+/// a copy adds to a count and copies no pair.
 #[derive(Drop)]
 pub struct Path {
     alloc: Global,
-    // none of the root's
+    // `None` for the root, whose path has no pairs
     pairs: Option<Shared<List<(u32, u32)>>>,
 }
 
@@ -33,7 +33,7 @@ impl Path {
         Path { alloc, pairs: None }
     }
 
-    /// The path of the process in this branch of the fork of that number.
+    /// The path of a child of the process of this path: the child in that branch of the fork of that number.
     pub fn child(&self, fork: u32, branch: u32) -> Result<Path, NoMemory>
         ensures { IfOk result (λ path. path ≡ self.now ++ (fork, branch) ∷ []) }
     {

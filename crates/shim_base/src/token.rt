@@ -10,7 +10,7 @@ pub enum TokenKind {
     Sign(Sign),
 }
 
-/// The names that are kept for the language itself.
+/// The names that the language keeps for itself in both versions.
 #[derive(Clone, Copy, Debug, PartialEq, Eq)]
 pub enum Keyword {
     Void,

@@ -13,7 +13,7 @@ pub enum Ty {
     Uint8,
     Uint16,
     Uint32,
-    /// In version 2 of the text alone.
+    /// Programs of version 2 alone have this type.
     Int64,
 }
 

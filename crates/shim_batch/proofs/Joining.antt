@@ -2,7 +2,7 @@
 use Rattle.std.proofs.Common.{◌≡◌, ◌<◌, ℕ, Result, Ok, Err, IfOk, List, [], ◌∷◌, ◌++◌, length, suc, refl, sym, ap, subst, ◌∙◌, arith, slice_index_or}
 use Rattle.std.specs.List.{AllZip}
 use Rattle.std.proofs.lemmas.List.{append_assoc, append-nil}
-use Rattle.shim_batch.specs.Parts.{joined, JoinsTo}
+use Rattle.shim_batch.specs.Parts.{concatenated, JoinsTo}
 
 module _ {T E : Type 0} where
   -- what the parts that are left join to, stands behind what was joined
@@ -26,12 +26,12 @@ module _ {A B : Type 0} (R : A → B → Type 0) where
   zips_append (x ∷ xs) (y ∷ ys) us vs h k = (h.0, zips_append xs ys us vs h.1 k)
 
   -- where the values of each part are held against those of another, so are those of all
-  pub zips_joined : {E : Type 0} (parts : List (List A)) (runs : List (Result (List B) E)) (all : List B) → AllZip (λ part run. IfOk run (λ done. AllZip R part done)) parts runs → JoinsTo runs all → AllZip R (joined parts) all
+  pub zips_joined : {E : Type 0} (parts : List (List A)) (runs : List (Result (List B) E)) (all : List B) → AllZip (λ part run. IfOk run (λ done. AllZip R part done)) parts runs → JoinsTo runs all → AllZip R (concatenated parts) all
   zips_joined [] [] all h j = subst (λ l. AllZip R [] l) (sym j) tt
   zips_joined [] (run ∷ runs) all h j = absurd h
   zips_joined (part ∷ parts) [] all h j = absurd h
   zips_joined (part ∷ parts) (Ok done ∷ runs) all h j =
-      subst (λ l. AllZip R (part ++ joined parts) l) (sym j.1) (zips_append part done (joined parts) j.0 h.0 (zips_joined parts runs j.0 h.1 j.2))
+      subst (λ l. AllZip R (part ++ concatenated parts) l) (sym j.1) (zips_append part done (concatenated parts) j.0 h.0 (zips_joined parts runs j.0 h.1 j.2))
   zips_joined (part ∷ parts) (Err e ∷ runs) all h j = absurd j
 
   -- what holds at each place of two lists of one length

@@ -5,10 +5,10 @@ use Rattle.std.proofs.lemmas.List.{append_assoc, append-nil}
 use Rattle.shim_local.specs.Process.{Ops}
 use Rattle.shim_net.specs.Nets.{NetView, IsNet}
 use Rattle.shim_net.specs.Standings.{IsQuiescentNet, IsSpentNet}
-use Rattle.shim_batch.specs.Runs.{HasRun}
+use Rattle.shim_batch.specs.Runs.{RunsToEnd}
 
 pub has_run : {S E : Type 0} (o : Ops S) (net : NetView S) (r : Result (NetView S) E) → IfOk r (λ n. n.root ≡ net.root) → IfOk r (λ n. n.budget ≡ net.budget) → IfOk r (λ n. IsQuiescentNet o n ⊎ IsSpentNet o n)
-    → IfOk r (λ n. IsNet o n) → IfOk r (λ n. HasRun o net n)
+    → IfOk r (λ n. IsNet o n) → IfOk r (λ n. RunsToEnd o net n)
 has_run o net (Ok n) root budget quiescent_or_spent keeps = record { root = root; budget = budget; quiescent_or_spent = quiescent_or_spent; keeps = keeps }
 has_run o net (Err e) root budget quiescent_or_spent keeps = tt
 

@@ -1,6 +1,6 @@
 // A list in parts that stand one behind the other.
 ghost use Rattle.std.specs.Prelude.{◌≡◌, ◌≤◌, IfOk};
-ghost use Rattle.shim_batch.specs.Parts.{joined, JoinsTo};
+ghost use Rattle.shim_batch.specs.Parts.{concatenated, JoinsTo};
 
 use shim_base::{List, NoMemory};
 use std::alloc::Global;
@@ -12,7 +12,7 @@ pub(crate) fn cut<T: Drop>(
     size: usize,
 ) -> Result<Vec<List<T>>, NoMemory>
     requires { 1 ≤ size }
-    ensures { IfOk result (λ parts. joined parts.items ≡ values) }
+    ensures { IfOk result (λ parts. concatenated parts.items ≡ values) }
 {
     let mut parts = Vec::new(alloc);
     let mut rest = values.into_vec();

@@ -1,7 +1,7 @@
 // Nets that are run beside each other.
 ghost use Rattle.std.specs.Prelude.{◌≡◌, ◌≤◌, length, IfOk};
 ghost use Rattle.std.specs.List.{AllZip};
-ghost use Rattle.shim_batch.specs.Runs.{HasRun};
+ghost use Rattle.shim_batch.specs.Runs.{RunsToEnd};
 
 use crate::parts::{cut, join};
 use shim_base::{List, NoMemory};
@@ -21,7 +21,7 @@ fn run_net<L: Local, G: Gate, R: Threads + Sync>(
     gate: &G,
 ) -> Result<Net<L>, NoMemory>
     requires quantum { (1 ≤ quantum) × (quantum ≤ 10000) }
-    ensures { IfOk result (λ done. HasRun L.ops net done) }
+    ensures { IfOk result (λ done. RunsToEnd L.ops net done) }
 {
     rounds(rt, alloc, net, 1, quantum, gate)
 }
@@ -35,7 +35,7 @@ fn run_part<L: Local, G: Gate, R: Threads + Sync>(
     gate: &G,
 ) -> Result<List<Net<L>>, NoMemory>
     requires quantum { (1 ≤ quantum) × (quantum ≤ 10000) }
-    ensures { IfOk result (λ done. AllZip (HasRun L.ops) nets done) }
+    ensures { IfOk result (λ done. AllZip (RunsToEnd L.ops) nets done) }
 {
     let mut done = List::with_capacity(alloc, nets.len())?;
     for net in nets.into_vec() {
@@ -59,7 +59,7 @@ pub fn batch<L: Local, G: Gate, R: Threads + Sync>(
     requires workers { (1 ≤ workers) × (workers ≤ 16) }
     requires quantum { (1 ≤ quantum) × (quantum ≤ 10000) }
     ensures many { IfOk result (λ done. length done ≡ length nets) }
-    ensures runs { IfOk result (λ done. AllZip (HasRun L.ops) nets done) }
+    ensures runs { IfOk result (λ done. AllZip (RunsToEnd L.ops) nets done) }
 {
     let size = nets.len().div_ceil(workers as usize);
     let parts = cut(alloc, nets, size)?;
@@ -68,7 +68,7 @@ pub fn batch<L: Local, G: Gate, R: Threads + Sync>(
         parts,
         &|part: List<Net<L>>| -> Result<List<Net<L>>, NoMemory>
             requires { (1 ≤ quantum) × (quantum ≤ 10000) }
-            ensures { IfOk result (λ done. AllZip (HasRun L.ops) part done) }
+            ensures { IfOk result (λ done. AllZip (RunsToEnd L.ops) part done) }
         { run_part(rt, alloc, part, quantum, gate) },
     )?;
     join(alloc, done)

@@ -45,7 +45,7 @@ module _ {T N M : Type 0} {g : Ghosts N M} where
   abbrev pub IsNewOn : Board T N M → ℕ → Chair T N M g → Type 0
   IsNewOn b chairs c = IsIdleOn b c × (seen_of c ≡ 0) × ((number : ℕ) × (number < chairs) × (view_of c ≡ fresh (Some (name_of g.name b)) number (chairs_known chairs number)))
 
-  -- d counts for the same chairs as c
+  -- d counts for the same chairs as c, and keeps the same count of chairs
   abbrev pub StandsAs : Chair T N M g → Chair T N M g → Type 0
   StandsAs c d = ((view_of d).numbers ≡ (view_of c).numbers) × ((view_of d).count ≡ (view_of c).count)
 

@@ -23,7 +23,7 @@ abbrev pub OthersSpent : {M : Type 0} → List (View M) → Type 0
 OthersSpent {M} views = (j : ℕ) (v : View M) → get_elem? views j ≡ some v → j ≢ 0 → v ≡ spent
 
 module _ {T N : Type 0} where
-  -- the piece of the slot k, with its number, where its word x is FULL or BACK
+  -- the piece at home in the place of the slot k, with the slot's number, where the slot's word x is FULL or BACK; else nothing
   abbrev pub left_at : ℕ → ℕ → maybe.Option (SlotValue T N) → List (ℕ × T)
   left_at k x (some (some (Piece y))) = cond (is_full_or_back x) ((k, y) ∷ []) []
   left_at k x _ = []
@@ -59,6 +59,6 @@ module _ {T N M : Type 0} {g : Ghosts N M} where
     pub collections : (k r : ℕ) → times k r v.collections ≡ total (λ c. times k r (view_of c).collections) chairs
     pub idle : HoldsNothing v
 
-  -- This is the net of the turn, and these are the pieces in the FULL and BACK slots, once chair 0 has all that these chairs had. What they put, claimed and collected fixes each slot's word, and so which slots these are
+  -- `net` is the net of the turn, and `left` are the pieces in the FULL and BACK slots, each with its slot, once chair 0 has all that `chairs` had. What these chairs put, claimed and collected fixes which slots `left` names.
   abbrev pub AreLeft : Board T N M → List (Chair T N M g) → N → List (ℕ × T) → Type 0
   AreLeft b chairs net left = (v : View M) × HasAllOf v chairs × AreLastOf g.name b v net left

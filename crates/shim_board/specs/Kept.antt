@@ -81,6 +81,6 @@ module _ {T N M : Type 0} (label : N → M) (board : M) (s : Table T N M) where
 abbrev pub HoldsNothing : {M : Type 0} → View M → Type 0
 HoldsNothing v = (v.turn ≡ 0) × (v.claimed ≡ None) × (v.hand ≡ None)
 
--- the chair has all numbers
+-- the chair has each number below its count of chairs exactly once, and no other number
 abbrev pub HasAll : {M : Type 0} → View M → Type 0
 HasAll v = (x : ℕ) → occurs x v.numbers ≡ one_below x v.count

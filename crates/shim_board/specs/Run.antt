@@ -8,7 +8,7 @@ use Rattle.shim_board.specs.Counting.{one_pair, times, total}
 use Rattle.shim_board.specs.Views.{first_chair, spent, split_off, after_split, after_join, after_look, after_turn_seen, after_reserve, after_put, after_claim, after_give, after_collect, after_take, after_leave}
 use Rattle.shim_board.specs.Kept.{word_of}
 
--- The kinds of step, with the slot, and with what a step brings. A look at the turn's word is a look, too
+-- The kinds of step, each with its slot, if it has one, and with the piece or the net that it brings. `join` has the number of the chair that joins chair 0. `look_turn` is a look at the turn's word.
 pub data StepKind (T N : Type 0) : Type 0 where
   split : StepKind T N
   join : ℕ → StepKind T N
@@ -27,13 +27,13 @@ pub record BoardStep (T N : Type 0) : Type 0 where
   pub chair : ℕ
   pub kind : StepKind T N
 
--- a slot's word went on by one: from where, and with which piece
+-- one step that took a slot's word on by one: the slot, its word before, and the piece
 pub record SlotEntry (T : Type 0) : Type 0 where
   pub slot : ℕ
   pub word : ℕ
   pub value : T
 
--- The words, the piece that each slot has or none, the net of the turn or none, the views, and what was done so far, the last first
+-- The words, the piece that each slot has or none, the net of the turn or none, and the views. `done` has the steps so far that took a slot's word on, the last first.
 pub record BoardRun (T N M : Type 0) : Type 0 where
   pub words : List ℕ
   pub piece : ℕ → Option T
@@ -41,7 +41,7 @@ pub record BoardRun (T N M : Type 0) : Type 0 where
   pub views : List (View M)
   pub done : List (SlotEntry T)
 
--- whether a chair with these numbers is spent, which has none
+-- whether a chair with these numbers is spent: it is where there is no number
 abbrev pub is_spent : List ℕ → Bool
 is_spent [] = true
 is_spent (x ∷ xs) = false
@@ -74,7 +74,7 @@ module _ {T N M : Type 0} where
   abbrev pub with_view : BoardRun T N M → ℕ → View M → BoardRun T N M
   with_view s id w = record s { views = slice_set s.views id w }
 
-  -- the word x of the slot k goes on by one, with the piece y, and the slot has `piece` from then on
+  -- The word of the slot k goes on by one, with the piece y. From then on the slot has `piece`, and the chair id has the view w.
   abbrev pub moves : BoardRun T N M → ℕ → View M → ℕ → Option T → T → BoardRun T N M
   moves s id w k piece y = record {
     words = slice_set s.words (k + 1) (word_of s.words k + 1);
@@ -84,12 +84,12 @@ module _ {T N M : Type 0} where
     done = record { slot = k; word = word_of s.words k; value = y } ∷ s.done;
   }
 
-  -- The word of the slot k goes on by one, with the piece that the slot has, and the slot has `piece` from then on. Where the slot has no piece, nothing changes.
+  -- The word of the slot k goes on by one, with the piece y that the slot has. From then on the slot has no piece, and the chair id has the view w. Where the slot has no piece, nothing changes.
   abbrev pub moves_out : BoardRun T N M → ℕ → View M → ℕ → Option T → BoardRun T N M
   moves_out s id w k None = s
   moves_out s id w k (Some y) = moves s id w k None y
 
-  -- chair 0 takes in another chair, which isn't spent and holds nothing
+  -- Chair 0 takes in the chair `other`, which is spent from then on. Nothing changes where there is no such chair, or where it is chair 0, is spent, or holds something.
   abbrev pub joins : BoardRun T N M → View M → ℕ → maybe.Option (View M) → BoardRun T N M
   joins s v other none = s
   joins s v other (some w) = cond (not (other == 0) && not (is_spent w.numbers) && holds_nothing w) record s { views = slice_set (slice_set s.views 0 (after_join v w)) other spent } s
@@ -163,7 +163,7 @@ module _ {T N M : Type 0} (s : BoardRun T N M) where
   abbrev pub Went : ℕ → ℕ → T → Type 0
   Went k x y = IsAmong record { slot = k; word = x; value = y } s.done
 
-  -- the piece y of the slot k was put, claimed, given and collected in the round r
+  -- `WasPut`: the piece y was put into the slot k in the round r. The next three definitions say the same of claiming, giving and collecting.
   abbrev pub WasPut : ℕ → ℕ → T → Type 0
   WasPut k r y = Went k (4 * r) y
 
@@ -176,7 +176,7 @@ module _ {T N M : Type 0} (s : BoardRun T N M) where
   abbrev pub WasCollected : ℕ → ℕ → T → Type 0
   WasCollected k r y = Went k (4 * r + 3) y
 
-  -- how often the slot k was put, claimed, given and collected in the round r
+  -- `times_put`: how often a piece was put into the slot k in the round r. The next three definitions count claiming, giving and collecting.
   abbrev pub times_put : ℕ → ℕ → ℕ
   times_put k r = passed k (4 * r) s.done
 
@@ -189,7 +189,7 @@ module _ {T N M : Type 0} (s : BoardRun T N M) where
   abbrev pub times_collected : ℕ → ℕ → ℕ
   times_collected k r = passed k (4 * r + 3) s.done
 
-  -- the slot k is FULL or BACK, of the round r, with the piece y
+  -- `StandsFull`: the slot k is FULL, of the round r, with the piece y. `StandsBack` says the same of BACK.
   abbrev pub StandsFull : ℕ → ℕ → T → Type 0
   StandsFull k r y = (word_of s.words k ≡ 4 * r + 1) × (s.piece k ≡ Some y)
 
@@ -202,7 +202,7 @@ module _ {T N M : Type 0} (s : BoardRun T N M) where
 
   -- In the run s each slot was put, claimed, given and collected at most once in each round. What was claimed was put, what was collected was given, and at most one chair has the turn.
   pub record AtMostOnce : Type 0 where
-    -- each slot and round is put, claimed, given and collected at most once, and the chairs' lists say so, too
+    -- In each round each slot is put, claimed, given and collected at most once. The chairs' lists have each put, claim and collection as often as it was done; they have no gives.
     pub once : (k r : ℕ) → (times_put k r ≤ 1) × (times_claimed k r ≤ 1) × (times_given k r ≤ 1) × (times_collected k r ≤ 1)
     pub lists : (k r : ℕ) → (total (λ v. times k r v.puts) s.views ≡ times_put k r) × (total (λ v. times k r v.claims) s.views ≡ times_claimed k r) × (total (λ v. times k r v.collections) s.views ≡ times_collected k r)
     -- what is claimed is what was put, and what is collected is what was given

@@ -16,7 +16,7 @@ module _ {T N M : Type 0} where
   abbrev pub HoldsEmpty : Step (Content T N) → Seated T N M → ℕ → Seated T N M → Type 0
   HoldsEmpty st m x m' = (k r : ℕ) → st.word ≡ k + 1 → 0 < times k r m.0.noted → m' ≡ (after_reserve m.0 k (4 * r), (k + 1, Nothing) ∷ m.1)
 
-  -- a load at a slot, which is in hand from then on where it is BACK
+  -- A load at a slot, which is in hand from then on where it is BACK. Else the chair has looked at the slot.
   abbrev pub HoldsBack : Step (Content T N) → Seated T N M → ℕ → Seated T N M → Type 0
   HoldsBack st m x m' = (k : ℕ) → st.word ≡ k + 1 → (x % 4 ≡ 3 → (y : T) × (m' ≡ (after_reserve m.0 k x, (k + 1, Piece y) ∷ m.1))) × (x % 4 ≢ 3 → m' ≡ (after_look m.0 k x, m.1))
 

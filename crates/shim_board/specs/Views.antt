@@ -25,7 +25,7 @@ Ascends [] x = Unit {0}
 Ascends (y ∷ ys) x = (y % 4 ≡ 1) × (y < first_or ys x) × Ascends ys x
 
 module _ {M : Type 0} where
-  -- a chair of this number, which has done nothing yet
+  -- a chair of the given name of a board, number and count of chairs, which has done nothing yet
   abbrev pub fresh : Option M → ℕ → ℕ → View M
   fresh name number count = record { puts = []; claims = []; collections = []; claimed = None; noted = []; hand = None; seen = []; turns_seen = []; turn = 0; numbers = number ∷ []; count = count; name = name }
 
@@ -38,7 +38,7 @@ module _ {M : Type 0} where
   spent = record { puts = []; claims = []; collections = []; claimed = None; noted = []; hand = None; seen = []; turns_seen = []; turn = 0; numbers = []; count = 0; name = None }
 
   module _ (v : View M) where
-    -- the word x was seen in the slot k
+    -- the word x was seen in the slot k; where x is EMPTY and the chair has the turn, the slot is noted
     abbrev pub after_look : ℕ → ℕ → View M
     after_look k x = record v { seen = v.seen ++ (k, x) ∷ []; noted = noted_with v.turn k x v.noted }
 

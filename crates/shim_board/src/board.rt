@@ -11,9 +11,9 @@ use shim_base::{List, Named, NoMemory};
 use std::alloc::{AllocError, Global};
 use std::snapshot::Snapshot;
 
-/// A table of slots, through which pieces of work go out to workers and come back, and a turn, which
-/// comes with the net. The word of a slot is 4 times its round and its state, EMPTY 0, FULL 1, TAKEN 2
-/// or BACK 3; that of the turn is 0 while it is free and 1 while a chair has it.
+/// A table of slots, through which pieces of work go out to workers and come back, and a turn, which comes with the
+/// net. The word of a slot is 4 times its round plus its state, EMPTY 0, FULL 1, TAKEN 2 or BACK 3; that of the turn
+/// is 0 while it is free and 1 while a chair has it.
 #[derive(Drop)]
 pub struct Board<T, N: Named> {
     pub(crate) table: Table<Content<T, N>, View<N::Label>, Snapshot<N>, BoardRule, Global>,

@@ -19,7 +19,7 @@ pub fn board_run<T, N: Named>()
     ensures lost { (net : N) (slots : ℕ) (steps : List (BoardStep T N)) → NothingLost (board_run N.name net slots steps) }
 {}
 
-/// Such a list of steps does something: after those of `one_round` the piece that was given has come back.
+/// After the steps of `one_round`, the piece that chair 1 gave into the slot 0 in the round 0 was collected.
 pub fn one_round<T, N: Named>()
     ensures { (net : N) (y z : T) → WasCollected (board_run N.name net 1 (one_round y z)) 0 0 z }
 {}

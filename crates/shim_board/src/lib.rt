@@ -1,6 +1,6 @@
-//! A table of slots over which workers hand out pieces of work and hand them back, with one turn
-//! that at most one of them has. Each word changes in single atomic steps, and a value moves while its
-//! place is one chair's alone. No call waits, and none but the first and the last takes memory.
+//! A table of slots over which workers hand out pieces of work and hand them back, with one turn that at most one of
+//! them has. Each word changes in single atomic steps, and a value moves while its place is one chair's alone. No
+//! call waits, and none but `Board::new` and `Board::close` takes memory.
 #![tactic(auto)]
 
 mod board;

@@ -36,9 +36,9 @@ impl<T: Drop, N: Named + Drop> Board<T, N> {
         None
     }
 
-    /// Puts a piece into a slot that was noted in this turn, of a round below 2^62 - 1, so that words stay in
-    /// 64 bits: its word becomes FULL, of the same round. This clause, and those of the other calls, say what
-    /// becomes of the view; what that says of the word is the law `rule`.
+    /// Puts a piece into a slot that was noted in this turn, of a round below 2^62 - 1, so that words stay in 64
+    /// bits: its word becomes FULL, of the same round. The clause `put`, and those of the other calls, say what
+    /// becomes of the view. What a view says of the words is in the law `rule`.
     pub fn put(&self, chair: &mut Chair<T, N>, slot: u64, value: T)
         requires chair { IsOn self.now chair.old }
         requires slot { HasSlot self.now slot }
@@ -56,8 +56,9 @@ impl<T: Drop, N: Named + Drop> Board<T, N> {
         self.table.shared.fetch_add::<Put>(seat, place, 1);
     }
 
-    /// Claims the piece of a slot: its word goes from FULL to TAKEN. `None` only where this call saw a
-    /// word that isn't FULL. It tries again only where it saw another word, so it returns.
+    /// Claims the piece of a slot: its word goes from FULL to TAKEN. `None` only where this call saw a word that
+    /// isn't FULL. It tries again only where it found another FULL word, which is greater than the one before. Words
+    /// are bounded, so it returns.
     pub fn claim(&self, chair: &mut Chair<T, N>, slot: u64) -> Option<T>
         requires chair { IsOn self.now chair.old }
         requires slot { HasSlot self.now slot }

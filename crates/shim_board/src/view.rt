@@ -12,7 +12,7 @@ pub struct View<M> {
     pub collections: LinkedList<(u64, u64)>,
     /// The slot that was claimed and hasn't been given yet, with its round.
     pub claimed: Option<(u64, u64)>,
-    /// The slots that were seen EMPTY in this turn, with the round.
+    /// The slots that were seen EMPTY in this turn, and into which nothing was put since, with the round.
     pub noted: LinkedList<(u64, u64)>,
     /// The slot that is in hand during a call, with the word seen.
     pub hand: Option<(u64, u64)>,
@@ -22,7 +22,8 @@ pub struct View<M> {
     pub turns_seen: LinkedList<u64>,
     /// 1 with the turn, and else 0.
     pub turn: u64,
-    /// The numbers of the chairs that this one counts for: its own, until others join it.
+    /// The numbers of the chairs that this one counts for: its own, and those of chairs that joined it; none once it
+    /// is spent.
     pub numbers: LinkedList<u64>,
     /// How many chairs the board has, at chair 0; else 0.
     pub count: u64,

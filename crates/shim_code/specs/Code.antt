@@ -18,7 +18,7 @@ use Rattle.shim_code.specs.Layout.{CodeAt, one, sequence, all, arms, loop}
 abbrev pub Code : Type 0
 Code = CodeAt Instr
 
--- Operands come before their operator. Of `a && b` a 0 of a leads to a 0, and else b decides, as 0 or 1. Of `a || b` a 0 of a leads to b, which decides as 0 or 1, and else it is 1.
+-- The code of an expression from the code of its operands, which come before their operator. For `a && b` the code gives 0 if a is 0, and else b as 0 or 1. For `a || b` it gives b as 0 or 1 if a is 0, and else 1.
 abbrev pub compile_expr_step : UExpr-F Code → Code
 compile_expr_step (UExpr-F.Number n) = one (Num n)
 compile_expr_step (UExpr-F.Var x) = one (Var x)
@@ -30,7 +30,7 @@ compile_expr_step (UExpr-F.Binary op a b) = sequence a (sequence b (one (Bin op)
 abbrev pub expr_code : UExpr → Code
 expr_code = fold-UExpr Code compile_expr_step
 
--- an absent expression is a number
+-- the code of the expression, or of the number n where there is no expression
 abbrev pub expr_or : ℤ → Option UExpr → Code
 expr_or n None = one (Num n)
 expr_or n (Some e) = expr_code e
@@ -41,11 +41,11 @@ arg_code (ByRef x) = one (Ref x)
 arg_code (ByPass x) = one (Pass x)
 arg_code (ByFresh e) = sequence (expr_code e) (one Fresh)
 
--- in their order
+-- the code of the arguments, in their order
 abbrev pub args_code : List Arg → Code
 args_code args = all (map arg_code args)
 
--- the arguments, and the call of the unit with so many
+-- the code of the arguments, and the call of the unit, with the number of arguments
 abbrev pub call_code : UCall → Code
 call_code c = sequence (args_code c.args) (one (Call c.unit (length c.args) c.throws))
 
@@ -56,11 +56,11 @@ branch_code b = sequence (args_code b.call.args) (one (Branch b.call.unit (lengt
 abbrev pub branches_code : List UBranch → Code
 branches_code branches = all (map branch_code branches)
 
--- the branches in their order, and the fork of so many
+-- the code of the branches in their order, and the fork, with the number of branches
 abbrev pub fork_code : List UBranch → Code
 fork_code branches = sequence (branches_code branches) (one (Fork (length branches)))
 
--- a statement of this kind and line, or a part of one, that does this
+-- a mark of this kind and line, and the code c after it
 abbrev pub marked_code : MarkKind → ℕ → Code → Code
 marked_code k line c pc = Mark k line ∷ c (pc + 1)
 
@@ -68,7 +68,7 @@ marked_code k line c pc = Mark k line ∷ c (pc + 1)
 abbrev pub looped : ℕ → Code → Code → Code
 looped line test body pc = Mark kind.Quiet line ∷ sequence test (loop Jump JumpZ pc body) (pc + 1)
 
--- What each statement is, by its line. An absent start is 0, an absent test 1 and an absent `else` nothing. `next x = e` assigns and then meets, `x = next y` meets and then assigns; both parts have marks. The handler of a `try` stands behind its block, which a jump leads past.
+-- The code of each statement, from its line. An absent start and an absent number of a `throw` are 0, an absent test is 1, and an absent `else` is an empty block. `next x = e` assigns and then meets; `x = next y` meets and then assigns; both parts have marks. The handler of a `try` comes after its block, and a jump at the end of the block leads past the handler.
 abbrev pub what_code : UWhat-F (ℕ → Code) Code → ℕ → Code
 what_code (UWhat-F.Declare t x e) line = marked_code kind.Quiet line (sequence (expr_or (pos 0) e) (one (Declare x)))
 what_code (UWhat-F.Assign x e) line = marked_code kind.Quiet line (sequence (expr_code e) (one (Set x)))
@@ -89,10 +89,10 @@ what_code (UWhat-F.Par branches) line = marked_code kind.Fork line (fork_code br
 abbrev pub stmt_code : UStmt → Code
 stmt_code = fold-UStmt (ℕ → Code) Code what_code (λ s. s.what s.line)
 
--- one statement behind another
+-- the code of statements, one after another
 abbrev pub stmts_code : List UStmt → Code
 stmts_code ss = all (map stmt_code ss)
 
--- of a unit with these statements: the statements, and the end of the unit
+-- the code of a unit with these statements: the code of the statements, from place 0, and the end of the unit
 abbrev pub unit_code : List UStmt → List Instr
 unit_code body = sequence (stmts_code body) (one End) 0

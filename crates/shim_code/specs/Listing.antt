@@ -25,7 +25,7 @@ un_word un.Neg = codes "un neg"
 un_word un.Not = codes "un not"
 un_word un.Flip = codes "un flip"
 
--- The last two are those of the operators on bits, too; no code has them.
+-- The words of the instruction of an operator with two operands. `&&` and `||` have the words of the operators on bits; no code has an instruction of `&&` or `||`.
 abbrev pub bin_word : BinOp → List ℕ
 bin_word op.Mul = codes "bin mul"
 bin_word op.Div = codes "bin div"
@@ -46,7 +46,7 @@ bin_word op.BitOr = codes "bin or"
 bin_word op.And = codes "bin and"
 bin_word op.Or = codes "bin or"
 
--- a number behind a word
+-- the word, a space and the number
 abbrev pub then_number : List ℕ → ℕ → List ℕ
 then_number word n = word ++ (codes " " ++ decimal n)
 
@@ -55,7 +55,7 @@ abbrev pub then_slot : List ℕ → Option ℕ → List ℕ
 then_slot text None = text
 then_slot text (Some y) = then_number text y
 
--- The word of an instruction and its operands, with a space before each. The exceptions of a call are not printed.
+-- The word of an instruction and its operands, with a space before each operand. The exceptions of a call or of a branch are not printed.
 abbrev pub instr_text : Instr → List ℕ
 instr_text (Mark k line) = codes "mark " ++ then_number (kind_word k) line
 instr_text (Num n) = codes "num " ++ signed_decimal n
@@ -81,7 +81,7 @@ instr_text Untry = codes "untry"
 instr_text (Throw x) = then_number (codes "throw") x
 instr_text End = codes "end"
 
--- an instruction in its line, behind its place
+-- the line of an instruction: its place, a space and its text
 abbrev pub line_text : ℕ → Instr → List ℕ
 line_text n i = decimal n ++ (codes " " ++ (instr_text i ++ codes "\n"))
 
@@ -90,10 +90,10 @@ abbrev pub lines_text : ℕ → List Instr → List ℕ
 lines_text n [] = []
 lines_text n (i ∷ is) = line_text n i ++ lines_text (n + 1) is
 
--- the title of a unit in a line, and its instructions behind it
+-- a line with the word `unit` and the title of the unit, and the lines of its instructions after it
 abbrev pub unit_text : CodeUnit → List ℕ
 unit_text u = codes "unit " ++ (u.title ++ (codes "\n" ++ lines_text 0 u.code))
 
--- the units in their order
+-- the texts of the units, in their order
 abbrev pub listing : List CodeUnit → List ℕ
 listing units = flat_map unit_text units

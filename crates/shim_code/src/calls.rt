@@ -11,7 +11,7 @@ use shim_syntax::Sort;
 use shim_units::{Arg, UBranch, UCall, Unit, behind_first};
 use std::alloc::Global;
 
-// The parameters of a unit by its number.
+// The parameters of the unit of this number; none where no unit has it.
 fn params_in(units: &[Unit], number: u32) -> &[UParam]
     ensures { result.now ≡ params_in units.now number }
 {
@@ -21,7 +21,7 @@ fn params_in(units: &[Unit], number: u32) -> &[UParam]
     }
 }
 
-// What the first of the parameters holds.
+// What the first of the parameters holds; `Input` where there is none.
 fn first_sort(params: &[UParam]) -> Sort
     ensures { result ≡ first_sort params.now }
 {

@@ -34,7 +34,7 @@ impl Model for Code {
 }
 
 impl Code {
-    /// These lists as the code of the program that they are of.
+    /// The code of this program, from what the machine runs for each of its units.
     pub(crate) fn new(program: Accepted, machine: List<List<MachineInstr>>) -> Code
         requires { machine ≡ machine_units program.units program.units }
         ensures { result ≡ program }

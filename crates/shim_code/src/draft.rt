@@ -58,7 +58,7 @@ impl Draft {
         Ok(())
     }
 
-    /// A statement begins, or its second part.
+    /// Adds the mark with which a statement begins, or its second part.
     pub fn begin(&mut self, kind: MarkKind, line: u32, halfway: bool) -> Result<(), NoMemory>
         ensures { OnOk result (self.new ≡ self.old ++ begin_mark kind line halfway ∷ []) }
     {
@@ -77,7 +77,7 @@ impl Draft {
         u32::try_from(self.items.len()).map_err(|_| NoMemory)
     }
 
-    /// Leaves room for a jump, and answers its place.
+    /// Adds a jump that is replaced later, and gives its place. A `try` may be written there, too.
     pub fn skip(&mut self) -> Result<u32, NoMemory>
         ensures at { IfOk result (λ at. at ≡ length self.old) }
         ensures after { OnOk result (self.new ≡ self.old ++ Jump 0 ∷ []) }
@@ -87,7 +87,7 @@ impl Draft {
         Ok(at)
     }
 
-    // The instruction of a place is another one.
+    // Replaces the instruction at a place. Where the code has no such place nothing changes.
     fn put(&mut self, at: u32, instr: MachineInstr)
         ensures { self.new ≡ slice_set self.old at instr }
     {
@@ -96,8 +96,9 @@ impl Draft {
         }
     }
 
-    /// Two pieces are written: the first place leads to the second piece, by a test or, with an
-    /// exception, as its handler; the second place leads from the first piece here.
+    /// Ends two pieces once both are written. The instruction at `head` then leads to the second piece: it is a jump
+    /// on 0, or the `try` of the given exception. The jump at `jump`, which comes after the first piece, leads to the
+    /// end of the code.
     pub fn close(&mut self, head: u32, jump: u32, caught: Option<Caught>) -> Result<(), NoMemory>
         ensures { OnOk result (self.new ≡ jumps_patched caught head jump self.old) }
     {
@@ -112,8 +113,8 @@ impl Draft {
         Ok(())
     }
 
-    /// The test and the body of a loop are written: behind them comes a jump to the start, and the first
-    /// place leads past that.
+    /// Ends a loop once its test and its body are written. A jump to `start` is added after them, and the jump on 0
+    /// at `head` leads to the place after that one.
     pub fn close_loop(&mut self, start: u32, head: u32) -> Result<(), NoMemory>
         ensures { OnOk result (self.new ≡ closed_loop start head self.old) }
     {
@@ -123,8 +124,8 @@ impl Draft {
         Ok(())
     }
 
-    /// The whole code, with the numbers of the statements at their marks. A number that 32 bits do not hold
-    /// counts as out of memory.
+    /// The whole code, with the statements' numbers at their marks, and their count at the end of the unit. A number
+    /// that 32 bits do not hold counts as out of memory.
     pub fn finish(self) -> Result<List<MachineInstr>, NoMemory>
         ensures { IfOk result (λ code. code ≡ numbered 0 self) }
     {
@@ -138,7 +139,8 @@ impl Draft {
     }
 }
 
-// Writes its number into an instruction behind the marks of so many statements, and counts on.
+// Writes the number into a mark or an end before which `next` statements begin. Gives how many begin up to and at the
+// instruction.
 fn write_number(instr: &mut MachineInstr, next: u32) -> Result<u32, NoMemory>
     ensures written { OnOk result (instr.new ≡ with_number next instr.old) }
     ensures next { IfOk result (λ after. after ≡ next + begun instr.old) }

@@ -70,7 +70,7 @@ fn emit_truth(code: &mut Draft, expr: &UExpr) -> Result<(), NoMemory>
     code.push(MachineInstr::Bool)
 }
 
-/// Adds the code of an expression, or the number that it is where it is absent.
+/// Adds the code of an expression, or of this number where there is no expression.
 pub fn emit_expr_or(code: &mut Draft, number: i64, expr: &Option<UExpr>) -> Result<(), NoMemory>
     ensures { OnOk result (code.new ≡ code.old ++ machine_expr_or number expr.now (length code.old)) }
 {

@@ -13,7 +13,7 @@ pub enum MarkKind {
 
 /// One instruction. A place is a number in the unit's list of instructions, which begins with 0; slots,
 /// exceptions and units are named by their numbers.
-#[derive(Debug, Drop)]
+#[derive(Drop)]
 pub enum Instr {
     /// A statement, or its second part, begins; with its line.
     Mark(MarkKind, u32),
@@ -41,7 +41,7 @@ pub enum Instr {
     /// The unit, how many arguments it gets, and the caller's exception for each that the unit is given.
     Call(u32, u32, List<u32>),
     Branch(u32, u32, List<u32>),
-    /// So many branches run beside one another.
+    /// This many branches run beside one another.
     Fork(u32),
     /// The place of the handler, the exception that comes into force, and the slot of the handler's variable,
     /// where it has one.

@@ -8,14 +8,14 @@ ghost use Rattle.shim_code.specs.MachineCode.{machine_stmt, machine_unit, number
 ghost use Rattle.shim_code.specs.declared.machine_instr.MachineInstr.{MachineInstr};
 ghost use Rattle.shim_code.specs.Published.{published_all};
 
-/// What the machine runs for a unit is the unit's code, with only more operands: without these it is the
-/// table's list, instruction by instruction, whatever units there are.
+/// What the machine runs for a unit is the unit's code with more operands. Without these operands it is the unit's
+/// code, instruction by instruction, whatever units there are.
 pub fn machine_runs_the_code()
     ensures { (units : List UnitOf) (body : List UStmt) → published_all (machine_unit units body) ≡ unit_code body }
 {}
 
-/// In what the machine runs for a statement, as many statements begin as it has numbers, wherever it
-/// stands.
+/// In what the machine runs for a statement, at whatever place, as many statements begin as that statement has
+/// numbers.
 pub fn marks_are_as_many_as_numbers()
     ensures { (units : List UnitOf) (s : UStmt) (place : ℕ) → statements_in (machine_stmt units s place) ≡ size_of s }
 {}

@@ -5,7 +5,7 @@ use shim_syntax::Sort;
 
 /// Where a statement begins, or its second part. The small fields stand last, so that an instruction takes
 /// 16 bytes in place of 24.
-#[derive(Clone, Copy, Debug)]
+#[derive(Clone, Copy)]
 pub struct Mark {
     pub line: u32,
     /// The statement's number in its unit.
@@ -17,7 +17,7 @@ pub struct Mark {
 }
 
 /// What is called, or what a branch of a fork calls.
-#[derive(Debug, Drop)]
+#[derive(Drop)]
 pub struct Callee {
     pub unit: u32,
     /// How many arguments it gets.
@@ -26,9 +26,9 @@ pub struct Callee {
     pub throws: List<u32>,
 }
 
-/// One instruction with what running it takes of its statement: a type to store by, what a parameter holds, a
-/// number. Names, and the slots of the units that are entered, stay in the program.
-#[derive(Debug, Drop)]
+/// One instruction with what running it takes of its statement: a type to store by, what a parameter holds and its
+/// name, a number. Other names, and the slots of the units that are entered, stay in the program.
+#[derive(Drop)]
 pub enum MachineInstr {
     Mark(Mark),
     Num(i64),

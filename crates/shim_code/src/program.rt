@@ -24,7 +24,7 @@ pub fn compile(alloc: Global, program: &Accepted) -> Result<Code, NoMemory>
     Ok(Code::new(kept, machine))
 }
 
-/// A unit with its code, one of these units of a program.
+/// A unit with its code, whose calls are of these units.
 pub fn code_unit(alloc: Global, unit: &Unit, units: &[Unit]) -> Result<CodeUnit, NoMemory>
     ensures { IfOk result (λ made. made ≡ with_code unit.now (unit_code unit.now.body)) }
 {

@@ -11,8 +11,8 @@ use shim_base::{BinOp, List, NoMemory, UnOp, push_decimal};
 use shim_units::Accepted;
 use std::alloc::Global;
 
-/// The units of a program in their order: for each a line with its title, and its instructions in lines
-/// of their own, each behind its place.
+/// The units of a program in their order: for each a line with its title, and then a line for each of its
+/// instructions, which begins with the instruction's place.
 pub fn listing(alloc: Global, program: &Accepted) -> Result<List<u8>, NoMemory>
     ensures { IfOk result (λ text. text ≡ listing (code_units program.now.units)) }
 {
@@ -99,7 +99,7 @@ fn push_num(text: &mut List<u8>, number: i64) -> Result<(), NoMemory>
     push_decimal(text, number.unsigned_abs())
 }
 
-// Adds a word with a number behind it.
+// Adds a word, a space and a number.
 fn push_number(text: &mut List<u8>, word: &[u8], number: u32) -> Result<(), NoMemory>
     ensures { OnOk result (text.new ≡ text.old ++ then_number word.now number) }
 {

@@ -10,7 +10,7 @@ use shim_units::{Unit, copy_params};
 use std::alloc::Global;
 
 /// A unit of a program, with a list of instructions in place of its statements.
-#[derive(Debug, Drop)]
+#[derive(Drop)]
 pub struct CodeUnit {
     pub title: List<u8>,
     pub params: List<UParam>,
@@ -18,7 +18,7 @@ pub struct CodeUnit {
     pub slot_names: List<u32>,
     /// How many exceptions it is given, which are the first ones.
     pub throws: u32,
-    /// The names of its `try` statements, whose numbers follow those.
+    /// The names of its `try` statements, whose exceptions have the numbers after those that it is given.
     pub tries: List<u32>,
     pub code: List<Instr>,
 }

@@ -21,9 +21,9 @@ number_option name least most = record (new_rule name) { long = Some name; parse
 abbrev pub flag : Text → Rule
 flag name = record (new_rule name) { long = Some name; action = Some SetTrue }
 
--- words behind the others, as many as there are
-abbrev pub words_behind : Text → Rule
-words_behind name = record (new_rule name) { action = Some Append }
+-- words after the others, as many as there are
+abbrev pub words_after : Text → Rule
+words_after name = record (new_rule name) { action = Some Append }
 
 -- the arguments of `shim`
 unfoldable pub command_rules : List Rule
@@ -37,7 +37,7 @@ command_rules =
     ∷ number_option (codes "size") 1 100000
     ∷ option (codes "journal")
     ∷ flag (codes "steal")
-    ∷ words_behind (codes "INPUT")
+    ∷ words_after (codes "INPUT")
     ∷ []
 
 -- the command: its arguments, no subcommand, and no flag for help

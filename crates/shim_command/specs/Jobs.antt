@@ -106,7 +106,7 @@ Gives meant (Ok found) = meant ≡ Some found
 Gives meant (Err Refused) = meant ≡ None
 Gives meant (Err NoMemory) = Unit {0}
 
--- the numbers of a job are in their ranges, that of its inputs with them
+-- the numbers of a job are in their ranges, and a job whose mode reads several inputs names 1 to 64 of them
 pub record IsWithin (job : Job) : Type 0 where
   pub workers : (1 ≤ job.workers) × (job.workers ≤ 16)
   pub budget : (1 ≤ job.budget) × (job.budget ≤ 4000000)

@@ -38,7 +38,7 @@ row_of Replay = record { word = codes "replay"; origin = Stored; beside = InputA
 row_of Why = record { word = codes "why"; origin = Stored; beside = Input; task = Explains }
 row_of Batch = record { word = codes "batch"; origin = Stored; beside = Inputs; task = RunsEach }
 
--- a row that was made, as the definition names it
+-- a row of the code, as a row of the definitions
 abbrev pub row_view : CodeModeRow → ModeRow
 row_view row = record { word = row.word.now; origin = row.origin; beside = row.beside; task = row.task }
 

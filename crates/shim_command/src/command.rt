@@ -1,7 +1,7 @@
 // The command line, as one simple command of `clap`.
 ghost use Rattle.std.specs.Prelude.{◌≡◌, ◌≤◌, IfOk, false};
 ghost use Rattle.clap.specs.Words.{app_of, rule_of};
-ghost use Rattle.shim_command.specs.Command.{flag, positional, number_option, option, shim_app, words_behind};
+ghost use Rattle.shim_command.specs.Command.{flag, positional, number_option, option, shim_app, words_after};
 
 use clap::builder::ValueParser;
 use clap::{Arg, ArgAction, Command};
@@ -42,9 +42,9 @@ fn flag<'a>(alloc: Global, name: &'a str) -> Arg<'a>
     Arg::new(alloc, name).action(ArgAction::SetTrue).long(name)
 }
 
-// Words behind the others, as many as there are.
-fn words_behind<'a>(alloc: Global, name: &'a str) -> Arg<'a>
-    ensures rule { rule_of result ≡ words_behind name.entry.now }
+// Words after the others, as many as there are.
+fn words_after<'a>(alloc: Global, name: &'a str) -> Arg<'a>
+    ensures rule { rule_of result ≡ words_after name.entry.now }
     ensures own { result.global ≡ false }
 {
     Arg::new(alloc, name).action(ArgAction::Append)
@@ -66,6 +66,6 @@ pub(crate) fn command<'a>(alloc: Global) -> Result<Command<'a>, NoMemory>
         .arg(number(alloc, "size", 1, 100000))?
         .arg(option(alloc, "journal"))?
         .arg(flag(alloc, "steal"))?
-        .arg(words_behind(alloc, "INPUT"))?;
+        .arg(words_after(alloc, "INPUT"))?;
     Ok(command)
 }

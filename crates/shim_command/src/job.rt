@@ -3,7 +3,7 @@ use crate::mode::Mode;
 use shim_base::{List, NoMemory};
 
 /// What the arguments ask for. An option that was not given has its default.
-#[derive(Debug, Drop)]
+#[derive(Drop)]
 pub struct Job {
     pub mode: Mode,
     /// The name of the source's file; of `gen` the word of a kind.

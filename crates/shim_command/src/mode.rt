@@ -86,7 +86,7 @@ pub enum Task {
 }
 
 /// What a mode is.
-#[derive(Clone, Copy, Debug)]
+#[derive(Clone, Copy)]
 pub struct ModeRow {
     /// The word that asks for it.
     pub word: &'static str,

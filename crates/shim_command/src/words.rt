@@ -96,7 +96,7 @@ fn job_with(alloc: Global, mode: Mode, matches: &ArgMatches<'_>) -> Result<Job, 
     })
 }
 
-// Whether the source is there to be had: where it is generated, FILE names a kind.
+// Whether the job has a source of this origin: one that is generated needs a kind that FILE names.
 fn has_origin(job: &Job, origin: Origin) -> bool
     ensures { result ≡ has_origin origin job.now }
 {
@@ -109,7 +109,8 @@ fn has_origin(job: &Job, origin: Origin) -> bool
 /// The most inputs on which one call runs a source.
 const MOST_INPUTS: usize = 64;
 
-// Whether what is read beside the source is named where it has to be.
+// Whether the job names what is read beside its source: a journal where one is read, and as many inputs as the mode
+// takes.
 fn has_extra(job: &Job, beside: Extra) -> bool
     ensures { result ≡ has_extra beside job.now }
 {

@@ -1,4 +1,4 @@
-// What calls answer. One of the tool goes over files and a sink in memory.
+// What calls answer. A call of the tool reads files in memory and writes to a sink in memory.
 use crate::case::Case;
 use shim_base::{List, NoMemory};
 use shim_tests_layers::{HeldFile, Setup, files_of, sink_with_room};
@@ -7,7 +7,7 @@ use std::alloc::Global;
 use std::sync::Wait;
 use std::thread::Threads;
 
-// The most bytes that an answer has.
+// The room of the sink: the most bytes that the tool can write in one call.
 const ROOM: usize = 1 << 20;
 
 /// What a call answered.
@@ -23,7 +23,7 @@ impl Answer {
     }
 }
 
-/// Calls the tool with these words behind a gate, over the files of a setup and these.
+/// Calls the tool with these words, over the files of a setup and these further ones. Its workers pass this gate.
 pub fn call_over<G: Gate, R: Threads + Wait + Sync>(
     rt: &R,
     alloc: Global,

@@ -1,4 +1,4 @@
-// A case: what the tool is called with, and what it has to answer.
+// A case: the words and files of its calls, and what each call has to answer.
 use crate::words::CallLine;
 use shim_tests_layers::Setup;
 

@@ -10,7 +10,7 @@ use shim_tests_layers::{Edges, HeldFile, Setup};
 use std::alloc::Global;
 use std::mem;
 
-// More than an input may have, so that files at their limit and past it can be written.
+// The most bytes that one `repeat` heading writes: more than an input may have, so a case can have longer ones.
 const MOST_BYTES: usize = 1 << 25;
 
 // What the lines belong to.
@@ -42,7 +42,7 @@ fn name_of(alloc: Global, text: &str) -> Result<Name, CaseFault> {
     Ok(Name::new(alloc, bytes)?)
 }
 
-// The bytes of pairs of hex digits with blanks between them.
+// The bytes of pairs of hex digits with white space between them; anything else is a fault.
 fn from_hex(alloc: Global, text: &str) -> Result<Vec<u8>, CaseFault> {
     let mut bytes = Vec::new(alloc);
     for pair in text.split_ascii_whitespace() {
@@ -72,7 +72,7 @@ fn numbers_of(alloc: Global, text: &str) -> Result<List<u64>, CaseFault> {
     Ok(numbers)
 }
 
-// How often which text stands there.
+// The count and the text of a `repeat` heading; a fault where they make more than `MOST_BYTES` together.
 fn repeat_of(text: &str) -> Result<(usize, &str), CaseFault> {
     let Some((count, part)) = text.split_once(' ') else {
         return Err(CaseFault::BadRepeat);

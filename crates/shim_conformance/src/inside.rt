@@ -1,4 +1,5 @@
-// Words of a case's own: they ask for the tool behind a gate, or for what lies below it.
+// Words that a case has and the tool doesn't: they ask for the tool with a gate, for a part of it, or for a layer
+// below it.
 use crate::call::Answer;
 use crate::watched::{each_text, gate_text, prepared_text, replayed_text};
 use shim_base::{List, NoMemory};
@@ -7,7 +8,8 @@ use std::alloc::Global;
 use std::sync::Wait;
 use std::thread::Threads;
 
-/// Answers words of a case's own, over the files of a setup. The status is 2 where they ask for nothing there is.
+/// Answers words of a case's own, over the files of a setup. The status is 2 where there are no such words, where
+/// what they name is missing or refused, or where the tool that they ask for ends with a status other than 0.
 pub fn call_inside<R: Threads + Wait + Sync>(
     rt: &R,
     alloc: Global,

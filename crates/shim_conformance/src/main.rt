@@ -1,5 +1,6 @@
-//! Runs the cases of the files in this folder, or of those that the words name, through the tool over
-//! files and a sink in memory. Prints a line for each case, what differs in full, and the counts.
+//! Runs the cases of the files in the working directory, or of those that its arguments name. A call is one of the
+//! tool, over files and a sink in memory, or of a layer below it. Prints a line for each case, what differs in full,
+//! and the counts.
 #![tactic(auto)]
 
 mod call;
@@ -19,7 +20,7 @@ use std::sync::Wait;
 use std::thread::Threads;
 use std::{env, fs, io};
 
-// The names of what lies in this folder, in their order, which isn't that of the system.
+// The names of all entries of the working directory, sorted; the system gives them in any order.
 fn names_here(rt: &HostRuntime) -> io::Result<Vec<String>> {
     let mut names = Vec::new(rt.alloc());
     for entry in fs::read_dir(rt, ".")? {
@@ -38,7 +39,7 @@ fn names(rt: &HostRuntime) -> io::Result<Vec<String>> {
     }
 }
 
-// Runs the cases of the files that the host has, on threads of the other runtime, which prints.
+// Runs the cases of the files, which `host` reads. `rt` prints, and the calls have its threads.
 fn report_all<R: Print + Threads + Wait + Sync>(host: &HostRuntime, rt: &R) -> io::Result<bool> {
     let names = names(host)?;
     let mut report = Report::new(host.alloc());

@@ -9,12 +9,12 @@ use std::mem;
 #[derive(Drop)]
 enum State {
     Outside,
-    // Behind a fault, up to the end of the case.
+    // After a fault, up to the end of the case or the beginning of the next one.
     Skipping,
     Inside(CaseDraft),
 }
 
-/// Reads lines one after another. Behind a fault it goes on at the next case.
+/// Reads lines one after another. After a fault it goes on at the next case.
 #[derive(Drop)]
 pub struct Reader {
     alloc: Global,

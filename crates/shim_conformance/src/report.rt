@@ -49,7 +49,8 @@ impl Tally {
     }
 }
 
-// Prints a text as it is, behind a line with its status and length. An end without line break is told.
+// Ends the line that was begun with a status and a text's length, and prints the text as it is. If the text has
+// bytes, but no line break at its end, that is told.
 fn show_text(rt: &impl Print, status: u8, text: &[u8]) -> io::Result<()> {
     println!(rt; ": status {status}, {} bytes", text.len())?;
     rt.write_all(text)?;
@@ -85,7 +86,7 @@ fn answer_to<R: Threads + Wait + Sync>(
     }
 }
 
-// Makes one call. Where it differs it is shown, behind what is wanted if it is the first of its case.
+// Makes one call. An answer that differs is shown; before the first such answer of a case, what is wanted is shown.
 fn run_call<R: Print + Threads + Wait + Sync>(
     rt: &R,
     alloc: Global,
@@ -238,7 +239,7 @@ impl Report {
         }
     }
 
-    /// Prints the counts, and says whether there were cases and all of them passed.
+    /// Prints the counts, and says whether a case passed and nothing failed outside `.faults` files.
     pub fn end(self, rt: &impl Print) -> io::Result<bool> {
         println!(rt; "{} told in .faults files", self.reply)?;
         println!(rt; "{} passed, {} failed", self.passed, self.failed)?;

@@ -1,4 +1,4 @@
-// Calls of the tool that a gate watches, and what the tool prepares without a runtime.
+// Calls of the tool that a gate watches, what the tool prepares without a runtime, and runs on several inputs.
 use crate::call::{Answer, call_over};
 use shim_base::{List, Name, NoMemory, push_decimal};
 use shim_tests_layers::{HeldFile, Setup, files_of, gate_of, word};
@@ -13,7 +13,7 @@ fn add_number(reply: &mut List<u8>, before: &[u8], number: u64) -> Result<(), No
     push_decimal(reply, number)
 }
 
-// Tells what a gate saw, where no more entries are told than so many.
+// Tells what a gate saw. As the number of entries it tells `most` at most.
 fn add_gate(reply: &mut List<u8>, gate: &WatchingGate, most: u64) -> Result<(), NoMemory> {
     add_number(reply, b"gate: entries ", gate.entries().min(most))?;
     add_number(reply, b", held ", gate.holds())?;
@@ -23,7 +23,7 @@ fn add_gate(reply: &mut List<u8>, gate: &WatchingGate, most: u64) -> Result<(), 
 }
 
 // The text of an answer, and what a gate saw; nothing where the tool's status isn't 0.
-fn behind_gate(
+fn after_gate(
     answer: Answer,
     gate: &WatchingGate,
     most: u64,
@@ -36,7 +36,7 @@ fn behind_gate(
     Ok(Some(reply))
 }
 
-// The words from this place on, behind the tool's own name.
+// The tool's own name, followed by the words from this place on.
 fn asked_from(alloc: Global, words: &[String], at: usize) -> Result<Vec<String>, NoMemory> {
     let mut asked = Vec::new(alloc);
     asked.push(String::from_str(alloc, "shim")?)?;
@@ -61,7 +61,7 @@ pub fn gate_text<R: Threads + Wait + Sync>(
     };
     let asked = asked_from(alloc, words, 4)?;
     let answer = call_over(rt, alloc, setup, &[], asked.as_slice(), &gate)?;
-    behind_gate(answer, &gate, most)
+    after_gate(answer, &gate, most)
 }
 
 // The words of a line.
@@ -83,8 +83,8 @@ fn journal_file(alloc: Global, content: List<u8>) -> Result<Vec<HeldFile>, NoMem
     Ok(files)
 }
 
-/// `replayed WORDS`: the journal that the tool answers is replayed over `p.shim` with the input `i`. That text, and what a
-/// gate saw of both; one entry is told at most.
+/// `replayed WORDS`: the journal that the tool answers is replayed over `p.shim` with the input `i`. Gives the text
+/// of the replay, and what one gate saw of both calls; as the number of entries it tells 1 at most.
 pub fn replayed_text<R: Threads + Wait + Sync>(
     rt: &R,
     alloc: Global,
@@ -107,7 +107,7 @@ pub fn replayed_text<R: Threads + Wait + Sync>(
         asked.as_slice(),
         &gate,
     )?;
-    behind_gate(answer, &gate, 1)
+    after_gate(answer, &gate, 1)
 }
 
 // What a call comes to before a runtime is wanted.
@@ -116,7 +116,7 @@ fn prepared(alloc: Global, setup: &Setup, words: &[String]) -> Result<Prepared, 
     prepare(alloc, asked_from(alloc, words, 2)?.as_slice(), &mut files)
 }
 
-// What is told of that.
+// The line for what `prepare` returned.
 fn preparation(prepared: &Prepared) -> &'static [u8] {
     match prepared {
         Prepared::Answered(_) => b"answered\n",
@@ -136,8 +136,8 @@ pub fn prepared_text(
     Ok(Some(List::from_slice(alloc, preparation(&prepared))?))
 }
 
-/// `each WORDS`: what the tool answers to runs on several inputs, which want threads, and no call that may wait forever.
-/// What `answer_each` asks for is said by `prepare`, so that is called here.
+/// `each WORDS`: the text of runs on several inputs, which need threads but no `Wait`. Gives nothing where the words
+/// ask for anything else, or the status isn't 0. Clauses of `prepare` give the conditions of `answer_each`.
 pub fn each_text<R: Threads + Sync>(
     rt: &R,
     alloc: Global,

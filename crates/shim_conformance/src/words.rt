@@ -13,7 +13,8 @@ pub enum Asked {
     Inside,
 }
 
-// The choices that a word offers: `{1|2}` has two, `{}` has the empty word, and any other has itself.
+// The choices that a word offers: `{1|2}` and `1|2` have two, `{}` has the empty word, and a word without bar and
+// braces has itself. A word that isn't in braces may have no brace, and at least one byte.
 fn choices_of(alloc: Global, word: &str) -> Result<Vec<String>, CaseFault> {
     let inner = word
         .strip_prefix('{')
@@ -60,7 +61,7 @@ impl CallLine {
         self.count
     }
 
-    /// The words of the call of this number, counted from 0, behind the program's own name.
+    /// The program's own name, followed by the words of the call of this number, counted from 0.
     pub fn words(&self, alloc: Global, number: usize) -> Result<Vec<String>, NoMemory> {
         let mut left = number;
         let mut words = Vec::new(alloc);

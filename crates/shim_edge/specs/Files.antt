@@ -18,12 +18,12 @@ no_files = None
 abbrev pub HasFile : Option (List (List ℕ × List ℕ)) → List ℕ → Type 0
 HasFile held name = IsSomeAnd held (λ files. IsSome (file_of files name))
 
--- `Whole` bytes are at most `most`. Where the content is known, it is these bytes. At `Longer` a known content is longer than `most`.
+-- `Whole` has at most `most` bytes. Where the content is known, it is these bytes. At `Longer` a known content is longer than `most`.
 abbrev pub ShowsContent : Option (List ℕ) → ℕ → Got → Type 0
 ShowsContent content most (Whole bytes) = (length bytes ≤ most) × IfSome content (λ known. known ≡ bytes)
 ShowsContent content most Longer = IfSome content (λ known. most < length known)
 
--- `Whole` bytes are at most `most`. Where the files are known, they are the content of the first file of that name. At `Longer` that content is longer than `most`.
+-- `Whole` has at most `most` bytes. Where the files are known, these bytes are the content of the first file of that name. At `Longer`, where the files are known, that content is longer than `most`. A fault claims nothing.
 abbrev pub ShowsFile : Option (List (List ℕ × List ℕ)) → List ℕ → ℕ → Result Got FileFault → Type 0
 ShowsFile held name most (Ok (Whole bytes)) = (length bytes ≤ most) × IfSome held (λ files. file_of files name ≡ Some bytes)
 ShowsFile held name most (Ok Longer) = IfSome held (λ files. IsSomeAnd (file_of files name) (λ content. most < length content))

@@ -12,9 +12,9 @@ pub record FilesInMemory : Type 0 where
   pub files : List (List ℕ × List ℕ)
   -- the numbers of the reads that fail, counted from 0
   pub failing : List ℕ
-  -- the name of each failed read, in order
+  -- the name of each read that answered `Failed`, in order
   pub failed : List (List ℕ)
-  -- how many reads there were, up to the end of a u64
+  -- how many reads there were, up to the end of a u64; a read that answers `NoMemory` isn't counted
   pub calls : ℕ
 
 -- the next read is to fail, or there is no file of that name

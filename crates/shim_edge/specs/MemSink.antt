@@ -16,7 +16,7 @@ pub record SinkInMemory : Type 0 where
   -- how many of them failed, up to the end of a u64
   pub faults : ℕ
 
--- the next write is to fail, or so many bytes pass the room
+-- the next write is to fail, or the taken bytes and this many more pass the room
 abbrev pub RefusesWrite : SinkInMemory → ℕ → Type 0
 RefusesWrite memory count = Contains memory.failing memory.calls ⊎ (memory.room < length memory.taken + count)
 

@@ -10,11 +10,11 @@ abbrev pub Takes : {E : Type 0} → Option (List ℕ) → List ℕ → Option (L
 Takes before piece now (Ok n) = now ≡ then_bytes before (take n piece)
 Takes before piece now (Err e) = now ≡ before
 
--- the first of the bytes were taken, and not all of them
+-- the bytes were taken from the first on, perhaps none, and not all
 abbrev pub TakesPart : Option (List ℕ) → List ℕ → Option (List ℕ) → Type 0
 TakesPart before bytes now = (n : ℕ) × (n < length bytes) × (now ≡ then_bytes before (take n bytes))
 
--- all of the bytes were taken at `Ok`, and a part of them at `Err`
+-- all of the bytes were taken at `Ok`; at `Err` they were taken from the first on, perhaps none, and not all
 abbrev pub TakesAll : {T E : Type 0} → Option (List ℕ) → List ℕ → Option (List ℕ) → Result T E → Type 0
 TakesAll before bytes now (Ok _) = now ≡ then_bytes before bytes
 TakesAll before bytes now (Err _) = TakesPart before bytes now

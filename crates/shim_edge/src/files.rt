@@ -48,8 +48,8 @@ impl<T: Drop> From<AllocFailed<T>> for FileFault {
     }
 }
 
-/// Files that are read by name, with a list of the failed reads by their names. The list is only added
-/// to, so its length counts the faults and never falls.
+/// Files that are read by name, with a list of the failed reads by their names. Reads only add to the list. Its
+/// length counts the reads that answered `Failed`, and never falls.
 pub trait Files {
     /// The names and contents of the files, where contracts know them. Of two files of one name the first
     /// is read.

@@ -42,7 +42,8 @@ impl<'a, R: rt::Files> HostFiles<'a, R> {
     }
 }
 
-// Reads up to one byte past the limit: all that the source has, or a sign that it has more.
+// Reads at most one byte past the limit. The answer is all that the reader has left, or `Longer` if that is more
+// than the limit.
 fn read_source<T: Read + Drop>(alloc: Global, source: T, most: usize) -> io::Result<Got>
     ensures { IfOk result (ShowsContent (T.remaining source) most) }
 {
@@ -81,7 +82,7 @@ impl<R: rt::Files> Files for HostFiles<'_, R> {
     ghost known_if_sound = { λ _ is_sound. is_sound };
 
     /// A name that is no UTF-8 is a failure, and so is every error of the system but out of memory.
-    /// No more than `most` bytes and one are read.
+    /// The call reads at most one byte more than `most`.
     fn read(&mut self, alloc: Global, name: &[u8], most: usize) -> Result<Got, FileFault>
         ensures content { ShowsFile no_files name.now most result }
         ensures cause { AddsNameIfFailed self.old name.now self.new result }

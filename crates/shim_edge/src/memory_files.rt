@@ -60,7 +60,7 @@ fn find<'a>(files: &'a [(Name, List<u8>)], name: &[u8]) -> Option<&'a List<u8>>
     None
 }
 
-// A copy of the content, if it has at most so many bytes.
+// A copy of the content, if it has at most `most` bytes, and else `Longer`.
 fn shown(alloc: Global, content: &[u8], most: usize) -> Result<Got, NoMemory>
     ensures { IfOk result (ShowsContent (Some content.now) most) }
 {

@@ -74,7 +74,7 @@ impl MemSink {
         &self.taken
     }
 
-    // Whether the next write fails: it is to fail, or so many bytes pass the room.
+    // Whether the next write fails: it is to fail, or the taken bytes and this many more pass the room.
     fn refuses(&self, count: usize) -> bool
         ensures { IsTrue result ↔ RefusesWrite self.now count }
     {
@@ -90,7 +90,7 @@ impl Sink for MemSink {
     ghost faults = { λ sink. sink.faults };
 
     /// Takes as many of the bytes as one write may, and no memory. Fails exactly where this write is to
-    /// fail, or what it would take passes the room. Each write counts, and each that fails.
+    /// fail, or what it would take passes the room. The sink counts each write, and the writes that fail.
     fn write(&mut self, bytes: &[u8]) -> Result<usize, SinkFault>
         requires { 1 ≤ length bytes.now }
         ensures count { IfOk result (λ n. (1 ≤ n) × (n ≤ length bytes.now)) }

@@ -10,8 +10,8 @@ pub enum SinkFault {
     Failed,
 }
 
-/// A sink that takes bytes, with a count of its failed writes. Such a count may be a `u64` that
-/// saturates: at the end of a `u64` it stays as it is, and contracts count a failure as a rise all the same.
+/// A sink that takes bytes, with a count of its failed writes. The count may be a `u64` that saturates: at the
+/// end of a `u64` it stays as it is at a failure, and the clause `cause` holds there, too.
 pub trait Sink {
     /// The bytes that were taken, where contracts know them.
     ghost taken: { Self → Option (List ℕ) };
@@ -29,8 +29,8 @@ pub trait Sink {
         ensures cause { OnErr result (HasRisen (faults self.old) (faults self.new)) };
 }
 
-/// Writes all of the bytes, and takes no memory. At `Failed` the count of faults rose, and the sink has some
-/// of the bytes, from the first on, but not all.
+/// Writes all of the bytes, and takes no memory. At `Failed` the count of faults rose, if it could. The sink then
+/// has taken the bytes from the first on, perhaps none, but not all.
 pub fn write_all<K: Sink>(out: &mut K, bytes: &[u8]) -> Result<(), SinkFault>
     ensures taken { TakesAll (K.taken out.old) bytes.now (K.taken out.new) result }
     ensures uncounted { OnOk result (K.faults out.new ≡ K.faults out.old) }

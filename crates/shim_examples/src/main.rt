@@ -35,7 +35,7 @@ fn push_word(words: &mut Vec<String>, word: &str) -> Result<(), NoMemory> {
     Ok(())
 }
 
-// A mode, an example and perhaps its input.
+// The program's own name, this mode, and the words of `rest`: an example, and perhaps `--input` with a name.
 fn words(alloc: Global, mode: &str, rest: &str) -> Result<Vec<String>, NoMemory> {
     let mut words = Vec::new(alloc);
     push_word(&mut words, "shim")?;

@@ -26,7 +26,7 @@ abbrev pub bound : Result Resolved Refusal → Result Form SourceFault
 bound (Ok resolved) = sharing_result (accepted resolved)
 bound (Err r) = Err (Scope (Refused r.line r.kind r.name))
 
--- the units of a program, or its first fault: names are asked about before their sharing
+-- the units of a program, or its first fault: binding comes before the sharing rule
 abbrev pub checked : Program → Result Form SourceFault
 checked program = bound (bind_program program)
 

@@ -6,7 +6,7 @@ use shim_parser::ParseFault;
 use shim_scopes::ScopeFault;
 use shim_sharing::ShareFault;
 
-/// Why a source is refused.
+/// Why a source is refused. Each kind of fault has a `NoMemory`, too, which says nothing of the source.
 #[derive(Debug, Drop, PartialEq, Eq)]
 pub enum SourceFault {
     /// It is the text of no program.

@@ -30,7 +30,7 @@ tree =
     ∷ codes "void main() { int r; node(N, r); next r; }"
     ∷ []
 
--- each turn forks, one branch throws after one value, and the other one, which would wait for ever, is ended
+-- in each turn the process forks, one branch throws after one value, and the other one, which would wait for ever, is poisoned
 unfoldable pub storm : List (List ℕ)
 storm =
     codes "void main() {"

@@ -81,7 +81,7 @@ try { { next c = k; throw T; } par { while (1) { next c; } } } catch (T) { k = k
     Ok(text)
 }
 
-/// The source of a kind and a size, as the text of a whole program.
+/// The source of a kind and a size: the text of a whole program, of at most 1,048,576 bytes.
 pub fn generate(alloc: Global, kind: Kind, size: u64) -> Result<List<u8>, NoMemory>
     ensures text { IfOk result (λ text. text ≡ generated kind size) }
     ensures short { IfOk result (λ text. length text ≤ 1048576) }

@@ -1,5 +1,5 @@
 -- What may follow: the symbols that the rest of a text still has to give, the next one first, and what a terminal does to them.
--- What it asks of the limits stays apart from whether they allow it.
+-- What a terminal asks of the limits is kept apart from whether the limits allow it.
 use Rattle.std.specs.Prelude.{ℕ, suc, List, [], ◌∷◌, Option, Some, None, Bool, true, false, if◌then◌else◌}
 use Rattle.shim_base.specs.declared.token.Keyword.TheVariants as k
 use Rattle.shim_base.specs.declared.token.Sign.{Sign as SignOf}
@@ -16,22 +16,22 @@ use Rattle.shim_grammar.specs.declared.punctuation.Punctuation.TheVariants as pu
 pub data Symbol : Type 0 where
   Fixed : Punctuation → Symbol
   Word : Symbol
-  -- an operand; the same as a thing that begins; the first one of an expression; what may follow one
+  -- `Operand` is an operand, `Inside` one that begins a thing of its level, and `Expression` the first one of an expression. `Operators` is what may follow an operand: operators with two operands, each with its second operand, or nothing.
   Operand Inside Expression Operators : ℕ → Symbol
-  -- behind the left parenthesis of a call; behind so many arguments; the argument of that number
+  -- after the left parenthesis of a call; after so many arguments; the argument of that number; the first number of each is the level
   Arguments : ℕ → Symbol
   MoreArguments Argument : ℕ → ℕ → Symbol
-  -- behind a type; behind a declared name; behind its value
+  -- after a type, or after a comma between declared names; after a declared name; after the value of a declared name
   Declarations AfterDeclared MoreDeclarations : ℕ → Symbol
-  -- the one declared name of a `for`, and behind it
+  -- the one declared name of a `for`; after that name
   Declaration AfterDeclaration : ℕ → Symbol
   Statement Body Block AfterWord AfterEqual AfterNext First Test Step Else : ℕ → Symbol
-  -- behind the exception of a `throw`; behind that of a `catch`, up to the handler's block
+  -- after the exception of a `throw`; after the exception of a `catch`, up to the left brace of the handler and with it
   ThrowRest : ℕ → Symbol
   CatchRest : Symbol
-  -- behind the block of a body of that level; the deepest level outside
+  -- after the block of a body; the first number is the level of the body, the second the deepest level outside of it
   AfterBody : ℕ → ℕ → Symbol
-  -- behind so many branches; the branch of that number
+  -- after so many branches; the branch of that number; the first number of both is the level of the fork
   Pars Branch : ℕ → ℕ → Symbol
   Parameters AfterSort Throws : Symbol
   -- a whole program; the number of its version
@@ -42,12 +42,12 @@ pub data Symbol : Type 0 where
 abbrev pub SymbolStack : Type 0
 SymbolStack = List Symbol
 
--- what a limit is asked for
+-- a limit, and the level or number that the limit is asked to allow
 pub record Ask : Type 0 where
   pub limit : Limit
   pub number : ℕ
 
--- what a terminal asks of the limits, what must follow it, and what is counted with it
+-- what a terminal asks of the limits, the symbols that are to be read after it, and the counts after it
 pub record Want : Type 0 where
   pub asks : List Ask
   pub stack : SymbolStack
@@ -110,7 +110,7 @@ joins_sign g.AndAnd = true
 joins_sign g.OrOr = true
 joins_sign _ = false
 
--- whether it is an operator with two operands
+-- whether the terminal is an operator with two operands
 abbrev pub is_operator : Terminal → Bool
 is_operator (Sign sign p) = joins_sign sign
 is_operator _ = false
@@ -139,7 +139,7 @@ abbrev pub wants_declarations : Terminal → ℕ → SymbolStack → TextCounts 
 wants_declarations (Name x p) l k w = ask (Count m.Locals) (suc w.locals) (go (AfterDeclared l ∷ k) (with_local w))
 wants_declarations _ l k w = None
 
--- after a declared name with its value: a comma before one more name, or the semicolon
+-- after a declared name and its value, if it has one: a comma before one more name, or the semicolon
 abbrev pub more_declarations : Terminal → ℕ → SymbolStack → TextCounts → Option Want
 more_declarations (Sign g.Comma p) l k w = go (Declarations l ∷ k) w
 more_declarations (Sign g.Semicolon p) l k w = go k w
@@ -161,7 +161,7 @@ after_declaration (Sign g.Equal p) l k w = go (Expression l ∷ Operators l ∷ 
 after_declaration (Sign g.Semicolon p) l k w = go k w
 after_declaration _ l k w = None
 
--- where a statement must begin; its blocks and bodies are one level deeper
+-- where a statement must begin; its blocks and bodies are one level deeper, as are the first statement and the step of a `for`
 abbrev pub statement : Terminal → ℕ → SymbolStack → TextCounts → Option Want
 statement (Sign g.Semicolon p) l k w = go k w
 statement (Sort (Value ty) p) l k w = go (Declarations l ∷ k) w
@@ -177,7 +177,7 @@ statement (Key k.Throw p) l k w = go (Word ∷ ThrowRest l ∷ k) w
 statement (Sign g.LeftBrace p) l k w = go (Block (suc l) ∷ Pars l 1 ∷ k) w
 statement _ l k w = None
 
--- a statement as a thing that begins
+-- where a statement must begin as a thing of the level l: the limit on nesting is asked for that level
 abbrev pub thing : Terminal → ℕ → SymbolStack → TextCounts → Option Want
 thing x l k w = ask Nesting l (statement x l k (at_level l w))
 
@@ -209,13 +209,13 @@ after_next (Sign g.Semicolon p) l k w = go k w
 after_next (Sign g.Equal p) l k w = go (Expression l ∷ Operators l ∷ Fixed punctuation.Semicolon ∷ k) w
 after_next _ l k w = None
 
--- version 2 alone has a number behind the exception
+-- after the exception of a `throw`: the semicolon, or in version 2 alone the left parenthesis before a number
 abbrev pub throw_rest : Terminal → ℕ → SymbolStack → TextCounts → Option Want
 throw_rest (Sign g.Semicolon p) l k w = go k w
 throw_rest (Sign g.LeftParen p) l k w = if w.two then go (Expression l ∷ Operators l ∷ Fixed punctuation.RightParen ∷ Fixed punctuation.Semicolon ∷ k) w else None
 throw_rest _ l k w = None
 
--- version 2 alone has a variable there
+-- after the exception of a `catch`: the right parenthesis, or in version 2 alone the name of a variable before it
 abbrev pub catch_rest : Terminal → SymbolStack → TextCounts → Option Want
 catch_rest (Sign g.RightParen p) k w = go (Fixed punctuation.LeftBrace ∷ k) w
 catch_rest (Name x p) k w =
@@ -251,7 +251,7 @@ abbrev pub pars : Terminal → ℕ → ℕ → SymbolStack → TextCounts → Op
 pars (Key k.Par p) l n k w other = go (Branch l (suc n) ∷ Pars l (suc n) ∷ k) w
 pars _ l n k w other = other
 
--- with `par` the block of a body turns out to be the first branch of a fork
+-- After the block of a body, outside of which the deepest level is d: `par` makes the block the first branch of a fork. `other` is the want of any other terminal.
 abbrev pub after_body : Terminal → ℕ → ℕ → SymbolStack → TextCounts → Option Want → Option Want
 after_body (Key k.Par p) l d k w other = ask Nesting (as_branch l w) (go (Branch l 2 ∷ Pars l 2 ∷ k) (at_level (as_branch l w) (behind_body d w)))
 after_body _ l d k w other = other
@@ -302,13 +302,13 @@ more_throws (Sign g.LeftBrace p) n k w = go k w
 more_throws (Sign g.Comma p) n k w = go (Thrown (suc n) ∷ k) w
 more_throws _ n k w = None
 
--- behind n functions
+-- after n functions: the end of the text, or the `void` of one more
 abbrev pub functions : Terminal → ℕ → SymbolStack → TextCounts → Option Want
 functions (End p) n k w = go k w
 functions (Key k.Void p) n k w = ask (Count m.Functions) (suc n) (go (Word ∷ Fixed punctuation.LeftParen ∷ Parameters ∷ Throws ∷ Block 1 ∷ Functions (suc n) ∷ k) (new_function w))
 functions _ n k w = None
 
--- `shim` begins a text of version 2
+-- where a program must begin: `shim` begins a text of version 2, and the functions begin any other
 abbrev pub source : Terminal → SymbolStack → TextCounts → Option Want
 source x k w = if is_shim x then go (Version ∷ Fixed punctuation.Semicolon ∷ Functions 0 ∷ k) (in_version_2 w) else functions x 0 k w
 
@@ -364,15 +364,15 @@ pub data Cause : Type 0 where
   Unwanted : Cause
   Past : Limit → Cause
 
--- where it halts, and why
+-- why the machine halts, and the terminals that it hasn't taken
 pub data ParseEnd : Type 0 where
   At : Cause → List Terminal → ParseEnd
 
--- all was taken
+-- the end of a machine that has taken every terminal, with the cause `Unwanted`
 abbrev pub AllTaken : ParseEnd
 AllTaken = At Unwanted []
 
--- the limits that the first of these terminals asks for are judged in turn
+-- The limits are asked one by one for the first of the terminals s. If each allows its number, the end is `go_on`. At the first that doesn't, the machine halts.
 abbrev pub judge : Limits → List Terminal → List Ask → ParseEnd → ParseEnd
 judge c s [] go_on = go_on
 judge c s (a ∷ asks) go_on = if c s a.limit a.number then judge c s asks go_on else At (Past a.limit) s

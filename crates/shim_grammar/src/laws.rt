@@ -20,8 +20,8 @@ pub fn never_both()
     ensures { (bytes : List ℕ) (p : Program) (f : FaultCause) (place : Place) → IsText bytes p → HasFault bytes f place → ⊥ }
 {}
 
-/// A text that begins with `shim`, a number of value 2 and `;` is that of a program of version 2, and any
-/// other is that of one of version 1.
+/// If the text of a program begins with `shim`, a number of value 2 and `;`, the program is of version 2. If
+/// the text begins otherwise, the program is of version 1.
 pub fn beginning_tells_the_version()
     ensures { (bytes : List ℕ) (p : Program) (text : IsText bytes p) → ((begins_two text.terminals ≡ true) × (p.version ≡ 2)) ⊎ ((begins_two text.terminals ≡ false) × (p.version ≡ 1)) }
 {}

@@ -1,6 +1,6 @@
 // Terminals that stand at one fixed place of a production.
 
-/// A terminal that must come where it must.
+/// A sign or keyword whose place in a production no other terminal can take.
 #[derive(Clone, Copy, Debug, PartialEq, Eq)]
 pub enum Punctuation {
     LeftParen,

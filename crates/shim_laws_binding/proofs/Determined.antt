@@ -29,7 +29,7 @@ use Rattle.shim_scopes.specs.Binding.{slot_at, slot_of, placed, placed_all, plac
 use Rattle.shim_scopes.specs.Calls.{function_number, function_of}
 use Rattle.shim_laws_binding.specs.Innermost.{exception_name, local_name, IsNumberOfInnermost, IsSlotOfInnermost}
 use Rattle.shim_laws_binding.specs.LexicalScope as is
-use Rattle.shim_laws_binding.specs.LexicalScope.{Point, Pairwise, behind_declaration, inside_try, behind_block, behind_variable, slot_of_variable, BindsExpr, BindsOption, BindsCall, BindsWhat, BindsStmt, BindsStmts, BindsBlock, BindsBranchWhat, BindsBranch, BindsBranches}
+use Rattle.shim_laws_binding.specs.LexicalScope.{Point, Pairwise, point_after_declaration, inside_try, point_after_block, point_after_variable, slot_of_variable, BindsExpr, BindsOption, BindsCall, BindsWhat, BindsStmt, BindsStmts, BindsBlock, BindsBranchWhat, BindsBranch, BindsBranches}
 use Rattle.shim_laws_binding.proofs.InnermostLemmas.{innermost_found}
 use Rattle.shim_laws_binding.proofs.NamedExprs.{placed_number, placed_variable, placed_unary, placed_binary}
 
@@ -78,7 +78,7 @@ resolve_all [] p = resolved [] p
 resolve_all (f ∷ fs) p = resolved ((f p).tree ∷ (resolve_all fs (f p).behind).tree) (resolve_all fs (f p).behind).behind
 
 abbrev resolve_block : Resolver (List RStmt) → Resolver (List RStmt)
-resolve_block f p = resolved (f p).tree (behind_block p (f p).behind)
+resolve_block f p = resolved (f p).tree (point_after_block p (f p).behind)
 
 abbrev throws_of : Option Function → Texts
 throws_of None = []
@@ -109,18 +109,18 @@ module _ (functions : List Function) (numbers : HaveNumbers functions) where
   resolve_if t f g p = resolved (rt.If t (f p).tree (g (f p).behind).tree) (g (f p).behind).behind
 
   abbrev resolve_for : Option Expr → Resolver (List RStmt) → Resolver (List RStmt) → Resolver (List RStmt) → Resolver RWhat
-  resolve_for test f g h p = resolved (rt.For (f p).tree (placed_option (f p).behind.declared test) (g (f p).behind).tree (h (g (f p).behind).behind).tree) (behind_block p (h (g (f p).behind).behind).behind)
+  resolve_for test f g h p = resolved (rt.For (f p).tree (placed_option (f p).behind.declared test) (g (f p).behind).tree (h (g (f p).behind).behind).tree) (point_after_block p (h (g (f p).behind).behind).behind)
 
   abbrev resolve_handler : Option (List ℕ) → Point → Resolved (List RStmt) → Resolver (List RStmt) → Resolved RWhat
   resolve_handler y p body g =
-      let h = g (behind_variable y (behind_block p body.behind)) in
-      resolved (rt.Try body.tree p.exceptions (slot_of_variable y body.behind) h.tree) (behind_block p h.behind)
+      let h = g (point_after_variable y (point_after_block p body.behind)) in
+      resolved (rt.Try body.tree p.exceptions (slot_of_variable y body.behind) h.tree) (point_after_block p h.behind)
 
   abbrev resolve_try : List ℕ → Option (List ℕ) → Resolver (List RStmt) → Resolver (List RStmt) → Resolver RWhat
   resolve_try x y f g p = resolve_handler y p (f (inside_try x p)) g
 
   abbrev what_step : What-F (Resolver RBranchWhat) (Resolver RWhat) (Resolver RBranch) (Resolver RStmt) → Resolver RWhat
-  what_step (What-F.Declare ty x a) p = resolved (rt.Declare ty p.slots (placed_option p.declared a)) (behind_declaration x (Value ty) p)
+  what_step (What-F.Declare ty x a) p = resolved (rt.Declare ty p.slots (placed_option p.declared a)) (point_after_declaration x (Value ty) p)
   what_step (What-F.Assign x a) p = resolved (rt.Assign (slot_of p.declared x) (placed p.declared a)) p
   what_step (What-F.Next x) p = resolved (rt.Next (slot_of p.declared x)) p
   what_step (What-F.NextAssign x a) p = resolved (rt.NextAssign (slot_of p.declared x) (placed p.declared a)) p
@@ -182,13 +182,13 @@ module _ (functions : List Function) (numbers : HaveNumbers functions) where
   all_is : {T : Type 0} (f : Resolver T) (fs : List (Resolver T)) (p m q : Point) (t : T) (ts : List T) → f p ≡ resolved t m → resolve_all fs m ≡ resolved ts q → resolve_all (f ∷ fs) p ≡ resolved (t ∷ ts) q
   all_is f fs p m q t ts d h = ap (λ x. resolved (x.tree ∷ (resolve_all fs x.behind).tree) (resolve_all fs x.behind).behind) d ∙ ap (λ x. resolved (t ∷ x.tree) x.behind) h
 
-  block_is : (f : Resolver (List RStmt)) (p q : Point) (ts : List RStmt) → f p ≡ resolved ts q → resolve_block f p ≡ resolved ts (behind_block p q)
-  block_is f p q ts d = ap (λ x. resolved x.tree (behind_block p x.behind)) d
+  block_is : (f : Resolver (List RStmt)) (p q : Point) (ts : List RStmt) → f p ≡ resolved ts q → resolve_block f p ≡ resolved ts (point_after_block p q)
+  block_is f p q ts d = ap (λ x. resolved x.tree (point_after_block p x.behind)) d
 
   declare_is : (ty : Ty) (x : List ℕ) (a : Option Expr) (p : Point) (t : Option UExpr) → t ≡ placed_option p.declared a
-      → resolve_what (st.Declare ty x a) p ≡ resolved (rt.Declare ty p.slots t) (behind_declaration x (Value ty) p)
+      → resolve_what (st.Declare ty x a) p ≡ resolved (rt.Declare ty p.slots t) (point_after_declaration x (Value ty) p)
   unfolding roll-What denote.Hole.Carrier.roll
-  declare_is ty x a p t h = at_what (What-F.Declare ty x a) p ∙ ap (λ r. resolved (rt.Declare ty p.slots r) (behind_declaration x (Value ty) p)) (sym h)
+  declare_is ty x a p t h = at_what (What-F.Declare ty x a) p ∙ ap (λ r. resolved (rt.Declare ty p.slots r) (point_after_declaration x (Value ty) p)) (sym h)
 
   assign_is : (x : List ℕ) (a : Expr) (p : Point) (slot : ℕ) (t : UExpr) → slot ≡ slot_of p.declared x → t ≡ placed p.declared a → resolve_what (st.Assign x a) p ≡ resolved (rt.Assign slot t) p
   unfolding roll-What denote.Hole.Carrier.roll
@@ -229,15 +229,15 @@ module _ (functions : List Function) (numbers : HaveNumbers functions) where
 
   for_is : (first : List Stmt) (test : Option Expr) (step body : List Stmt) (p m n q : Point) (f : List RStmt) (t : Option UExpr) (s b : List RStmt)
       → resolve_stmts first p ≡ resolved f m → t ≡ placed_option m.declared test → resolve_stmts step m ≡ resolved s n → resolve_block (resolve_stmts body) n ≡ resolved b q
-      → resolve_what (st.For first test step body) p ≡ resolved (rt.For f t s b) (behind_block p q)
+      → resolve_what (st.For first test step body) p ≡ resolved (rt.For f t s b) (point_after_block p q)
   unfolding roll-What denote.Hole.Carrier.roll
   for_is first test step body p m n q f t s b d h k l =
       let g : Resolver (List RStmt) = resolve_stmts step in
       let i : Resolver (List RStmt) = resolve_block (resolve_stmts body) in
       at_what (What-F.For first test step body) p
-      ∙ ap (λ x. resolved (rt.For x.tree (placed_option x.behind.declared test) (g x.behind).tree (i (g x.behind).behind).tree) (behind_block p (i (g x.behind).behind).behind)) d
-      ∙ ap (λ r. resolved (rt.For f r (g m).tree (i (g m).behind).tree) (behind_block p (i (g m).behind).behind)) (sym h)
-      ∙ ap (λ x. resolved (rt.For f t x.tree (i x.behind).tree) (behind_block p (i x.behind).behind)) k ∙ ap (λ x. resolved (rt.For f t s x.tree) (behind_block p x.behind)) l
+      ∙ ap (λ x. resolved (rt.For x.tree (placed_option x.behind.declared test) (g x.behind).tree (i (g x.behind).behind).tree) (point_after_block p (i (g x.behind).behind).behind)) d
+      ∙ ap (λ r. resolved (rt.For f r (g m).tree (i (g m).behind).tree) (point_after_block p (i (g m).behind).behind)) (sym h)
+      ∙ ap (λ x. resolved (rt.For f t x.tree (i x.behind).tree) (point_after_block p (i x.behind).behind)) k ∙ ap (λ x. resolved (rt.For f t s x.tree) (point_after_block p x.behind)) l
 
   in_block_is : (body : List Stmt) (p q : Point) (b : List RStmt) → resolve_block (resolve_stmts body) p ≡ resolved b q → resolve_what (st.Block body) p ≡ resolved (rt.Block b) q
   unfolding roll-What denote.Hole.Carrier.roll
@@ -248,11 +248,11 @@ module _ (functions : List Function) (numbers : HaveNumbers functions) where
   call_is c p r h = at_what (What-F.What::Call c) p ∙ ap (λ x. resolved (rt.Call x) p) (sym h)
 
   try_is : (body : List Stmt) (x : List ℕ) (y : Option (List ℕ)) (handler : List Stmt) (p m q : Point) (b h : List RStmt) → resolve_block (resolve_stmts body) (inside_try x p) ≡ resolved b m
-      → resolve_stmts handler (behind_variable y (behind_block p m)) ≡ resolved h q → resolve_what (st.Try body x y handler) p ≡ resolved (rt.Try b p.exceptions (slot_of_variable y m) h) (behind_block p q)
+      → resolve_stmts handler (point_after_variable y (point_after_block p m)) ≡ resolved h q → resolve_what (st.Try body x y handler) p ≡ resolved (rt.Try b p.exceptions (slot_of_variable y m) h) (point_after_block p q)
   unfolding roll-What denote.Hole.Carrier.roll
   try_is body x y handler p m q b h d k =
       at_what (What-F.Try body x y handler) p ∙ ap (λ z. resolve_handler y p z (resolve_stmts handler)) d
-      ∙ ap (λ z. resolved (rt.Try b p.exceptions (slot_of_variable y m) z.tree) (behind_block p z.behind)) k
+      ∙ ap (λ z. resolved (rt.Try b p.exceptions (slot_of_variable y m) z.tree) (point_after_block p z.behind)) k
 
   throw_is : (x : List ℕ) (a : Option Expr) (p : Point) (number : ℕ) (r : Option UExpr) → number ≡ exception_number p.handled x → r ≡ placed_option p.declared a
       → resolve_what (st.Throw x a) p ≡ resolved (rt.Throw number r) p

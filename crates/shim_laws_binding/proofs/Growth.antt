@@ -30,13 +30,13 @@ use Rattle.shim_laws_binding.proofs.Bound.{its_before}
 use Rattle.shim_scopes.proofs.Refusals.{passed, first_ok, bound}
 
 -- The declarations ls, and maybe more, stand behind those of the block.
-pub record IsBehind (ls : List LocalDeclaration) (old new : List LocalDeclaration) : Type 0 where
+pub record IsAfter (ls : List LocalDeclaration) (old new : List LocalDeclaration) : Type 0 where
   pub more : List LocalDeclaration
   pub whole : new ≡ old ++ (ls ++ more)
 
 -- ds are the declarations and ts the `try` statements between two places; ls are declarations of the block that are sure to stand there
 pub record IsGrown (names : Texts) (ls : List LocalDeclaration) (ds : Declarations) (ts : Texts) (old new : Before) : Type 0 where
-  pub own : IsBehind ls old.own new.own
+  pub own : IsAfter ls old.own new.own
   pub slots : new.slots ≡ old.slots ++ sorts_of ds
   pub slot_names : new.slot_names ≡ old.slot_names ++ numbers_of_declared names ds
   pub tries : new.tries ≡ old.tries ++ map (name_index names) ts
@@ -53,7 +53,7 @@ pub as_was : {X : Type 0} (a : List X) → a ≡ a ++ []
 as_was a = sym (append-nil a)
 
 -- whatever stands there is more
-behind_all : (ls a b c : List LocalDeclaration) (more : List LocalDeclaration) → IsBehind ls a b → c ≡ b ++ more → IsBehind ls a c
+behind_all : (ls a b c : List LocalDeclaration) (more : List LocalDeclaration) → IsAfter ls a b → c ≡ b ++ more → IsAfter ls a c
 behind_all ls a b c more k p = record {
   more = k.more ++ more;
   whole = p ∙ ap (λ l. l ++ more) k.whole ∙ append_assoc a (ls ++ k.more) more ∙ ap (λ l. a ++ l) (append_assoc ls k.more more);

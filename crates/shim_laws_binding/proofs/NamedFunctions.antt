@@ -247,8 +247,8 @@ is_form_of p form e =
       bound = subst (λ (names : Texts). let w : Whole = record { functions = p.functions; names = names } in bind_functions w [] p.functions ≡ Ok form.functions) f.names f.bound;
     }
 
-pub names_put_back_give_the_program : (p : Program) (form : Form) → bind_program p ≡ Ok form → functions_named form ≡ p.functions
-names_put_back_give_the_program p form e = let f = is_form_of p form e in functions_are_back p.functions form f.known f.bound [] p.functions form.functions f.known f.bound
+pub names_put_back_give_the_functions : (p : Program) (form : Form) → bind_program p ≡ Ok form → functions_named form ≡ p.functions
+names_put_back_give_the_functions p form e = let f = is_form_of p form e in functions_are_back p.functions form f.known f.bound [] p.functions form.functions f.known f.bound
 
 pub calls_hand_on_what_is_thrown : (p : Program) (form : Form) → bind_program p ≡ Ok form → AllHandOn form
 calls_hand_on_what_is_thrown p form e = let f = is_form_of p form e in functions_hand_on p.functions form f.known f.bound [] p.functions form.functions f.known f.bound

@@ -105,8 +105,8 @@ tree_back n H back s over u g ds ts f up same k a b r h named t =
     let q = k a b p.0 p.1 named t in
     answered n H over u (g p.0.tree) p.0.before r p.2 (up p.0.tree q.tree) q.own (each_same H (over.calls (g p.0.tree)) (back.calls p.0.tree) (same p.0.tree) q.calls)
 
-pub behind_named : (n : Naming) (a : Around) (b c : Before) → IsNamed n a b → Each (VariableNamed n.variable) c.own → IsNamed n a c
-behind_named n a b c named own = record { outer = named.outer; own = own; handled = named.handled }
+pub after_named : (n : Naming) (a : Around) (b c : Before) → IsNamed n a b → Each (VariableNamed n.variable) c.own → IsNamed n a c
+after_named n a b c named own = record { outer = named.outer; own = own; handled = named.handled }
 
 -- what is known with what is sure to be declared is so behind all that was
 pub known_grown : (names : Texts) (ls : List LocalDeclaration) (ds : Declarations) (ts : Texts) (a : Around) (b c : Before) → IsGrown names ls ds ts b c → b.own ≡ [] → (x : List ℕ) → unknown (a.outer ++ ls) x ≡ None → unknown (visible a c) x ≡ None
@@ -290,7 +290,7 @@ module _ (n : Naming) (H : RCall → Type 0) (w : Whole) where
       let p = first_ok (f a b) _ r e in
       let q = first_ok (h a p.0.before) _ r p.2 in
       let pb = k a b p.0 p.1 named (first_to_come n a b ds es ts us t) in
-      let qb = l a p.0.before q.0 q.1 (behind_named n a b p.0.before named pb.own)
+      let qb = l a p.0.before q.0 q.1 (after_named n a b p.0.before named pb.own)
       (next_to_come n w.names (ls (length b.slots)) a b p.0.before ds es ts us (grows a b p.0 p.1) t) in
       answered n H (whats n) x (g p.0.tree q.0.tree) q.0.before r q.2 (up p.0.tree q.0.tree pb.tree qb.tree) qb.own
       (both_hold (g p.0.tree q.0.tree) p.0.tree q.0.tree (calls p.0.tree q.0.tree) pb.calls qb.calls)
@@ -323,7 +323,7 @@ module _ (n : Naming) (H : RCall → Type 0) (w : Whole) where
 
   handler_back : (y : Option (List ℕ)) (u : List Stmt) (es : Declarations) (us : Texts) (h : Bind (List RStmt)) → StmtsBack u es us h → StmtsBack u (declared_variable y ++ es) us (bind_handler w y h)
   handler_back y u es us h k a b r is named t =
-      k a (variable_declared w.names y b) r is (behind_named n a b (variable_declared w.names y b) named (variable_named y es us a b named t))
+      k a (variable_declared w.names y b) r is (after_named n a b (variable_declared w.names y b) named (variable_named y es us a b named t))
       (next_to_come n w.names [] a b (variable_declared w.names y b) (declared_variable y) es [] us (variable_grown w y b) t)
 
   pub try_back : (x : List ℕ) (y : Option (List ℕ)) (s u : List Stmt) (ls : ℕ → List LocalDeclaration) (ds es : Declarations) (ts us : Texts) (f h : Bind (List RStmt))
@@ -342,7 +342,7 @@ module _ (n : Naming) (H : RCall → Type 0) (w : Whole) where
       let pb = block_back n H (bodies n) s ds ts f k (with_handled x a b) (tried w x b) p.0 p.1 (record { outer = named.outer; own = named.own; handled = in_force }) (record { slots = first.slots; tries = first.tries }) in
       let behind : AreToCome n a p.0.before all us =
       next_to_come n w.names [] a (tried w x b) p.0.before ds all ts us (block_grows w.names ls ds ts f grows (with_handled x a b) (tried w x b) p.0 p.1) inside in
-      let qb = block_back n H (bodies n) u all us (bind_handler w y h) (handler_back y u es us h l) a p.0.before q.0 q.1 (behind_named n a b p.0.before named pb.own) behind in
+      let qb = block_back n H (bodies n) u all us (bind_handler w y h) (handler_back y u es us h l) a p.0.before q.0 q.1 (after_named n a b p.0.before named pb.own) behind in
       answered n H (whats n) (st.Try s x y u) (bt.Try p.0.tree number slot q.0.tree) q.0.before r q.2
       (named_try n p.0.tree number slot q.0.tree ∙ ap (λ z. st.Try z (n.exception number) (slot_named n.variable slot) (stmts_named n q.0.tree)) pb.tree
       ∙ ap (λ z. st.Try s z (slot_named n.variable slot) (stmts_named n q.0.tree)) known
@@ -361,10 +361,10 @@ module _ (n : Naming) (H : RCall → Type 0) (w : Whole) where
       let o = first_ok (bind_block h a q.0.before) _ r q.2 in
       let pb = k a b p.0 p.1 named (first_to_come n a b ds (es ++ fs) ts (us ++ vs) t) in
       let grown = fg a b p.0 p.1 in
-      let named_p = behind_named n a b p.0.before named pb.own in
+      let named_p = after_named n a b p.0.before named pb.own in
       let t_p = next_to_come n w.names (declares (length b.slots)) a b p.0.before ds (es ++ fs) ts (us ++ vs) grown t in
       let qb = l a p.0.before q.0 q.1 named_p (first_to_come n a p.0.before es fs us vs t_p) in
-      let named_q = behind_named n a b q.0.before named qb.own in
+      let named_q = after_named n a b q.0.before named qb.own in
       let t_q = next_to_come n w.names (ks (length p.0.before.slots)) a p.0.before q.0.before es fs us vs (gg a p.0.before q.0 q.1) t_p in
       let ob = block_back n H (bodies n) z fs vs h m a q.0.before o.0 o.1 named_q t_q in
       let test_is : option_named n.variable (placed_option (visible a p.0.before) test) ≡ test =

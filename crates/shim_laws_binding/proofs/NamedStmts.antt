@@ -24,7 +24,7 @@ use Rattle.shim_laws_binding.proofs.Growth.{Grows, declared_by_branch_what, decl
 use Rattle.shim_laws_binding.proofs.NamedSteps.{branch_what_named, what_named, branch_named, stmts_named, branches_named, named_stmt, named_branch, named_block, named_call, named_par, named_block_branch, named_call_branch}
 use Rattle.shim_laws_binding.proofs.Lists.{each_of_both}
 use Rattle.shim_laws_binding.proofs.CallSteps.{calls_of_branch_what, calls_of_branch, calls_of_branches, calls_stmt, calls_branch, calls_block, calls_call, calls_par, calls_block_branch, calls_call_branch}
-use Rattle.shim_laws_binding.proofs.NamedParts.{ReadBack, whats, bodies, HoldsOfCalls, GoesBack, first_to_come, next_to_come, answered, behind_named, block_back, tree_back, declare_back, assign_back, next_assign_back, put_back, next_back, assign_next_back, get_back, throw_back, FunctionsNamed, called_back, if_back, while_back, try_back, for_back}
+use Rattle.shim_laws_binding.proofs.NamedParts.{ReadBack, whats, bodies, HoldsOfCalls, GoesBack, first_to_come, next_to_come, answered, after_named, block_back, tree_back, declare_back, assign_back, next_assign_back, put_back, next_back, assign_next_back, get_back, throw_back, FunctionsNamed, called_back, if_back, while_back, try_back, for_back}
 use Rattle.shim_scopes.proofs.Refusals.{first_ok}
 
 module _ (n : Naming) (H : RCall → Type 0) (w : Whole) (functions : FunctionsNamed n H w) (holds : HoldsOfCalls n H w) where
@@ -77,7 +77,7 @@ module _ (n : Naming) (H : RCall → Type 0) (w : Whole) (functions : FunctionsN
       let p = first_ok ((stmt_meaning w s).bind a b) _ r is in
       let q = first_ok (bind_all (map (stmt_meaning w) body) a p.0.before) _ r p.2 in
       let pb = k a b p.0 p.1 named (first_to_come n a b (stmt_declares s) (declarations_in body) (stmt_tries s) (tries_among body) t) in
-      let qb = l a p.0.before q.0 q.1 (behind_named n a b p.0.before named pb.own)
+      let qb = l a p.0.before q.0 q.1 (after_named n a b p.0.before named pb.own)
       (next_to_come n w.names ((stmt_meaning w s).declares (length b.slots)) a b p.0.before (stmt_declares s) (declarations_in body) (stmt_tries s) (tries_among body) (stmt_grows w s a b p.0 p.1) t) in
       answered n H (bodies n) (s ∷ body) (p.0.tree ∷ q.0.tree) q.0.before r q.2 (ap (λ y. y ∷ stmts_named n q.0.tree) pb.tree ∙ ap (λ ys. s ∷ ys) qb.tree) qb.own
       (each_of_both H (stmt_calls p.0.tree) (calls_among q.0.tree) pb.calls qb.calls)
@@ -95,7 +95,7 @@ module _ (n : Naming) (H : RCall → Type 0) (w : Whole) (functions : FunctionsN
       let p = first_ok (bind_branch w c a b) _ r is in
       let q = first_ok (bind_fork (map (bind_branch w) bs) a p.0.before) _ r p.2 in
       let pb = k a b p.0 p.1 named (first_to_come n a b (declared_by_branch w c) ds (tried_by_branch w c) ts t) in
-      let qb = l a p.0.before q.0 q.1 (behind_named n a b p.0.before named pb.own)
+      let qb = l a p.0.before q.0 q.1 (after_named n a b p.0.before named pb.own)
       (next_to_come n w.names [] a b p.0.before (declared_by_branch w c) ds (tried_by_branch w c) ts (branch_grows w c a b p.0 p.1) t) in
       answered n H all_branches (c ∷ bs) (p.0.tree ∷ q.0.tree) q.0.before r q.2 (ap (λ y. y ∷ branches_named n q.0.tree) pb.tree ∙ ap (λ ys. c ∷ ys) qb.tree) qb.own
       (each_of_both H (calls_of_branch p.0.tree) (calls_of_branches q.0.tree) pb.calls qb.calls)

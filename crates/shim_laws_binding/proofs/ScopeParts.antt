@@ -25,7 +25,7 @@ use Rattle.shim_scopes.specs.Refusals.{refused_for}
 use Rattle.shim_scopes.specs.Statements.{Whole, Around, Before, BoundTo, Bind, with_declaration, local_of, inside_block, opened, after_block, with_handled, tried, variable_declared, variable_slot, bind_handler, bind_declare, bind_store, bind_next, bind_assign_next, bind_get, bind_put, bind_throw, bind_block, on_tree, bind_test, bind_if, bind_while, bind_try, bind_parts, bind_first_test, bind_for, visible, declared_in, unknown_in_both, unknown_of_two}
 use Rattle.shim_scopes.specs.Calls.{bind_call, bind_called}
 use Rattle.shim_laws_binding.specs.TextOrder.{Declarations}
-use Rattle.shim_laws_binding.specs.LexicalScope.{Point, behind_declaration, inside_try, behind_block, behind_variable, slot_of_variable, BindsExpr, BindsOption, BindsCall, BindsWhat, declare, assign, next, next_assign, assign_next, get, put, if_else, while, for_loop, try, throw, BindsStmts, BindsBlock, in_block}
+use Rattle.shim_laws_binding.specs.LexicalScope.{Point, point_after_declaration, inside_try, point_after_block, point_after_variable, slot_of_variable, BindsExpr, BindsOption, BindsCall, BindsWhat, declare, assign, next, next_assign, assign_next, get, put, if_else, while, for_loop, try, throw, BindsStmts, BindsBlock, in_block}
 use Rattle.shim_laws_binding.specs.Innermost.{IsSlotOfInnermost}
 use Rattle.shim_laws_binding.proofs.Bound.{asked, is_bound, its_before}
 use Rattle.shim_laws_binding.proofs.Growth.{Grows}
@@ -48,7 +48,7 @@ pub same_point : (ls ks : List LocalDeclaration) (hs gs : List Handled) (m n i j
 same_point ls ks hs gs m n i j p o q r =
     ap (λ l. point_of l hs m i) p ∙ ap (λ l. point_of ks l m i) o ∙ ap (λ l. point_of ks gs l i) q ∙ ap (point_of ks gs n) r
 
-point_declared : (names : Texts) (x : List ℕ) (sort : Sort) (a : Around) (b : Before) → point a (with_declaration names x sort b) ≡ behind_declaration x sort (point a b)
+point_declared : (names : Texts) (x : List ℕ) (sort : Sort) (a : Around) (b : Before) → point a (with_declaration names x sort b) ≡ point_after_declaration x sort (point a b)
 point_declared names x sort a b =
     same_point (a.outer ++ (b.own ++ local_of x sort (length b.slots) ∷ [])) ((a.outer ++ b.own) ++ local_of x sort (length b.slots) ∷ []) a.handled a.handled
     (length (b.slots ++ sort ∷ [])) (suc (length b.slots)) (a.throws + length b.tries) (a.throws + length b.tries)
@@ -65,7 +65,7 @@ point_tried w x a b =
     (a.throws + length (b.tries ++ name_index w.names x ∷ [])) (suc (a.throws + length b.tries)) refl refl refl (omega (arith, length-append b.tries (name_index w.names x ∷ [])))
 
 -- and behind a handler's variable, where it has one
-point_variable : (names : Texts) (y : Option (List ℕ)) (a : Around) (b : Before) → point a (variable_declared names y b) ≡ behind_variable y (point a b)
+point_variable : (names : Texts) (y : Option (List ℕ)) (a : Around) (b : Before) → point a (variable_declared names y b) ≡ point_after_variable y (point a b)
 point_variable names None a b = refl
 point_variable names (Some y) a b = point_declared names y (Value Int32) a b
 
@@ -211,29 +211,29 @@ module _ (w : Whole) where
       let number : ℕ = a.throws + length b.tries in
       let body = subst (λ (v : Point). Block v s p.0.tree (point (with_handled x a b) p.0.before)) (point_tried w x a b) (block_by_rules s f k (with_handled x a b) (tried w x b) p.0 p.1) in
       let own : visible a p.0.before ≡ visible a b = ap (λ ls. a.outer ++ ls) (block_keeps f (with_handled x a b) (tried w x b) p.0 p.1) in
-      let behind : point a p.0.before ≡ behind_block (point a b) (point (with_handled x a b) p.0.before) =
+      let behind : point a p.0.before ≡ point_after_block (point a b) (point (with_handled x a b) p.0.before) =
       same_point (visible a p.0.before) (visible a b) a.handled a.handled (length p.0.before.slots) (length p.0.before.slots) (a.throws + length p.0.before.tries) (a.throws + length p.0.before.tries) own refl refl refl in
-      let begins : point (inside_block a p.0.before) begun ≡ behind_variable y (behind_block (point a b) (point (with_handled x a b) p.0.before)) =
-      point_variable w.names y (inside_block a p.0.before) (opened p.0.before) ∙ ap (λ v. behind_variable y v) (point_within a p.0.before ∙ behind) in
+      let begins : point (inside_block a p.0.before) begun ≡ point_after_variable y (point_after_block (point a b) (point (with_handled x a b) p.0.before)) =
+      point_variable w.names y (inside_block a p.0.before) (opened p.0.before) ∙ ap (λ v. point_after_variable y v) (point_within a p.0.before ∙ behind) in
       let handler = subst (λ (v : Point). Stmts v z o.0.tree (point (inside_block a p.0.before) o.0.before)) begins (l (inside_block a p.0.before) begun o.0 o.1) in
-      let after : behind_block (point a b) (point (inside_block a p.0.before) o.0.before) ≡ point a (after_block p.0.before o.0.before) =
+      let after : point_after_block (point a b) (point (inside_block a p.0.before) o.0.before) ≡ point a (after_block p.0.before o.0.before) =
       same_point (visible a b) (visible a p.0.before) a.handled a.handled (length o.0.before.slots) (length o.0.before.slots) (a.throws + length o.0.before.tries) (a.throws + length o.0.before.tries)
       (sym own) refl refl refl in
       let rule = try {p = point a b} {x = x} {y = y} body handler in
       let placed : Whats (point a b) (st.Try s x y z) (rt.Try p.0.tree number (variable_slot y p.0.before) o.0.tree) (point a (after_block p.0.before o.0.before)) =
       subst (λ (v : Point). Whats (point a b) (st.Try s x y z) (rt.Try p.0.tree number (variable_slot y p.0.before) o.0.tree) v) after
-      (subst (λ v. Whats (point a b) (st.Try s x y z) (rt.Try p.0.tree number v o.0.tree) (behind_block (point a b) (point (inside_block a p.0.before) o.0.before))) (same_slot y (with_handled x a b) p.0.before) rule) in
+      (subst (λ v. Whats (point a b) (st.Try s x y z) (rt.Try p.0.tree number v o.0.tree) (point_after_block (point a b) (point (inside_block a p.0.before) o.0.before))) (same_slot y (with_handled x a b) p.0.before) rule) in
       by_answer Whats (st.Try s x y z) (point a b) a (rt.Try p.0.tree number (variable_slot y p.0.before) q.0.tree) q.0.before r q.2
       (subst (λ (v : BoundTo (List RStmt)). Whats (point a b) (st.Try s x y z) (rt.Try p.0.tree number (variable_slot y p.0.before) v.tree) (point a v.before))
       (sym (is_bound o.0.tree (after_block p.0.before o.0.before) q.0 o.2)) placed)
 
-  behind_parts : (x : What) (p : Point) (a : Around) (t : RWhat) (b : Before) (r : BoundTo RWhat) → bound t b ≡ Ok r → Whats p x t (behind_block p (point a b)) → Whats p x r.tree (behind_block p (point a r.before))
-  behind_parts x p a t b r e h = subst (λ (y : BoundTo RWhat). Whats p x y.tree (behind_block p (point a y.before))) (sym (is_bound t b r e)) h
+  behind_parts : (x : What) (p : Point) (a : Around) (t : RWhat) (b : Before) (r : BoundTo RWhat) → bound t b ≡ Ok r → Whats p x t (point_after_block p (point a b)) → Whats p x r.tree (point_after_block p (point a r.before))
+  behind_parts x p a t b r e h = subst (λ (y : BoundTo RWhat). Whats p x y.tree (point_after_block p (point a y.before))) (sym (is_bound t b r e)) h
 
   -- the test is bound behind the first statement, whose declaration was known when it was examined
   parts_by_rules : (declares : ℕ → List LocalDeclaration) (test : Option Expr) (s v z : List Stmt) (ds : Declarations) (ts : Texts) (f g h : Bind (List RStmt)) (a : Around) (b : Before) (r : BoundTo RWhat)
       → Grows w.names declares ds ts f → ByRules Stmts s f → ByRules Stmts v g → ByRules Stmts z h → b.own ≡ [] → unknown_in_option (a.outer ++ declares (length b.slots)) test ≡ None
-      → bind_parts test f g h a b ≡ Ok r → Whats (point a b) (st.For s test v z) r.tree (behind_block (point a b) (point a r.before))
+      → bind_parts test f g h a b ≡ Ok r → Whats (point a b) (st.For s test v z) r.tree (point_after_block (point a b) (point a r.before))
   parts_by_rules declares test s v z ds ts f g h a b r grows k l m none known is =
       let p = first_ok (f a b) _ r is in
       let q = first_ok (g a p.0.before) _ r p.2 in
@@ -253,4 +253,4 @@ module _ (w : Whole) where
       let q = first_ok (bind_parts test f g h (inside_block a b) (opened b)) _ r p.2 in
       let parts = parts_by_rules declares test s v z ds ts f g h (inside_block a b) (opened b) q.0 grows k l m refl known q.1 in
       by_answer Whats (st.For s test v z) (point a b) a q.0.tree (after_block b q.0.before) r q.2
-      (subst (λ (y : Point). Whats y (st.For s test v z) q.0.tree (behind_block y (point (inside_block a b) q.0.before))) (point_within a b) parts)
+      (subst (λ (y : Point). Whats y (st.For s test v z) q.0.tree (point_after_block y (point (inside_block a b) q.0.before))) (point_within a b) parts)

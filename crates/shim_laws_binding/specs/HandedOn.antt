@@ -36,13 +36,13 @@ stmt_calls = fold-RStmt Calls Calls Calls Calls branch_what_calls what_calls (λ
 abbrev pub calls_among : List RStmt → Calls
 calls_among body = concat (map stmt_calls body)
 
--- The number of a call is that of a function. It gives as many arguments as that function takes, and for each of its exceptions the caller's one of the same name.
+-- The call `c` has the number of a function, its callee, and gives as many arguments as the callee takes. For each exception of the callee's `throws` it gives one that has the same name by `n`.
 pub record HandsOn (form : Form) (n : Naming) (c : RCall) : Type 0 where
   pub callee : RFunction
   pub called : slice_get form.functions c.function ≡ Some callee
   pub arguments : length c.args ≡ length callee.params
   pub exceptions : map n.exception c.throws ≡ names_at form.names callee.throws
 
--- so it is with each call of each function
+-- `HandsOn` holds of each call in each function of the form, with the naming of that function
 abbrev pub AllHandOn : Form → Type 0
 AllHandOn form = All (λ (r : RFunction). All (HandsOn form (naming_of form r)) (calls_among r.body)) form.functions

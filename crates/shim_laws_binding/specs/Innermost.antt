@@ -8,7 +8,7 @@ abbrev pub HasNone : {T : Type 0} → (T → List ℕ) → List ℕ → List T �
 HasNone name x [] = Unit {0}
 HasNone name x (t ∷ ts) = (name t ≢ x) × HasNone name x ts
 
--- of what is around, the outermost first, this one has the name, and none further in has it
+-- Of what is `around`, the outermost first, `at` has the name `x`, and none further in has that name.
 pub record IsInnermost {T : Type 0} (name : T → List ℕ) (x : List ℕ) (around : List T) (at : T) : Type 0 where
   pub outer : List T
   pub inner : List T

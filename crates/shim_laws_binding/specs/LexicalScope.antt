@@ -34,36 +34,36 @@ use Rattle.shim_scopes.specs.declared.tree.RBranchWhat.TheVariants as rb
 use Rattle.shim_syntax.specs.Names.{Texts}
 use Rattle.shim_laws_binding.specs.Innermost.{IsSlotOfInnermost, IsNumberOfInnermost}
 
--- each of the one list and the one at its place in the other, of as many
+-- The lists are equally long. `R` holds of each element of the first and the one at its place in the second.
 abbrev pub Pairwise : {S T : Type 0} → (S → T → Type 0) → List S → List T → Type 0
 Pairwise R [] [] = Unit {0}
 Pairwise R [] (t ∷ ts) = ⊥
 Pairwise R (s ∷ ss) [] = ⊥
 Pairwise R (s ∷ ss) (t ∷ ts) = R s t × Pairwise R ss ts
 
--- A point in the text of a function. Around it are these declarations, and these exceptions are in force, the outermost first, each with its number. Before it, in whatever block, the function has so many declarations, its parameters among them, and so many exceptions, of its `throws` and of each `try`: the next of each gets that number.
+-- A point in the text of a function. `declared` are the declarations around it, and `handled` the exceptions in force there, the outermost first. `slots` counts all declarations of the function before the point, in whatever block, its parameters among them; it is the slot of the next. `exceptions` counts the names of its `throws` and each `try` that begins before the point; it is the number of the next.
 pub record Point : Type 0 where
   pub declared : List LocalDeclaration
   pub handled : List Handled
   pub slots : ℕ
   pub exceptions : ℕ
 
--- what follows a declaration in its block has it around, as the innermost
-abbrev pub behind_declaration : List ℕ → Sort → Point → Point
-behind_declaration x sort p = record p { declared = p.declared ++ record { name = x; bound = record { slot = p.slots; sort = sort } } ∷ []; slots = suc p.slots }
+-- The point after a declaration at `p`. The declaration is around this point as the innermost, and has the next slot at `p`.
+abbrev pub point_after_declaration : List ℕ → Sort → Point → Point
+point_after_declaration x sort p = record p { declared = p.declared ++ record { name = x; bound = record { slot = p.slots; sort = sort } } ∷ []; slots = suc p.slots }
 
--- in the body of a `try` its exception is in force, as the innermost
+-- The point where the body of a `try` at `p` begins. The exception of the `try` is in force there as the innermost, and has the next number at `p`.
 abbrev pub inside_try : List ℕ → Point → Point
 inside_try x p = record p { handled = p.handled ++ record { name = x; number = p.exceptions } ∷ []; exceptions = suc p.exceptions }
 
--- behind a block that begins at p and ends at q, what was around it is around again, and no more
-abbrev pub behind_block : Point → Point → Point
-behind_block p q = record p { slots = q.slots; exceptions = q.exceptions }
+-- The point after a block that begins at `p` and ends at `q`. The declarations around it and the exceptions in force are those of `p`. The counts are those of `q`.
+abbrev pub point_after_block : Point → Point → Point
+point_after_block p q = record p { slots = q.slots; exceptions = q.exceptions }
 
--- what stands in the block of a handler has its variable around, where it has one, as an `int32`
-abbrev pub behind_variable : Option (List ℕ) → Point → Point
-behind_variable None p = p
-behind_variable (Some y) p = behind_declaration y (Value Int32) p
+-- the point where the statements of a handler begin: after a declaration of its variable as an `int32`, if the handler has one
+abbrev pub point_after_variable : Option (List ℕ) → Point → Point
+point_after_variable None p = p
+point_after_variable (Some y) p = point_after_declaration y (Value Int32) p
 
 -- the slot of a handler's variable, where the handler has one: the next slot at the point
 abbrev pub slot_of_variable : Option (List ℕ) → Point → Option ℕ
@@ -82,7 +82,7 @@ pub data BindsOption (around : List LocalDeclaration) : Option Expr → Option U
   missing : BindsOption around None None
   given : {a : Expr} {r : UExpr} → BindsExpr around a r → BindsOption around (Some a) (Some r)
 
--- A call has the number of a function of its name. Each exception of that function's `throws` has the number of the innermost one of that name that is in force at the call.
+-- A call has the number of a function of its name. Each argument is bound by the declarations around the call. Each exception of that function's `throws` has the number of the innermost one of that name that is in force at the call.
 pub record BindsCall (functions : List Function) (p : Point) (c : Call) (r : RCall) : Type 0 where
   pub callee : Function
   pub called : slice_get functions r.function ≡ Some callee
@@ -92,11 +92,11 @@ pub record BindsCall (functions : List Function) (p : Point) (c : Call) (r : RCa
 
 -- `Binds .. p s r q` says that s, which begins at the point p, is bound as r, and that what follows it in its block begins at the point q.
 mutual
-  -- What a statement does. A name that it uses, as the target or the stream, too, has the slot of the innermost declaration around the point where it stands: that is where the statement begins, but for the test of a `for`.
+  -- What a statement does. Each variable or stream that it uses outside the statements in it has the slot of the innermost declaration around a point. That is the point where the statement begins, and for the test of a `for` the point after the first statement.
   pub data BindsWhat (functions : List Function) : Point → What → RWhat → Point → Type 0 where
     -- a declaration has the next slot, and its first value is read before the name is there
     declare : {p : Point} {ty : Ty} {x : List ℕ} {a : Option Expr} {r : Option UExpr} → BindsOption p.declared a r
-        → BindsWhat functions p (st.Declare ty x a) (rt.Declare ty p.slots r) (behind_declaration x (Value ty) p)
+        → BindsWhat functions p (st.Declare ty x a) (rt.Declare ty p.slots r) (point_after_declaration x (Value ty) p)
     -- `x = e;`
     assign : {p : Point} {x : List ℕ} {a : Expr} {slot : ℕ} {r : UExpr} → IsSlotOfInnermost x p.declared slot → BindsExpr p.declared a r
         → BindsWhat functions p (st.Assign x a) (rt.Assign slot r) p
@@ -114,24 +114,24 @@ mutual
     -- `put x, e;`
     put : {p : Point} {x : List ℕ} {a : Expr} {stream : ℕ} {r : UExpr} → IsSlotOfInnermost x p.declared stream → BindsExpr p.declared a r
         → BindsWhat functions p (st.Put x a) (rt.Put stream r) p
-    -- the two bodies of an `if` are blocks, the second behind the first
+    -- the two bodies of an `if` are blocks, the second after the first
     if_else : {p m q : Point} {test : Expr} {first other : List Stmt} {t : UExpr} {f o : List RStmt} → BindsExpr p.declared test t
         → BindsBlock functions p first f m → BindsBlock functions m other o q → BindsWhat functions p (st.If test first other) (rt.If t f o) q
     -- the body of a `while` is a block
     while : {p q : Point} {test : Expr} {body : List Stmt} {t : UExpr} {b : List RStmt} → BindsExpr p.declared test t
         → BindsBlock functions p body b q → BindsWhat functions p (st.While test body) (rt.While t b) q
-    -- A `for` is a block. The test and the step stand behind the first statement, and the body is a block behind the step, which declares nothing in any text.
+    -- A `for` is a block. The test and the step come after the first statement, and the body is a block after the step. No text has a step that declares something.
     for_loop : {p m n q : Point} {first step body : List Stmt} {test : Option Expr} {f s b : List RStmt} {t : Option UExpr} → BindsStmts functions p first f m
         → BindsOption m.declared test t → BindsStmts functions m step s n → BindsBlock functions n body b q
-        → BindsWhat functions p (st.For first test step body) (rt.For f t s b) (behind_block p q)
+        → BindsWhat functions p (st.For first test step body) (rt.For f t s b) (point_after_block p q)
     -- a block in braces
     block : {p q : Point} {body : List Stmt} {b : List RStmt} → BindsBlock functions p body b q → BindsWhat functions p (st.Block body) (rt.Block b) q
     -- a call declares nothing
     call : {p : Point} {c : Call} {r : RCall} → BindsCall functions p c r → BindsWhat functions p (st.Call c) (rt.Call r) p
-    -- A `try` has the next number, and its exception is in force in its body. The handler is a block behind that body, where the exception is in force no longer. A variable of the handler is declared where the handler's block begins.
+    -- A `try` has the next number, and its exception is in force in its body. The handler is a block after that body, and in it this exception isn't in force. A variable of the handler is declared where the handler's block begins.
     try : {p m q : Point} {x : List ℕ} {y : Option (List ℕ)} {body handler : List Stmt} {b h : List RStmt} → BindsBlock functions (inside_try x p) body b m
-        → BindsStmts functions (behind_variable y (behind_block p m)) handler h q
-        → BindsWhat functions p (st.Try body x y handler) (rt.Try b p.exceptions (slot_of_variable y m) h) (behind_block p q)
+        → BindsStmts functions (point_after_variable y (point_after_block p m)) handler h q
+        → BindsWhat functions p (st.Try body x y handler) (rt.Try b p.exceptions (slot_of_variable y m) h) (point_after_block p q)
     -- a `throw` has the number of the innermost exception of its name that is in force
     throw : {p : Point} {x : List ℕ} {a : Option Expr} {number : ℕ} {r : Option UExpr} → IsNumberOfInnermost x p.handled number → BindsOption p.declared a r
         → BindsWhat functions p (st.Throw x a) (rt.Throw number r) p
@@ -143,7 +143,7 @@ mutual
     stmt : {p q : Point} {line : ℕ} {what : What} {r : RWhat} → BindsWhat functions p what r q
         → BindsStmt functions p (record { line = line; what = what }) (record { line = line; what = r }) q
 
-  -- statements, one behind the other: what one declares is around those that follow
+  -- statements, one after the other: what one declares is around those that follow
   pub data BindsStmts (functions : List Function) : Point → List Stmt → List RStmt → Point → Type 0 where
     no_stmts : {p : Point} → BindsStmts functions p [] [] p
     stmts : {p m q : Point} {s : Stmt} {body : List Stmt} {r : RStmt} {rs : List RStmt} → BindsStmt functions p s r m → BindsStmts functions m body rs q
@@ -151,7 +151,7 @@ mutual
 
   -- the statements of a block: what they declare isn't around what follows the block
   pub data BindsBlock (functions : List Function) : Point → List Stmt → List RStmt → Point → Type 0 where
-    in_block : {p q : Point} {body : List Stmt} {rs : List RStmt} → BindsStmts functions p body rs q → BindsBlock functions p body rs (behind_block p q)
+    in_block : {p q : Point} {body : List Stmt} {rs : List RStmt} → BindsStmts functions p body rs q → BindsBlock functions p body rs (point_after_block p q)
 
   -- what a branch does: a block, or a call
   pub data BindsBranchWhat (functions : List Function) : Point → BranchWhat → RBranchWhat → Point → Type 0 where
@@ -163,7 +163,7 @@ mutual
     branch : {p q : Point} {line : ℕ} {what : BranchWhat} {r : RBranchWhat} → BindsBranchWhat functions p what r q
         → BindsBranch functions p (record { line = line; what = what }) (record { line = line; what = r }) q
 
-  -- Branches, one behind the other in the text. What one declares is around no other, since each is a block or a call.
+  -- Branches, one after the other in the text. What one declares is around no other, since each is a block or a call.
   pub data BindsBranches (functions : List Function) : Point → List Branch → List RBranch → Point → Type 0 where
     no_branches : {p : Point} → BindsBranches functions p [] [] p
     branches : {p m q : Point} {b : Branch} {bs : List Branch} {r : RBranch} {rs : List RBranch} → BindsBranch functions p b r m → BindsBranches functions m bs rs q
@@ -190,7 +190,7 @@ pub record BindsFunction (functions : List Function) (f : Function) (r : RFuncti
   pub slots : length r.slots ≡ end.slots
   pub exceptions : length r.throws + length r.tries ≡ end.exceptions
 
--- A program: each of its functions is bound, and the number of `main` is that of the function of this name.
+-- A program: each of its functions is bound, and the form's `main` is the number of a function named `main`.
 pub record BindsProgram (p : Program) (form : Form) : Type 0 where
   pub functions : Pairwise (BindsFunction p.functions) p.functions form.functions
   pub main : Function

@@ -1,4 +1,4 @@
--- The program that a resolved form stands for: the names put back to their numbers.
+-- The functions that a resolved form stands for, with names in place of the form's numbers.
 use Rattle.std.specs.Prelude.{ℕ, List, ◌++◌, Option, Some, None, map, slice_index_or, []}
 use Rattle.shim_syntax.specs.declared.tree.Expr.{Expr}
 use Rattle.shim_syntax.specs.declared.tree.Expr.TheVariants as e
@@ -22,7 +22,7 @@ use Rattle.shim_scopes.specs.declared.tree.RBranch.{RBranch-F}
 use Rattle.shim_scopes.specs.declared.tree.RBranchWhat.{RBranchWhat-F}
 use Rattle.shim_syntax.specs.Names.{Texts}
 
--- the name at a place of a list
+-- the name at a place of a list, or the empty name if the place isn't in the list
 abbrev pub name_at : Texts → ℕ → List ℕ
 name_at names place = slice_index_or names place []
 
@@ -52,7 +52,7 @@ abbrev pub option_named : (ℕ → List ℕ) → Option UExpr → Option Expr
 option_named variable None = None
 option_named variable (Some a) = Some (expr_named variable a)
 
--- the variable of a handler, where it has one
+-- the name of a handler's variable, where the handler has one
 abbrev pub slot_named : (ℕ → List ℕ) → Option ℕ → Option (List ℕ)
 slot_named variable None = None
 slot_named variable (Some slot) = Some (variable slot)
@@ -99,7 +99,7 @@ stmt_named n = fold-RStmt BranchWhat What Branch Stmt (name_branch_what_step n) 
 abbrev pub param_named : Texts → UParam → Param
 param_named names p = record { sort = p.sort; by_ref = p.by_ref; name = name_at names p.name }
 
--- The exceptions are those of the `throws`, and then those of the `try` statements.
+-- The names for one function of a form: of its variables by its slots, of its exceptions, and of all functions of the form. The exceptions are those of its `throws`, and then those of its `try` statements.
 abbrev pub naming_of : Form → RFunction → Naming
 naming_of form f = record {
   variable = name_at (names_at form.names f.slot_names);
@@ -117,6 +117,6 @@ function_named form f = record {
   body = map (stmt_named (naming_of form f)) f.body;
 }
 
--- the functions of the program
+-- the functions of a form, each with names in place of all slots and numbers in it
 abbrev pub functions_named : Form → List Function
 functions_named form = map (function_named form) form.functions

@@ -15,7 +15,7 @@ abbrev pub names_among : List Terminal → Texts
 names_among [] = []
 names_among (t ∷ ts) = terminal_name t ++ names_among ts
 
--- the terminals of a text's functions: in version 2 those behind its first three
+-- the terminals of a text's functions: all, or in version 2 those after the first three
 abbrev pub of_functions : List Terminal → List Terminal
 of_functions ts = if begins_two ts then rest (rest (rest ts)) else ts
 

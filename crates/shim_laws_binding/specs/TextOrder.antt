@@ -58,7 +58,7 @@ abbrev pub branch_tries : BranchWhat-F Texts Texts Texts Texts → Texts
 branch_tries (BranchWhat-F.BranchWhat::Block body) = concat body
 branch_tries (BranchWhat-F.BranchWhat::Call c) = []
 
--- a `try` stands before those inside it
+-- The names of the `try` statements that a statement is or has inside it, given those of its parts. A `try` comes before those inside it.
 abbrev pub what_tries : What-F Texts Texts Texts Texts → Texts
 what_tries (What-F.If e first other) = concat first ++ concat other
 what_tries (What-F.While e body) = concat body
@@ -90,7 +90,7 @@ sorts_of ds = map (λ (d : Declaration). d.sort) ds
 abbrev pub numbers_of_declared : Texts → Declarations → List ℕ
 numbers_of_declared names ds = map (λ (d : Declaration). name_index names d.name) ds
 
--- what a function has for its line, its name, its slots, its exceptions and its parameters
+-- The form `r` has the line, the name and the parameters of the function `f`. Its slots are the declarations of `f`, and its exceptions those of the `throws` and then of the `try` statements, in the order of the text.
 pub record IsInTextOrder (names : Texts) (f : Function) (r : RFunction) : Type 0 where
   pub line : r.line ≡ f.line
   pub name : r.name ≡ name_index names f.name
@@ -100,7 +100,7 @@ pub record IsInTextOrder (names : Texts) (f : Function) (r : RFunction) : Type 0
   pub tries : r.tries ≡ map (name_index names) (tries_among f.body)
   pub params : r.params ≡ map (λ (p : Param). record { sort = p.sort; by_ref = p.by_ref; name = name_index names p.name }) f.params
 
--- each function and its form, one after another
+-- There are as many forms as functions. Each form is in text order for the function at its place.
 abbrev pub AreInTextOrder : Texts → List Function → List RFunction → Type 0
 AreInTextOrder names [] [] = Unit {0}
 AreInTextOrder names [] (r ∷ rs) = ⊥

@@ -1,4 +1,4 @@
-// Laws of what binding comes to.
+// Laws of what binding gives, and of the names of a text.
 ghost use Rattle.std.specs.Prelude.{ℕ, List, Ok, Some, None, true, false, ◌≡◌, ◌↔◌};
 ghost use Rattle.shim_base.specs.declared.types.Ty.{Ty};
 ghost use Rattle.shim_scopes.specs.declared.form.Form.{Form};
@@ -20,11 +20,11 @@ ghost use Rattle.shim_laws_binding.specs.TextOrder.{AreInTextOrder};
 
 /// Each name of a variable or an exception means the innermost of that name around the point of the text
 /// where it stands. In the form each use of a variable has the slot of the innermost declaration of its
-/// name, and each `throw` the number of the innermost exception of its name that is in force. Each call has the number of a function
-/// of its name and, for each exception of that function's `throws`, the number of the innermost one of
-/// that name that is in force at the call. A declaration is around what follows it in its block, and not
-/// around its own first value; the exception of a `try` is in force in the body, and not in the handler.
-/// Slots and exceptions are numbered as they come in the text.
+/// name. Each `throw` has the number of the innermost exception of its name that is in force. Each call has
+/// the number of a function of its name. For each exception of that function's `throws` it has the number of
+/// the innermost one of that name that is in force at the call. A declaration is around what follows it in
+/// its block, and not around its own first value. The exception of a `try` is in force in the body, and not
+/// in the handler. Slots and exceptions are numbered as they come in the text.
 pub fn names_mean_the_innermost()
     ensures { (p : Program) (form : Form) → bind_program p ≡ Ok form → BindsProgram p form }
 {}
@@ -35,26 +35,27 @@ pub fn no_other_form_is_bound()
     ensures { (p : Program) (form other : Form) → bind_program p ≡ Ok form → BindsProgram p other → AreInTextOrder form.names p.functions other.functions → other.names ≡ form.names → other ≡ form }
 {}
 
-/// The names put back to the numbers of a form give the program that it is the form of, lines and all.
-/// So nothing of the program is lost, and no two of its names are mixed up.
-pub fn names_put_back_give_the_program()
+/// With names in place of its numbers a form gives the functions of its program, lines and all. The form
+/// loses nothing of them, and mixes up no two names. It doesn't have the version of the program.
+pub fn names_put_back_give_the_functions()
     ensures { (p : Program) (form : Form) → bind_program p ≡ Ok form → functions_named form ≡ p.functions }
 {}
 
-/// Each call has the number of a function, gives as many arguments as that function takes, and hands
-/// each exception on to the caller's one of the same name.
+/// Each call has the number of a function and gives as many arguments as that function takes. For each
+/// exception of that function's `throws` it gives the caller's one of the same name.
 pub fn calls_hand_on_what_is_thrown()
     ensures { (p : Program) (form : Form) → bind_program p ≡ Ok form → AllHandOn form }
 {}
 
-/// The slots of a function are its parameters and then its declarations in the order of the text,
-/// and its exceptions those of its `throws` and then those of its `try` statements, in that order too.
+/// The slots of a function are its parameters and then its declarations, in the order of the text. Its
+/// exceptions are those of its `throws` and then those of its `try` statements, in that order, too. Its line,
+/// its name and its parameters are those of the program.
 pub fn slots_are_in_text_order()
     ensures { (p : Program) (form : Form) → bind_program p ≡ Ok form → AreInTextOrder form.names p.functions form.functions }
 {}
 
-/// The identifiers of a program, one after another, are the names of its text in their order. The word
-/// with which a text of version 2 begins is none of them.
+/// The identifiers of a program, one after another, are the names of its text in their order. Of a text of
+/// version 2 the first three terminals don't count: `shim`, the number 2 and `;`.
 pub fn identifiers_are_the_names_of_the_text()
     ensures { (bytes : List ℕ) (p : Program) (text : IsText bytes p) → identifiers p.functions ≡ names_among (of_functions text.terminals) }
 {}
@@ -69,12 +70,12 @@ pub fn version_1_has_no_new_type()
     ensures { (bytes : List ℕ) (p : Program) (text : IsText bytes p) → p.version ≡ 1 → has_new_type text.terminals ≡ false }
 {}
 
-/// Where types are compared, two are the same exactly where they are equal.
+/// Binding takes two types for the same exactly if they are equal.
 pub fn same_types_are_equal()
     ensures { (a b : Ty) → (same_type a b ≡ true) ↔ (a ≡ b) }
 {}
 
-/// The number of an exception is that of the innermost one in force that has the name.
+/// The number that binding gives for an exception's name is that of the innermost one in force of this name.
 pub fn exception_is_the_innermost()
     ensures { (x : List ℕ) (around : List Handled) (number : ℕ) → exception_of x around ≡ Some number → IsNumberOfInnermost x around number }
 {}

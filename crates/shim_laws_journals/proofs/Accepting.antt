@@ -11,7 +11,7 @@ use Rattle.shim_laws_replay.specs.Ends.{HasEnded}
 use Rattle.shim_laws_replay.proofs.Ends.{journals_mean}
 use Rattle.shim_laws_replay.proofs.Moments.{ends_are_read_off}
 use Rattle.shim_laws_journals.specs.Ranges.{steps_in}
-use Rattle.shim_laws_journals.specs.Accepting.{IsAcceptedJournal, Reaches, JournalRefusal, OverBudget, NotEnabled, Unfinished, IsRefusedJournal, OneAnswer, AcceptedIsReadOff, line_behind}
+use Rattle.shim_laws_journals.specs.Accepting.{IsAcceptedJournal, Reaches, JournalRefusal, OverBudget, NotEnabled, Unfinished, IsRefusedJournal, OneAnswer, AcceptedIsReadOff, line_after}
 use Rattle.shim_laws_journals.proofs.Counts.{entry_counts, entries_go_on, replay_earlier}
 
 none_some : {A : Type 0} (x : A) (o : Option A) → o ≡ None → o ≡ Some x → ⊥
@@ -110,8 +110,8 @@ module _ {S : Type 0} (o : Ops S) where
       by_place (first m parts) = absurd (not_e (done_first root b es f g m e d t u r s parts))
       by_place (second m parts) = absurd (not_d (done_first root b es g f m d e u t s r parts))
 
-  lines_same : (f g : List Entry) (l m : ℕ) → f ≡ g → l ≡ line_behind f → m ≡ line_behind g → l ≡ m
-  lines_same f g l m is a c = a ∙ ap line_behind is ∙ sym c
+  lines_same : (f g : List Entry) (l m : ℕ) → f ≡ g → l ≡ line_after f → m ≡ line_after g → l ≡ m
+  lines_same f g l m is a c = a ∙ ap line_after is ∙ sym c
 
   over_and_missing : (b : ℕ) (e d : Entry) (t u : Tree S) → e ≡ d → t ≡ u → b < steps t + steps_in e → steps u + steps_in d ≤ b → ⊥
   over_and_missing b e d t u entries trees over fits =

@@ -8,17 +8,17 @@ abbrev pub steps_in : Entry → ℕ
 steps_in (Quiet p n) = n
 steps_in (Did e) = 1
 
--- and all of them
+-- how many steps all entries have together
 abbrev pub steps_in_all : List Entry → ℕ
 steps_in_all [] = 0
 steps_in_all (e ∷ es) = steps_in e + steps_in_all es
 
--- an entry of quiet steps has 1 to 4,000,000
+-- an entry of quiet steps has 1 to 4,000,000 of them; of an entry of one event nothing is asked
 abbrev pub HasStepsInRange : Entry → Type 0
 HasStepsInRange (Quiet p n) = (1 ≤ n) × (n ≤ 4000000)
 HasStepsInRange (Did e) = Unit {0}
 
--- a budget of 1 to 4,000,000 steps, and entries of so many, whose lines have numbers below 2^32
+-- The budget is 1 to 4,000,000, and the steps of each entry are in range (`HasStepsInRange`). The entries are so few that the numbers of their lines, and of the line after the last, are below 2^32.
 pub record IsInRange (b : ℕ) (es : List Entry) : Type 0 where
   pub least : 1 ≤ b
   pub most : b ≤ 4000000

@@ -9,14 +9,14 @@ use Rattle.shim_laws_journals.specs.Accepting.{IsAcceptedJournal}
 
 -- what is so of the budget and the journal of a net with this tree
 pub record IsTrace {S : Type 0} (o : Ops S) (root : S) (b : ℕ) (es : List Entry) (t : Tree S) : Type 0 where
-  -- they have a text
+  -- the budget and the entries are in the ranges of a journal's text
   pub in_range : IsInRange b es
-  -- the entries have no more steps than the budget, all together, and are no more themselves
+  -- All entries together have no more steps than the budget. There are no more entries than the budget has steps.
   pub within : steps_in_all es ≤ b
   pub few : length es ≤ b
-  -- they have the steps of the tree
+  -- all entries together have as many steps as the tree
   pub counted : steps_in_all es ≡ steps t
-  -- and are accepted, where no event is enabled or the budget is spent
+  -- where no event is enabled in the tree, or the budget is spent, the journal is accepted with this tree
   pub accepted : IsQuiescent o t ⊎ ((steps t ≡ b) × (IsQuiescent o t → ⊥)) → IsAcceptedJournal o root b es t
 
 -- the journal of each net that keeps `NetKeeps`, with a budget from 1 to 4,000,000, is a trace

@@ -10,15 +10,16 @@ pub fn one_answer<L: Local>()
     ensures { OneAnswer L.ops }
 {}
 
-/// An accepted journal leads to where a run within its budget ends. It is reported as the meaning within that
-/// budget, to which as many steps led.
+/// The tree of an accepted journal agrees with the meaning within the budget, and as many steps led to both. It is
+/// reported as spent exactly where the meaning is; else what is reported of it is what is reported of the meaning.
+/// The root is sound and shares only channels that it declared.
 pub fn accepted_is_read_off<L: Local>()
     ensures { AcceptedIsReadOff L.ops }
 {}
 
-/// The budget and the journal of a net are in the ranges of a journal's text. Each entry has a step at least, and all
-/// together have the steps of the net's tree, which are no more than the budget. Where no event is enabled in
-/// it, or the budget is spent, they are accepted.
+/// Where the budget of a net is 1 to 4,000,000, the budget and the journal are in the ranges of a journal's text.
+/// Each entry has a step at least. All entries together have as many steps as the net's tree, which has no more
+/// steps than the budget. Where no event is enabled in the tree, or the budget is spent, the journal is accepted.
 pub fn nets_are_traced<L: Local>()
     ensures { NetsAreTraced L.ops }
 {}

@@ -14,11 +14,11 @@ pub record IsGrantable {S : Type 0} (o : Ops S) (t : Tree S) (l : S) : Type 0 wh
   pub in_tree : StandsAt o t.root (o.path l) (Live l)
   pub stop : o.stop l ≡ AtQuiet
 
--- these are the processes that the list of a sound tree's quiet ones has
+-- in a sound tree the grantable processes are exactly those that `quiet_at` gives for some number
 abbrev pub GrantableAreListed : {S : Type 0} → Ops S → Type 0
 GrantableAreListed {S} o = (t : Tree S) (l : S) → IsSoundTree o t → IsGrantable o t l ↔ ((at : ℕ) × (quiet_at o at t ≡ Some l))
 
--- while it doesn't step itself, such a process is left as and where it is
+-- In a sound tree an event that isn't a grantable process's own step leaves it grantable, in the same state.
 abbrev pub QuietUndisturbed : {S : Type 0} → Ops S → Type 0
 QuietUndisturbed {S} o = (t u : Tree S) (e : Event) (l : S) → IsSoundTree o t → after o e t ≡ Some u → e ≢ Own (o.path l) → IsGrantable o t l → IsGrantable o u l
 
@@ -26,12 +26,12 @@ QuietUndisturbed {S} o = (t u : Tree S) (e : Event) (l : S) → IsSoundTree o t 
 abbrev pub IsNoQuietStep : {S : Type 0} → Ops S → Tree S → Event → Type 0
 IsNoQuietStep o t e = (p : Path) → e ≡ Own p → StandsQuiet o t p → ⊥
 
--- the entry has no step of the process of the path
+-- the entry is neither of quiet steps of the process of the path nor that process's own step
 abbrev pub IsOfOthers : Path → Entry → Type 0
 IsOfOthers p (Quiet q n) = q ≢ p
 IsOfOthers p (Did e) = e ≢ Own p
 
--- A process that is out stays as it is through each event that is no quiet step, and through each entry of another process.
+-- In a sound tree a grantable process stays so, in the same state, through each event that is no quiet step. It stays so, too, through each entry that is neither of its quiet steps nor its own step.
 pub record OutStaysOut {S : Type 0} (o : Ops S) : Type 0 where
   pub events : (t u : Tree S) (e : Event) (l : S) → IsSoundTree o t → after o e t ≡ Some u → IsNoQuietStep o t e → IsGrantable o t l → IsGrantable o u l
   pub entries : (t u : Tree S) (j : Entry) (l : S) → IsSoundTree o t → entry_after o j t ≡ Some u → IsOfOthers (o.path l) j → IsGrantable o t l → IsGrantable o u l

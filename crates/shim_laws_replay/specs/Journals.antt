@@ -23,11 +23,11 @@ is_before_quiet o p (Some (Forked l ks)) = false
 is_before_quiet o p (Some (Ended l)) = false
 is_before_quiet o p (Some (Dead l x)) = false
 
--- one step of that process, if it has a quiet one to do
+-- the tree after one quiet step of the process of the path, if that lives and is before a quiet step
 abbrev pub quiet_step : {S : Type 0} → Ops S → Path → Tree S → Option (Tree S)
 quiet_step o p t = cond (is_before_quiet o p (led_to o t.root p)) (after o (Own p) t) None
 
--- the tree after so many quiet steps of that process, if it has each to do in its turn
+-- the tree after so many quiet steps of the process of the path, if it is before each in its turn
 abbrev pub quiet_steps : {S : Type 0} → Ops S → Path → ℕ → Tree S → Option (Tree S)
 quiet_steps o p zero t = Some t
 quiet_steps o p (suc n) t = on_some (quiet_steps o p n) (quiet_step o p t)
@@ -41,7 +41,7 @@ entry_after o (Did e) t = after o e t
 unfoldable pub replay : {S : Type 0} → Ops S → S → List Entry → Option (Tree S)
 replay o root journal = run (entry_after o) journal (start root)
 
--- what was done, event by event
+-- the events of an entry, one after another
 abbrev pub events_of : Entry → List Event
 events_of (Quiet p n) = replicate n (Own p)
 events_of (Did e) = e ∷ []
@@ -65,6 +65,6 @@ pub record IsRunOf {S : Type 0} (o : Ops S) (root : S) (journal : List Entry) (t
   pub leads : run (after o) (all_events journal) (start root) ≡ Some t
   pub counted : length (all_events journal) ≡ steps t
 
--- where a journal leads to a tree, its events are a run there
+-- where a journal leads to a tree, its events are a run to that tree, and as many as its steps
 abbrev pub JournalsAreRuns : {S : Type 0} → Ops S → Type 0
 JournalsAreRuns {S} o = (root : S) (journal : List Entry) (t : Tree S) → replay o root journal ≡ Some t → IsRunOf o root journal t

@@ -34,13 +34,13 @@ pub record IsTakenIn {S : Type 0} (o : Ops S) (t u : Tree S) (n : ℕ) (last : S
 
 -- A finished piece of work can be taken in as one entry of quiet steps. Each entry of one quiet step or more is a piece of work of its process.
 pub record PiecesAreEntries {S : Type 0} (o : Ops S) : Type 0 where
-  -- A finished piece of a process that stands where it was granted may be taken in. The path is that of the start.
+  -- Where the process of a finished piece stands in the tree as granted, the piece's steps lead from there to its last state (`ComesBy`). This state has the path of the first.
   pub comes : (t : Tree S) (n : ℕ) (first last : S) → IsSoundTree o t → IsGrantable o t first → QuietSteps o n first last → ComesBy o t n last × (o.path last ≡ o.path first)
-  -- there is the tree after its steps
+  -- where so many quiet steps lead to a state, there is a tree after as many own steps of its process
   pub leads : (t : Tree S) (n : ℕ) (last : S) → IsSoundTree o t → ComesBy o t n last → (u : Tree S) × Advances o (o.path last) n t u
-  -- it is one entry
+  -- those steps are taken in as one entry (`IsTakenIn`)
   pub entry : (t u : Tree S) (n : ℕ) (last : S) → IsSoundTree o t → ComesBy o t n last → Advances o (o.path last) n t u → IsTakenIn o t u n last
-  -- and each entry of quiet steps is a piece of the process of its path
+  -- each entry of one quiet step or more is a piece of the process of its path
   pub piece : (t u : Tree S) (p : Path) (n : ℕ) → IsSoundTree o t → 1 ≤ n → entry_after o (Quiet p n) t ≡ Some u → (first : S) × (last : S) × IsGrantable o t first × (o.path first ≡ p) × QuietSteps o n first last × IsTakenIn o t u n last
-  -- it has a step, where a step was granted to a process that stands before a quiet one, and memory didn't run out
+  -- a piece has a step, where a step was granted to a process that stands before a quiet one, and memory wasn't refused
   pub some : (first last : S) (used grant : ℕ) (short : Bool) → o.stop first ≡ AtQuiet → 1 ≤ grant → QuietSteps o used first last → FewerWithCause o used grant short last → short ≡ false → 1 ≤ used

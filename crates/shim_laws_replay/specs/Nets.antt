@@ -43,22 +43,22 @@ pub record NetKeeps {S : Type 0} (o : Ops S) (root : S) (budget : ℕ) (journal 
   pub out : All (IsOut o t) grants
   pub apart : AllPairs (AreApart o) grants
 
--- each operation on a net keeps its invariant (`NetKeeps`)
+-- Each operation on a net keeps its invariant (`NetKeeps`). Where no event is enabled in a net's tree, or its budget is spent, its schedule has ended.
 pub record NetsKeep {S : Type 0} (o : Ops S) : Type 0 where
   -- a new net keeps it
   pub begun : (root : S) (b : ℕ) → o.sound root → SharesItsOwn o root → NetKeeps o root b [] (start root) []
-  -- the tree goes on by an event that is no quiet step, which becomes an entry
+  -- Where a step of the budget is neither taken nor reserved, the tree goes on by an event that is no quiet step. The event becomes an entry.
   pub did : (root : S) (b : ℕ) (js : List Entry) (t u : Tree S) (grants : List (Grant S)) (e : Event) → NetKeeps o root b js t grants
       → after o e t ≡ Some u → IsNoQuietStep o t e → steps t + reserved grants < b → NetKeeps o root b (js ++ Did e ∷ []) u grants
-  -- a process that isn't out is given out
+  -- a process that isn't out is given out, with no more steps than the budget has left
   pub granted : (root : S) (b : ℕ) (js : List Entry) (t : Tree S) (grants : List (Grant S)) (g : Grant S) → NetKeeps o root b js t grants
       → IsOut o t g → All (λ h. AreApart o h g) grants → steps t + reserved grants + g.most ≤ b → NetKeeps o root b js t (grants ++ g ∷ [])
   -- a piece with a step or more is taken in, as one entry
   pub taken : (root : S) (b : ℕ) (js : List Entry) (t u : Tree S) (grants : List (Grant S)) (i : ℕ) (g : Grant S) (n : ℕ) (last : S) → NetKeeps o root b js t grants
       → i < length grants → g ≡ slice_index_or grants i g → QuietSteps o n g.start last → 1 ≤ n → n ≤ g.most → Advances o (o.path last) n t u
       → NetKeeps o root b (js ++ Quiet (o.path g.start) n ∷ []) u (remove grants i)
-  -- one without a step is taken back
+  -- an open grant is taken back, and neither the journal nor the tree changes
   pub taken_back : (root : S) (b : ℕ) (js : List Entry) (t : Tree S) (grants : List (Grant S)) (i : ℕ) (g : Grant S) → NetKeeps o root b js t grants
       → i < length grants → g ≡ slice_index_or grants i g → NetKeeps o root b js t (remove grants i)
-  -- at rest, or with its budget used up though something can happen, its schedule has ended
+  -- where the tree is quiescent, or the steps of the budget were taken and an event is enabled, the schedule has ended
   pub ended : (root : S) (b : ℕ) (js : List Entry) (t : Tree S) (grants : List (Grant S)) → NetKeeps o root b js t grants → IsQuiescent o t ⊎ ((steps t ≡ b) × (IsQuiescent o t → ⊥)) → HasEnded o b t

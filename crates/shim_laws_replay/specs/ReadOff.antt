@@ -21,6 +21,6 @@ pub record IsReadOffAs {S : Type 0} (o : Ops S) (root : S) (b : ℕ) (t : Tree S
 abbrev pub EndsAreReadOff : {S : Type 0} → Ops S → Type 0
 EndsAreReadOff {S} o = (root : S) (b : ℕ) (journal : List Entry) (t : Tree S) → o.sound root → SharesItsOwn o root → replay o root journal ≡ Some t → HasEnded o b t → IsReadOffAs o root b t
 
--- each tree to which a journal leads is reached by as many events as its steps, and what was put and met in it is a prefix of what as many rounds give
+-- Each tree to which a journal leads is reached by as many events as it has steps. What was put and met in it is a prefix of what as many rounds give. The root is sound and shares only channels that it declared.
 abbrev pub MomentsLead : {S : Type 0} → Ops S → Type 0
 MomentsLead {S} o = (root : S) (journal : List Entry) (t : Tree S) → o.sound root → SharesItsOwn o root → replay o root journal ≡ Some t → IsReachedBy o root (steps t) t × IsPrefixOf t (rounds o (steps t) (start root))

@@ -14,8 +14,9 @@ pub fn journals_are_runs<L: Local>()
     ensures { JournalsAreRuns L.ops }
 {}
 
-/// A journal without entries leads to the tree of the one process; with an entry more it leads to the tree
-/// after that; and each tree to which it leads is sound.
+/// A journal without entries leads to the tree of the one process. With an entry more a journal leads to the tree
+/// after that entry. Each part of it from the start leads to a tree, from which the rest leads on. If the root is
+/// sound and shares only channels that it declared, each tree to which a journal leads is sound.
 pub fn journals_go_on<L: Local>()
     ensures { JournalsGoOn L.ops }
 {}
@@ -26,8 +27,8 @@ pub fn quiet_undisturbed<L: Local>()
     ensures { QuietUndisturbed L.ops }
 {}
 
-/// A process that is out, which stands in a sound tree before a quiet step, stays so through each event that
-/// is no quiet step, and through each entry that has no step of its own.
+/// A live process that stands in a sound tree before a quiet step stays so, in the same state, through each event
+/// that is no quiet step. It stays so, too, through each entry that is neither of its quiet steps nor its own step.
 pub fn out_stays_out<L: Local>()
     ensures { OutStaysOut L.ops }
 {}
@@ -39,21 +40,23 @@ pub fn grantable_are_listed<L: Local>()
 {}
 
 /// A piece of work whose process stands where it was granted may be taken in: it is one entry, which leaves
-/// a sound tree of as many steps more, in which the process stands in its last state. The entry has a step, where
-/// one was granted and memory didn't run out.
+/// a sound tree of as many steps more, in which the process stands in its last state. Each entry of one quiet
+/// step or more is a piece of its process. A piece has a step, where one was granted to a process that stands before
+/// a quiet step, and memory wasn't refused.
 pub fn pieces_are_entries<L: Local>()
     ensures { PiecesAreEntries L.ops }
 {}
 
-/// Two journals of one process that lead to where schedules of one budget end, end alike: nothing can happen
-/// in the one tree exactly where nothing can in the other, and then they are one tree. They have as many
-/// steps.
+/// Two journals of one root, which is sound and shares only channels that it declared, end alike, if both lead to
+/// ends of schedules within one budget. No event is enabled in the one tree exactly where none is in the other, and
+/// then they are one tree. As many steps led to both.
 pub fn journals_agree<L: Local>()
     ensures { JournalsAgree L.ops }
 {}
 
-/// So does a journal end beside the meaning within the budget. A run of just its steps leads to its tree,
-/// and where something can happen in the meaning, these are the steps of the budget.
+/// A journal that leads to the end of a schedule ends like the meaning within the same budget. The root is sound and
+/// shares only channels that it declared. Some run leads to the journal's tree with as many events as the tree has
+/// steps. Where an event is enabled in the meaning, some run leads there with as many as the budget has steps.
 pub fn journals_mean<L: Local>()
     ensures { JournalsMean L.ops }
 {}
@@ -64,8 +67,9 @@ pub fn ends_are_read_off<L: Local>()
     ensures { EndsAreReadOff L.ops }
 {}
 
-/// Whatever a journal leads to can be reached by a run with as many events as the tree has steps. Its output
-/// is a prefix of the output behind as many rounds, and so is each channel's history.
+/// Each tree to which a journal leads is reached by a run with as many events as the tree has steps. Its output is a
+/// prefix of the output after as many rounds, and each channel's history is a prefix of its history there. The root
+/// is sound and shares only channels that it declared.
 pub fn moments_lead<L: Local>()
     ensures { MomentsLead L.ops }
 {}
@@ -73,7 +77,7 @@ pub fn moments_lead<L: Local>()
 /// A net of a root and a budget keeps, whatever is done with it, that its tree is the replay of its journal,
 /// that its budget isn't passed even where each open grant takes all its steps, and that each process that is
 /// out stands where it was given out. Done with it are events that are no quiet steps, grants of processes
-/// that aren't out, and finished pieces that are taken in.
+/// that aren't out, finished pieces that are taken in, and grants that are taken back.
 pub fn nets_keep<L: Local>()
     ensures { NetsKeep L.ops }
 {}

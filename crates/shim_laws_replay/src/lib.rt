@@ -1,6 +1,6 @@
 //! What a journal of a tree's events comes to.
 //!
-//! A journal has the quiet steps of a process as one entry, and each other event as another. Its replay is
+//! An entry of a journal is some quiet steps of one process, or one event. The replay of a journal is
 //! the tree to which it leads. A sound tree has what every tree has that a run reaches from its start
 //! (`shim_semantics::laws::holders`).
 #![tactic(auto)]

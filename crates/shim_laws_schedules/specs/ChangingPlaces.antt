@@ -9,12 +9,12 @@ use Rattle.shim_semantics.specs.Laws.{IsSoundTree}
 use Rattle.shim_semantics.specs.Trees.{Event, Own, Meet, Poison, Close, End, after}
 use Rattle.shim_laws_schedules.specs.Waiting.{all_wait, has_sharer}
 
--- two different events, both enabled in a sound state: each leaves the other enabled, and one state is behind both orders
+-- Of two different events that are both enabled in a sound state each leaves the other enabled. The state after both is one in both orders.
 abbrev pub ChangePlaces : {E T : Type 0} → (E → T → Option T) → (T → Type 0) → E → E → Type 0
 ChangePlaces {T = T} step sound e f =
     (t a b : T) → sound t → (e ≡ f → ⊥) → step e t ≡ Some a → step f t ≡ Some b → (u : T) × (step f a ≡ Some u) × (step e b ≡ Some u)
 
--- two events of sound trees
+-- the two events may change places in each sound tree (`ChangePlaces`)
 abbrev pub MayChangePlaces : {S : Type 0} → Ops S → Event → Event → Type 0
 MayChangePlaces o = ChangePlaces (after o) (IsSoundTree o)
 
@@ -34,6 +34,6 @@ MeetingsChangePlaces o = (c : Channel) (f : Event) → is_poison f ≡ false →
 abbrev pub PoisonsChangePlaces : {S : Type 0} → Ops S → Type 0
 PoisonsChangePlaces o = (p : Path) (c : Channel) (f : Event) → MayChangePlaces o (Poison p c) f
 
--- a channel's meeting is enabled exactly where each node that shares the channel waits on it, and some live or forked one shares it
+-- In a sound tree a channel's meeting is enabled exactly where all wait on the channel (`all_wait`) and some live or forked process shares it.
 abbrev pub MeetsWhereAllWait : {S : Type 0} → Ops S → Type 0
 MeetsWhereAllWait {S} o = (c : Channel) (root : Node S) → IsSound o root → (meets o c root ≡ true) ↔ ((all_wait o c root ≡ true) × (has_sharer o c root ≡ true))

@@ -13,7 +13,7 @@ use Rattle.shim_laws_schedules.specs.Rounds.{rounds}
 abbrev pub EventsCommute : {S : Type 0} → Ops S → Type 0
 EventsCommute o = IsDiamond (after o) (IsSoundTree o)
 
--- all runs that come to an end in which nothing can happen are as long, and end at one tree
+-- Where one run from a sound tree ends in a quiescent one, no run from that tree is longer. Each run that ends in a quiescent tree is as long, and ends in the same one.
 abbrev pub RunsAgree : {S : Type 0} → Ops S → Type 0
 RunsAgree o = HasOneLength (after o) (IsSoundTree o)
 

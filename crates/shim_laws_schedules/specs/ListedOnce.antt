@@ -9,6 +9,6 @@ use Rattle.shim_semantics.specs.Walks.{walk}
 abbrev pub StandOnce : {E : Type 0} → List E → Type 0
 StandOnce {E} es = (i j : ℕ) (e : E) → slice_get es i ≡ Some e → slice_get es j ≡ Some e → i ≡ j
 
--- in a sound tree no event stands at two places of the walk from the root
+-- where `SoundBelow` holds of the root, no event stands at two places of the walk from it
 abbrev pub ListsOnce : {S : Type 0} → Ops S → Type 0
 ListsOnce {S} o = (t : Tree S) → SoundBelow o t.root → StandOnce (walk o t.root)

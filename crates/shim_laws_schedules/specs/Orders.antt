@@ -36,6 +36,6 @@ abbrev pub rounds_of : {E T : Type 0} → (E → T → Option T) → (T → List
 rounds_of step walk zero t = t
 rounds_of step walk (suc n) t = rounds_of step walk n (round_of step walk t)
 
--- the first list, with something behind it, is the second
+-- the first list is the beginning of the second, or all of it
 abbrev pub IsPrefix : {A : Type 0} → List A → List A → Type 0
 IsPrefix {A} xs ys = (more : List A) × (xs ++ more ≡ ys)

@@ -19,7 +19,7 @@ pub record Throws {S : Type 0} (o : Ops S) (t : Tree S) (e : Event) (p : Path) (
   pub throws : o.stop thrower ≡ AtThrow x
   pub gives : o.number thrower ≡ Some v
 
--- the event is the close of the fork of this path's process, of whose children some died, and this is the label of their prevailing death, and the number that a handler is given then
+-- The event is the close of the fork of this path's process. The children have all ended or died, and one of them died. The label is that of their prevailing death, and the number is what a handler is given of it.
 pub record ClosesWith {S : Type 0} (o : Ops S) (t : Tree S) (e : Event) (p : Path) (x : ℕ) (v : ℤ) : Type 0 where
   pub is : e ≡ Close p
   pub parent : S
@@ -72,7 +72,7 @@ ThrownWhereCaught {S} o = (l : S) (from t u : Tree S) (es : List Event) (e : Eve
     from.root ≡ Live l → IsSoundTree o from → run (after o) es from ≡ Some t → after o e t ≡ Some u → Catches o t e p x v →
     (1 ≤ x) × (Throws o t e p x v ⊎ ((w : ClosesWith o t e p x v) × ThrewBelow o from es p w.parent x v))
 
--- in such a run too, where a close has a process catch a label, the death that prevails has the number: none is caught with 0 because nobody gave one
+-- A run from a sound tree of one live process leads to a tree in which a close has a process catch a label with a number. The prevailing death has that number. So the handler is never given 0 because the death has none.
 abbrev pub CatchesHaveNumbers : {S : Type 0} → Ops S → Type 0
 CatchesHaveNumbers {S} o = (l : S) (from t : Tree S) (es : List Event) (e : Event) (p : Path) (x : ℕ) (v : ℤ) →
     from.root ≡ Live l → IsSoundTree o from → run (after o) es from ≡ Some t → (w : ClosesWith o t e p x v) → o.base (o.join w.parent (states w.children) false) ≤ x →

@@ -21,7 +21,7 @@ pub fn poisons<L: Local>()
 {}
 
 /// Two different events of a sound tree that can both happen may change places: neither hinders the
-/// other, and it doesn't show in the tree behind both which of them came first.
+/// other, and it doesn't show in the tree after both which of them came first.
 pub fn diamond<L: Local>()
     ensures { EventsCommute L.ops }
 {}
@@ -49,9 +49,9 @@ pub fn thrown<L: Local>()
     ensures logged { CatchesAreLogged L.ops }
 {}
 
-/// Where a fork of such a run closes and its process catches an exception, the prevailing death of its
-/// children has a number, which the handler is given: never 0 because all that died so were poisoned. That
-/// it was thrown says `thrown`.
+/// After a run from a sound tree of one live process, a fork may close and its process catch an exception. The
+/// prevailing death of the children then has a number, which the handler is given. It is never 0 because all
+/// that died of the exception were poisoned. `thrown` says that the exception was thrown with this number.
 pub fn numbers<L: Local>()
     ensures { CatchesHaveNumbers L.ops }
 {}

@@ -35,26 +35,26 @@ pub from_less : (m n : ℕ) (ys : List ℕ) → m ≤ n → AllFrom n ys → All
 from_less m n ys less h = each_weaker (λ y. n ≤ y) (λ y. m ≤ y) (λ y k. omega (arith, less, k)) ys h
 
 -- there are no fewer slots than before, and what the tree declares is behind those before
-pub record IsBehind {T : Type 0} (own : T → List ℕ) (old : Before) (r : BoundTo T) : Type 0 where
+pub record IsAfter {T : Type 0} (own : T → List ℕ) (old : Before) (r : BoundTo T) : Type 0 where
   pub longer : length old.slots ≤ length r.before.slots
   pub behind : AllFrom (length old.slots) (own r.tree)
 
 abbrev pub Adds : {T : Type 0} → (T → List ℕ) → Bind T → Type 0
-Adds {T = T} own f = (a : Around) (b : Before) (r : BoundTo T) → f a b ≡ Ok r → IsBehind own b r
+Adds {T = T} own f = (a : Around) (b : Before) (r : BoundTo T) → f a b ≡ Ok r → IsAfter own b r
 
 -- a tree that declares nothing, or whose declarations are in units of their own
 abbrev pub none : {T : Type 0} → T → List ℕ
 none t = []
 
-pub at_answer : {T : Type 0} (own : T → List ℕ) (old new : Before) (t : T) (r : BoundTo T) → bound t new ≡ Ok r → length old.slots ≤ length new.slots → AllFrom (length old.slots) (own t) → IsBehind own old r
-at_answer {T = T} own old new t r e longer behind = subst (λ (s : BoundTo T). IsBehind own old s) (sym (is_bound t new r e)) (record { longer = longer; behind = behind })
+pub at_answer : {T : Type 0} (own : T → List ℕ) (old new : Before) (t : T) (r : BoundTo T) → bound t new ≡ Ok r → length old.slots ≤ length new.slots → AllFrom (length old.slots) (own t) → IsAfter own old r
+at_answer {T = T} own old new t r e longer behind = subst (λ (s : BoundTo T). IsAfter own old s) (sym (is_bound t new r e)) (record { longer = longer; behind = behind })
 
 -- nothing is declared
-pub stays : {T : Type 0} (own : T → List ℕ) (t : T) (b : Before) (r : BoundTo T) → own t ≡ [] → bound t b ≡ Ok r → IsBehind own b r
+pub stays : {T : Type 0} (own : T → List ℕ) (t : T) (b : Before) (r : BoundTo T) → own t ≡ [] → bound t b ≡ Ok r → IsAfter own b r
 stays own t b r nothing e = at_answer own b b t r e (omega arith) (subst (λ ys. AllFrom (length b.slots) ys) (sym nothing) tt)
 
 asked_two : (own : RWhat → List ℕ) (line : ℕ) (kind other : ScopeKind) (o p : Option (List ℕ)) (t : RWhat) (b : Before) (r : BoundTo RWhat) → own t ≡ []
-    → refused_for line kind o (refused_for line other p (bound t b)) ≡ Ok r → IsBehind own b r
+    → refused_for line kind o (refused_for line other p (bound t b)) ≡ Ok r → IsAfter own b r
 asked_two own line kind other o p t b r nothing h = stays own t b r nothing (passed line other p _ r (passed line kind o _ r h))
 
 pub block_adds : {T : Type 0} (own : T → List ℕ) (f : Bind T) → Adds own f → Adds own (bind_block f)

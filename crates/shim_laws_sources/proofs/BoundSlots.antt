@@ -154,22 +154,22 @@ params_before names b [] = omega arith
 params_before names b (p ∷ ps) = omega (arith, params_before names (with_param names b p) ps, length-append b.slots (p.sort ∷ []))
 
 -- what a function declares in its own unit is behind its parameters
-abbrev pub IsBehindParams : RFunction → Type 0
-IsBehindParams r = AllFrom (length r.params) (declares_in r.body)
+abbrev pub IsAfterParams : RFunction → Type 0
+IsAfterParams r = AllFrom (length r.params) (declares_in r.body)
 
-function_behind : (w : Whole) (f : Function) (r : RFunction) → IsMade w f r → IsBehindParams r
+function_behind : (w : Whole) (f : Function) (r : RFunction) → IsMade w f r → IsAfterParams r
 function_behind w f r m =
     let i = body_adds w f.body (around_body f) (params_from w.names function_begin f.params) m.body m.bound in
-    subst IsBehindParams m.made
+    subst IsAfterParams m.made
     (from_less (length (made_function w f m.body).params) _ (declares_in m.body.tree) (omega (arith, params_before w.names function_begin f.params, length-map f.params (placed_param w.names))) i.behind)
 
-functions_behind : (w : Whole) (earlier : Texts) (fs : List Function) (rs : List RFunction) → bind_functions w earlier fs ≡ Ok rs → Each IsBehindParams rs
-functions_behind w earlier [] rs e = let no_more : [] ≡ rs = cc in subst (Each IsBehindParams) no_more tt
+functions_behind : (w : Whole) (earlier : Texts) (fs : List Function) (rs : List RFunction) → bind_functions w earlier fs ≡ Ok rs → Each IsAfterParams rs
+functions_behind w earlier [] rs e = let no_more : [] ≡ rs = cc in subst (Each IsAfterParams) no_more tt
 functions_behind w earlier (f ∷ fs) rs e =
     let p = first_ok (bind_function w earlier f) _ rs e in
     let q = first_ok (bind_functions w (earlier ++ f.name ∷ []) fs) _ rs p.2 in
     let same : p.0 ∷ q.0 ≡ rs = cc in
-    subst (Each IsBehindParams) same (function_behind w f p.0 (is_made w earlier f p.0 p.1), functions_behind w (earlier ++ f.name ∷ []) fs q.0 q.1)
+    subst (Each IsAfterParams) same (function_behind w f p.0 (is_made w earlier f p.0 p.1), functions_behind w (earlier ++ f.name ∷ []) fs q.0 q.1)
 
-pub program_behind : (p : Program) (form : Form) → bind_program p ≡ Ok form → Each IsBehindParams form.functions
+pub program_behind : (p : Program) (form : Form) → bind_program p ≡ Ok form → Each IsAfterParams form.functions
 program_behind p form e = functions_behind (whole_of p) [] p.functions form.functions (is_form p form e).bound

@@ -25,7 +25,7 @@ use Rattle.shim_laws_sources.proofs.Lists.{each_weaker, each_by_two, each_of_all
 use Rattle.shim_laws_sources.proofs.Placing.{all_among, not_upto, own_place}
 use Rattle.shim_laws_sources.proofs.Lifting.{StandFrom, stand_first, stand_from, IsGiven, FitsWell, IsOwn}
 use Rattle.shim_laws_sources.proofs.LiftedFits.{body_fits}
-use Rattle.shim_laws_sources.proofs.BoundSlots.{IsBehindParams, program_behind}
+use Rattle.shim_laws_sources.proofs.BoundSlots.{IsAfterParams, program_behind}
 use Rattle.shim_units.proofs.Counting.{upto_length}
 
 -- units that stand behind others in a form stand from the number of these on
@@ -47,7 +47,7 @@ module _ (form : Form) (names : List (List ℕ)) (all : List RFunction) where
   abbrev context_of : ℕ → ℕ → RFunction → LiftContext
   context_of number next f = record { functions = all; function = f; number = number; name = name_or_mark names f.name; first = next }
 
-  own_in_function : (number next : ℕ) (f : RFunction) → IsBehindParams f → Each (IsOwn form (lift_function names all number next f).own (function_slot_map f)) (declares_in f.body)
+  own_in_function : (number next : ℕ) (f : RFunction) → IsAfterParams f → Each (IsOwn form (lift_function names all number next f).own (function_slot_map f)) (declares_in f.body)
   own_in_function number next f behind =
       let u : UnitOf = (lift_function names all number next f).own in
       each_by_two (λ y. length f.params ≤ y) (λ y. is_among (declares_in f.body) y ≡ true) (IsOwn form u (function_slot_map f))
@@ -63,7 +63,7 @@ module _ (form : Form) (names : List (List ℕ)) (all : List RFunction) where
     own : Each (FitsWell form) (lift_functions names all number next fs).own
     lifted : Each (FitsWell form) (lift_functions names all number next fs).lifted
 
-  functions_fit : (number next : ℕ) (fs : List RFunction) → Each IsBehindParams fs → Each AreGiven fs → StandFrom form next (lift_functions names all number next fs).lifted → FunctionsFit number next fs
+  functions_fit : (number next : ℕ) (fs : List RFunction) → Each IsAfterParams fs → Each AreGiven fs → StandFrom form next (lift_functions names all number next fs).lifted → FunctionsFit number next fs
   functions_fit number next [] behind given stand = record { own = tt; lifted = tt }
   functions_fit number next (f ∷ fs) behind given stand =
       let r = lift_function names all number next f in

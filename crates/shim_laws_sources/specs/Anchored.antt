@@ -19,7 +19,7 @@ pub record OwnedOn (locations : Locations) (n : ℕ) (c : Channel) : Type 0 wher
   pub owned : IsOwned place.ownership
   pub on : place.channel.channel ≡ c
 
--- a frame that waits for the one to which the location at number m belongs has the channel's own variable, here or with a child
+-- Some location before the floor of one of the frames is the channel's own variable, here or with a child. The number m isn't below that floor.
 pub record Anchor (f : Frame) (callers : List Frame) (locations : Locations) (m : ℕ) (c : Channel) : Type 0 where
   pub number : ℕ
   pub owned : OwnedOn locations number c
@@ -28,7 +28,7 @@ pub record Anchor (f : Frame) (callers : List Frame) (locations : Locations) (m 
   pub before : number < bound
   pub behind : bound ≤ m
 
--- Each copy on a channel that the process declared is anchored.
+-- The frames fit (`Fitting`). Each copy on a channel that the process declared is anchored (`Anchor`).
 pub record Anchored (path : Path) (program : Form) (f : Frame) (callers : List Frame) (locations : Locations) : Type 0 where
   pub fitting : Fitting path program f callers locations
   pub anchors : (m : ℕ) (x : Location) → at_number locations m ≡ Some x → x.ownership ≡ Copy → x.channel.channel.home ≡ path → Anchor f callers locations m x.channel.channel
@@ -37,7 +37,7 @@ pub record Anchored (path : Path) (program : Form) (f : Frame) (callers : List F
 abbrev pub IsAnchored : LocalState → Type 0
 IsAnchored l = Anchored l.path l.program l.frame l.callers l.locations
 
--- nothing of it is lent
+-- none of the locations is lent
 abbrev pub NoneLent : Locations → Type 0
 NoneLent locations = (n : ℕ) (x : Location) → at_number locations n ≡ Some x → x.ownership ≡ Lent → ⊥
 
@@ -45,7 +45,7 @@ NoneLent locations = (n : ℕ) (x : Location) → at_number locations n ≡ Some
 abbrev pub IsAnchoredWhole : LocalState → Type 0
 IsAnchoredWhole l = IsAnchored l × NoneLent l.locations
 
--- What a fork may rely on: the second state is that of the same process, later, and what its parameters' locations owned they own.
+-- What a fork may rely on: the second state has the path of the first, was given the same channels, and has as many parameters. A parameter's location that is a channel's own variable in the first state is that channel's own variable in the second. In either state it may be with a child.
 pub record Stays (l m : LocalState) : Type 0 where
   pub path : m.path ≡ l.path
   pub given : m.given ≡ l.given

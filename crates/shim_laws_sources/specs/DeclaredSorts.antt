@@ -8,7 +8,7 @@ use Rattle.shim_units.specs.declared.unit.UStmt.{UStmt}
 use Rattle.shim_units.specs.declared.unit.UWhat.{UWhat, UWhat-F, out-UWhat}
 use Rattle.shim_process.specs.LocalState.{unit_at}
 
--- the statements of its blocks
+-- the statements in the blocks of a statement, and in the first part and the step of a `for`
 abbrev pub inner : UWhat-F UWhat UStmt → List UStmt
 inner (UWhat-F.If e first second) = first ++ second
 inner (UWhat-F.While e body) = body

@@ -12,7 +12,7 @@ use Rattle.shim_process.specs.Forks.{item_branches}
 use Rattle.shim_process.specs.FittingFrames.{parameters_of}
 use Rattle.shim_laws_sources.specs.Anchored.{OwnedOn, IsAnchored, IsAnchoredWhole}
 
--- The child gives back the own variable of the channel, for the location at number n of its parent: an argument by reference, of those whose first one has the number j in the child.
+-- One of these arguments gives the location at number n of the parent by reference. The child's location for that argument is the channel's own variable, here or with a child. The first argument has the number j in the child.
 abbrev pub GivesBack : List ℕ → ℕ → List Arg → LocalState → ℕ → Channel → Type 0
 GivesBack slots j [] k n c = ⊥
 GivesBack slots j (Ref x ∷ rest) k n c = ((number_of slots x ≡ n) × (j < parameters_of k) × OwnedOn k.locations j c) ⊎ GivesBack slots (j + 1) rest k n c

@@ -8,14 +8,14 @@ ghost use Rattle.shim_process.specs.OwnSlots.{UsesOwnSlots};
 ghost use Rattle.shim_laws_sources.specs.DeclaredSorts.{HasDeclaredSorts};
 ghost use Rattle.shim_laws_sources.specs.Sources.{IsReachable, HasOneInput, HasSources};
 
-/// The units of an accepted program declare slots of their own, which stand behind those of their
+/// The units of an accepted program declare slots of their own, which come after those of their
 /// parameters, and each call and each branch has one argument for each parameter.
 pub fn units_use_slots_of_their_own()
     ensures { (form : Form) → IsAcceptedForm form → UsesOwnSlots form }
 {}
 
 /// In each unit of an accepted program the slot of a declaration, in a block of any depth too, has the
-/// sort of the declaration.
+/// sort of the declaration. The slot of a handler's variable is that of an `int32`.
 pub fn declared_slots_have_their_sorts()
     ensures { (form : Form) → IsAcceptedForm form → HasDeclaredSorts form }
 {}

@@ -9,7 +9,7 @@ use Rattle.shim_process.specs.Ends.{without_last, past_ends, went, is_over, sett
 use Rattle.shim_process.specs.Unwinding.{handling, taking, catching, unwound, unwind}
 use Rattle.shim_base.proofs.Facts.{choose}
 use Rattle.shim_laws_stops.specs.InForce.{AllInForce}
-use Rattle.shim_laws_stops.specs.FrameLabels.{ItemsThrow, PlacesThrow, AreLabels, FrameLabels, FramesLabels, HasLabels}
+use Rattle.shim_laws_stops.specs.FrameLabels.{ItemsThrow, PlacesThrow, AreLabels, FrameLabels, StackLabels, HasLabels}
 use Rattle.shim_laws_stops.proofs.ThrowItems.{on_throws, second_throws, places_taken}
 
 -- the second frame is of a unit entered where the first one was, and has what it needs
@@ -52,21 +52,21 @@ handling_labels program i f (Some e) is h =
 -- the units that wait for one that was entered with so many places in force
 abbrev pub Waiting : Form → ℕ → List Frame → Type 0
 Waiting program outer [] = outer ≡ 0
-Waiting program outer (c ∷ cs) = (outer ≡ c.outer + length c.places) × FramesLabels program c cs
+Waiting program outer (c ∷ cs) = (outer ≡ c.outer + length c.places) × StackLabels program c cs
 
-pub inner_labels : (program : Form) (f : Frame) (cs : List Frame) → FramesLabels program f cs → FrameLabels program f
+pub inner_labels : (program : Form) (f : Frame) (cs : List Frame) → StackLabels program f cs → FrameLabels program f
 inner_labels program f [] h = h.0
 inner_labels program f (c ∷ cs) h = h.0
 
-pub waiting : (program : Form) (f : Frame) (cs : List Frame) → FramesLabels program f cs → Waiting program f.outer cs
+pub waiting : (program : Form) (f : Frame) (cs : List Frame) → StackLabels program f cs → Waiting program f.outer cs
 waiting program f [] h = h.1
 waiting program f (c ∷ cs) h = (h.1, h.2)
 
-pub framed : (program : Form) (f : Frame) (cs : List Frame) → FrameLabels program f → Waiting program f.outer cs → FramesLabels program f cs
+pub framed : (program : Form) (f : Frame) (cs : List Frame) → FrameLabels program f → Waiting program f.outer cs → StackLabels program f cs
 framed program f [] h w = (h, w)
 framed program f (c ∷ cs) h w = (h, w.0, w.1)
 
-pub frames_on : (program : Form) (f g : Frame) (cs : List Frame) → Waiting program f.outer cs → GoesOn program f g → FramesLabels program g cs
+pub frames_on : (program : Form) (f g : Frame) (cs : List Frame) → Waiting program f.outer cs → GoesOn program f g → StackLabels program g cs
 frames_on program f g cs h w = framed program g cs w.labels (subst (λ n. Waiting program n cs) (sym w.outer) h)
 
 -- a later state of the same process, with its labels
@@ -78,7 +78,7 @@ pub record Moves (l m : LocalState) : Type 0 where
 pub moves_none : (l : LocalState) → HasLabels l → Moves l l
 moves_none l h = record { labels = h; base = refl; program = refl }
 
-pub settled_moves : (cs : List Frame) (f : Frame) (l : LocalState) → AllInForce l.program → FramesLabels l.program f cs → Moves l (settled cs f l)
+pub settled_moves : (cs : List Frame) (f : Frame) (l : LocalState) → AllInForce l.program → StackLabels l.program f cs → Moves l (settled cs f l)
 settled_moves [] f l units h = record { labels = record { units = units; frames = h }; base = refl; program = refl }
 settled_moves (c ∷ cs) f l units h =
     let out : LocalState = record l { locations = take f.floor l.locations } in
@@ -100,23 +100,23 @@ gone_on_moves l h =
     let f : FrameLabels l.program l.frame = inner_labels l.program l.frame l.callers h.frames in
     gone_moves On l h.units (given_of l.program l.frame f) (on_throws l.program (unit_at l.program l.frame.unit).throws l.frame.places l.frame.todo f.todo) f.places (waiting l.program l.frame l.callers h.frames)
 
-taken_moves : (y : Option HandlerVariable) (v : ℤ) (f g : Frame) (cs : List Frame) (l : LocalState) → AllInForce l.program → FramesLabels l.program g cs → Moves l (settled cs g (taking y v f l))
+taken_moves : (y : Option HandlerVariable) (v : ℤ) (f g : Frame) (cs : List Frame) (l : LocalState) → AllInForce l.program → StackLabels l.program g cs → Moves l (settled cs g (taking y v f l))
 taken_moves None v f g cs l units h = settled_moves cs g l units h
 taken_moves (Some y) v f g cs l units h =
     let m : LocalState = taking (Some y) v f l in
     let w : Moves m (settled cs g m) = settled_moves cs g m units h in
     record { labels = w.labels; base = w.base; program = w.program }
 
-caught_moves : (o : Option ExceptionPlace) (v : ℤ) (f g : Frame) (cs : List Frame) (l : LocalState) → AllInForce l.program → FramesLabels l.program g cs → Moves l (settled cs g (catching o v f l))
+caught_moves : (o : Option ExceptionPlace) (v : ℤ) (f g : Frame) (cs : List Frame) (l : LocalState) → AllInForce l.program → StackLabels l.program g cs → Moves l (settled cs g (catching o v f l))
 caught_moves None v f g cs l units h = settled_moves cs g l units h
 caught_moves (Some p) v f g cs l units h = taken_moves p.variable v f g cs l units h
 
-handled : (cs : List Frame) (f : Frame) (i : ℕ) (v : ℤ) (l : LocalState) → AllInForce l.program → FramesLabels l.program f cs → Moves l (settled cs (handling (slice_get f.places i) i f) (catching (slice_get f.places i) v f l))
+handled : (cs : List Frame) (f : Frame) (i : ℕ) (v : ℤ) (l : LocalState) → AllInForce l.program → StackLabels l.program f cs → Moves l (settled cs (handling (slice_get f.places i) i f) (catching (slice_get f.places i) v f l))
 handled cs f i v l units h =
     let g : Frame = handling (slice_get f.places i) i f in
     caught_moves (slice_get f.places i) v f g cs l units (frames_on l.program f g cs (waiting l.program f cs h) (handling_labels l.program i f (slice_get f.places i) refl (inner_labels l.program f cs h)))
 
-unwound_moves : (cs : List Frame) (f : Frame) (n : ℕ) (v : ℤ) (l : LocalState) → AllInForce l.program → FramesLabels l.program f cs → Moves l (unwound cs f n v l)
+unwound_moves : (cs : List Frame) (f : Frame) (n : ℕ) (v : ℤ) (l : LocalState) → AllInForce l.program → StackLabels l.program f cs → Moves l (unwound cs f n v l)
 unwound_moves [] f n v l units h = handled [] f (n - f.outer) v l units h
 unwound_moves (c ∷ cs) f n v l units h =
     let o : Option ExceptionPlace = slice_get f.places (n - f.outer) in

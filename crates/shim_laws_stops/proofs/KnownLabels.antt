@@ -8,7 +8,7 @@ use Rattle.shim_process.specs.LocalState.{LocalState, number_or_any, number_of, 
 use Rattle.shim_process.specs.StatementViews.{statement_view, exceptions_of, label_among, label_of, passed_labels}
 use Rattle.shim_base.proofs.Facts.{choose, either_holds}
 use Rattle.shim_laws_stops.specs.InForce.{are_among, hands_on}
-use Rattle.shim_laws_stops.specs.FrameLabels.{AreKnown, AreLabels}
+use Rattle.shim_laws_stops.specs.FrameLabels.{AreInScope, AreLabels}
 use Rattle.shim_laws_stops.proofs.Among.{Among, none_among}
 
 found_by : (b : Bool) (first given : ℕ) → b ≡ true → 1 ≤ first → 1 ≤ cond b first given
@@ -41,7 +41,7 @@ label_known l x least h (inl low) =
 label_known l x least h (inr there) = label_least x (l.base + l.frame.outer) (exceptions_of l.frame.places) (number_of l.frame.labels x) (omega (arith, least)) (inr there)
 
 -- of each that is known in the unit
-pub known_there : (l : LocalState) (given : ℕ) (xs : List ℕ) (x : ℕ) → 1 ≤ l.base → length l.frame.labels ≡ given → AreLabels l.frame.labels → AreKnown given l.frame.places xs → Among xs x → 1 ≤ label_of (statement_view l) x
+pub known_there : (l : LocalState) (given : ℕ) (xs : List ℕ) (x : ℕ) → 1 ≤ l.base → length l.frame.labels ≡ given → AreLabels l.frame.labels → AreInScope given l.frame.places xs → Among xs x → 1 ≤ label_of (statement_view l) x
 known_there l given xs x least many h known a = elim (known x a) [
   | inl low ↦ label_known l x least h (inl (omega (arith, low, many)))
   | inr there ↦ label_known l x least h (inr there)
@@ -51,7 +51,7 @@ pub passed_many : (l : LocalState) (xs : List ℕ) → length (passed_labels (st
 passed_many l [] = refl
 passed_many l (x ∷ xs) = ap suc (passed_many l xs)
 
-passed_known : (l : LocalState) (given : ℕ) (xs ys : List ℕ) → 1 ≤ l.base → length l.frame.labels ≡ given → AreLabels l.frame.labels → AreKnown given l.frame.places xs → are_among xs ys ≡ true → AreLabels (passed_labels (statement_view l) ys)
+passed_known : (l : LocalState) (given : ℕ) (xs ys : List ℕ) → 1 ≤ l.base → length l.frame.labels ≡ given → AreLabels l.frame.labels → AreInScope given l.frame.places xs → are_among xs ys ≡ true → AreLabels (passed_labels (statement_view l) ys)
 passed_known l given xs [] least many h known e = tt
 passed_known l given xs (y ∷ ys) least many h known e =
     let w = and_parts _ (are_among xs ys) e in
@@ -62,7 +62,7 @@ pub record PassesOn (program : Form) (unit : ℕ) (passed : List ℕ) : Type 0 w
   pub many : length passed ≡ (unit_at program unit).throws
   pub labels : AreLabels passed
 
-pub passes_on : (l : LocalState) (given : ℕ) (xs : List ℕ) (c : UCall) → 1 ≤ l.base → length l.frame.labels ≡ given → AreLabels l.frame.labels → AreKnown given l.frame.places xs → hands_on l.program c xs ≡ true
+pub passes_on : (l : LocalState) (given : ℕ) (xs : List ℕ) (c : UCall) → 1 ≤ l.base → length l.frame.labels ≡ given → AreLabels l.frame.labels → AreInScope given l.frame.places xs → hands_on l.program c xs ≡ true
     → PassesOn l.program c.unit (passed_labels (statement_view l) c.throws)
 passes_on l given xs c least many h known e =
     let w = and_parts (are_among xs c.throws) (nat_eq (length c.throws) (unit_at l.program c.unit).throws) e in

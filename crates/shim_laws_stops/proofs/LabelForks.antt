@@ -18,7 +18,7 @@ use Rattle.shim_process.proofs.ForkParts.{Parts, parts_of}
 use Rattle.shim_laws_sources.proofs.Along.{behind, Relates}
 use Rattle.shim_base.proofs.Facts.{choose, some_same, none_some}
 use Rattle.shim_laws_stops.specs.InForce.{hands_on, all_hand_on}
-use Rattle.shim_laws_stops.specs.FrameLabels.{AreKnown, ItemsThrow, FrameLabels, HasLabels}
+use Rattle.shim_laws_stops.specs.FrameLabels.{AreInScope, ItemsThrow, FrameLabels, HasLabels}
 use Rattle.shim_laws_stops.proofs.ThrowItems.{throws_layer, throws_out}
 use Rattle.shim_laws_stops.proofs.FrameSteps.{inner_labels, Moves, moves_none, gone_on_moves, unwind_moves}
 use Rattle.shim_laws_stops.proofs.KnownLabels.{passes_on}
@@ -39,10 +39,10 @@ abbrev mutual
 -- the branches of a fork hand on what is known there
 record HandOnKnown (l : LocalState) (bs : List UBranch) : Type 0 where
   exceptions : List ℕ
-  known : AreKnown (unit_at l.program l.frame.unit).throws l.frame.places exceptions
+  known : AreInScope (unit_at l.program l.frame.unit).throws l.frame.places exceptions
   right : all_hand_on l.program bs exceptions ≡ true
 
-what_hands_on : (l : LocalState) (w : UWhat-F UWhat UStmt) (xs : List ℕ) → AreKnown (unit_at l.program l.frame.unit).throws l.frame.places xs → throws_layer l.program w xs ≡ true → HandOnKnown l (what_branches w)
+what_hands_on : (l : LocalState) (w : UWhat-F UWhat UStmt) (xs : List ℕ) → AreInScope (unit_at l.program l.frame.unit).throws l.frame.places xs → throws_layer l.program w xs ≡ true → HandOnKnown l (what_branches w)
 what_hands_on l (UWhat-F.Par bs) xs known h = record { exceptions = xs; known = known; right = h }
 what_hands_on l _ xs known h = record { exceptions = xs; known = known; right = refl }
 
@@ -54,13 +54,13 @@ items_hand_on l [] h = none_handed l
 items_hand_on l (Leave ∷ k) h = none_handed l
 items_hand_on l (Do n s ∷ k) h = what_hands_on l (out-UWhat s.what) h.0.exceptions h.0.known (sym (throws_out l.program s h.0.exceptions) ∙ h.0.right)
 
-child_labels : (l : LocalState) (i : ℕ) (b : UBranch) (given : List Argument) (xs : List ℕ) → 1 ≤ l.base → HasLabels l → AreKnown (unit_at l.program l.frame.unit).throws l.frame.places xs → hands_on l.program b.call xs ≡ true → HasLabels (child l i b given)
+child_labels : (l : LocalState) (i : ℕ) (b : UBranch) (given : List Argument) (xs : List ℕ) → 1 ≤ l.base → HasLabels l → AreInScope (unit_at l.program l.frame.unit).throws l.frame.places xs → hands_on l.program b.call xs ≡ true → HasLabels (child l i b given)
 child_labels l i b given xs least h known right =
     let f : FrameLabels l.program l.frame = inner_labels l.program l.frame l.callers h.frames in
     let p = passes_on l (unit_at l.program l.frame.unit).throws xs b.call least f.many f.labels known right in
     record { units = h.units; frames = (entered_labels l b.call.unit (child l i b given).frame.slots (passed_labels (statement_view l) b.call.throws) 0 0 h.units p, refl) }
 
-children_labels : (l : LocalState) (i : ℕ) (bs : List UBranch) (given : List (List Argument)) (xs : List ℕ) → 1 ≤ l.base → HasLabels l → AreKnown (unit_at l.program l.frame.unit).throws l.frame.places xs → all_hand_on l.program bs xs ≡ true
+children_labels : (l : LocalState) (i : ℕ) (bs : List UBranch) (given : List (List Argument)) (xs : List ℕ) → 1 ≤ l.base → HasLabels l → AreInScope (unit_at l.program l.frame.unit).throws l.frame.places xs → all_hand_on l.program bs xs ≡ true
     → EachHasLabels (all_live (children_from l i bs given))
 children_labels l i [] given xs least h known right = tt
 children_labels l i (b ∷ bs) [] xs least h known right = tt

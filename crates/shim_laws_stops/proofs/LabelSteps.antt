@@ -22,7 +22,7 @@ use Rattle.shim_process.specs.Stops.{put_value, after_put, put, thrown_value, af
 use Rattle.shim_process.proofs.CallKeeps.{fork_trapped}
 use Rattle.shim_base.proofs.Facts.{choose, second_holds}
 use Rattle.shim_laws_stops.specs.InForce.{all_throw, AllInForce}
-use Rattle.shim_laws_stops.specs.FrameLabels.{AreKnown, ThrowsKnown, ItemsThrow, FrameLabels, HasLabels}
+use Rattle.shim_laws_stops.specs.FrameLabels.{AreInScope, ThrowsKnown, ItemsThrow, FrameLabels, HasLabels}
 use Rattle.shim_laws_stops.proofs.Among.{under_upto}
 use Rattle.shim_laws_stops.proofs.ThrowItems.{throws_layer, throws_out, body_throws, first_of_if, first_of_for, first_of_try, places_more}
 use Rattle.shim_laws_stops.proofs.FrameSteps.{Given, given_of, inner_labels, waiting, framed, Moves, moves_none, settled_moves, gone_moves, gone_on_moves}
@@ -52,7 +52,7 @@ module _ (l : LocalState) (least : 1 ≤ l.base) (g : Given l.program l.frame) w
   abbrev places : List ExceptionPlace
   places = l.frame.places
 
-  what_asks : (w : UWhat-F UWhat UStmt) (n : ℕ) (s : UStmt) (k : List Item) (xs : List ℕ) → throws_layer l.program w xs ≡ true → AreKnown given places xs → ThrowsKnown l.program given places s → ItemsThrow l.program given places k
+  what_asks : (w : UWhat-F UWhat UStmt) (n : ℕ) (s : UStmt) (k : List Item) (xs : List ℕ) → throws_layer l.program w xs ≡ true → AreInScope given places xs → ThrowsKnown l.program given places s → ItemsThrow l.program given places k
       → ActionThrows l (behind w n s k) (what_action w (statement_view l))
   what_asks (UWhat-F.Declare t x e) n s k xs h known own rest =
       action_throws l (behind (UWhat-F.Declare t x e) n s k) (λ v. limited (is_full l) (Make t x v)) (value_or (pos 0) e (env_of l.locations l.frame.slots)) (λ v. limited_throws l (behind (UWhat-F.Declare t x e) n s k) (is_full l) (Make t x v) tt)

@@ -76,10 +76,10 @@ there_among [] i x e = absurd (cc e)
 there_among (y ∷ xs) zero x e = subst (Among (y ∷ xs)) (some_same y x e) (first_of y xs)
 there_among (y ∷ xs) (suc i) x e = among_behind y xs x (there_among xs i x e)
 
-behind_at : (xs ys : List ℕ) (i x : ℕ) → slice_get (xs ++ ys) i ≡ Some x → length xs ≤ i → Among ys x
-behind_at [] ys i x e h = there_among ys i x e
-behind_at (y ∷ xs) ys zero x e h = absurd (omega (arith, h))
-behind_at (y ∷ xs) ys (suc i) x e h = behind_at xs ys i x e (omega (arith, h))
+after_at : (xs ys : List ℕ) (i x : ℕ) → slice_get (xs ++ ys) i ≡ Some x → length xs ≤ i → Among ys x
+after_at [] ys i x e h = there_among ys i x e
+after_at (y ∷ xs) ys zero x e h = absurd (omega (arith, h))
+after_at (y ∷ xs) ys (suc i) x e h = after_at xs ys i x e (omega (arith, h))
 
 pub get_below : {T : Type 0} (xs : List T) (i : ℕ) (x : T) → slice_get xs i ≡ Some x → i < length xs
 get_below [] i x e = absurd (cc e)
@@ -216,7 +216,7 @@ module _ (w : Whole) (form : Form) (fs : List RFunction) (headers : HeadersSuit 
       map_at (sort_of r) (upto n ++ ds) i i at ∙ ap (λ o. Some (sort_or_bool o)) (params_first names f r i p order e))
       (λ i s low e.
       let q = of_map (sort_of r) (upto n ++ ds) i s e in
-      let d : Among (declares_in r.body) q.0 = behind_at (upto n) ds i q.0 q.1 (omega (arith, low, long)) in
+      let d : Among (declares_in r.body) q.0 = after_at (upto n) ds i q.0 q.1 (omega (arith, low, long)) in
       ap (λ z. is_number (Some z)) (sym q.2) ∙ number_there (slice_get r.slots q.0) (numbers q.0 d))
 
   -- the units of some functions, and what is lifted out of them

@@ -14,7 +14,7 @@ use Rattle.shim_process.specs.Ends.{without_last}
 use Rattle.shim_process.proofs.TodoItems.{items_what, items_roll, line_of}
 use Rattle.shim_base.proofs.Facts.{some_same}
 use Rattle.shim_laws_stops.specs.InForce.{InForce, what_throws, throws, all_throw}
-use Rattle.shim_laws_stops.specs.FrameLabels.{AreKnown, ItemsThrow, PlacesThrow}
+use Rattle.shim_laws_stops.specs.FrameLabels.{AreInScope, ItemsThrow, PlacesThrow}
 use Rattle.shim_laws_stops.proofs.Among.{Among, first_of, among_cases, among_first, among_second}
 use Rattle.shim_laws_stops.proofs.ThrowSteps.{throws_what}
 
@@ -49,13 +49,13 @@ module _ (p : Form) where
   module _ (given : ℕ) where
     -- all that is to be done for the statement throws what is known, before whatever does
     abbrev Good : UStmt → Type 0
-    Good s = (n : ℕ) (xs : List ℕ) (places : List ExceptionPlace) (k : List Item) → throws p s xs ≡ true → AreKnown given places xs → ItemsThrow p given places k → ItemsThrow p given places (items s n ++ k)
+    Good s = (n : ℕ) (xs : List ℕ) (places : List ExceptionPlace) (k : List Item) → throws p s xs ≡ true → AreInScope given places xs → ItemsThrow p given places k → ItemsThrow p given places (items s n ++ k)
 
     abbrev AllGood : List UStmt → Type 0
     AllGood [] = Unit {0}
     AllGood (s ∷ ss) = Good s × AllGood ss
 
-    all_items : (ss : List UStmt) → AllGood ss → (n : ℕ) (xs : List ℕ) (places : List ExceptionPlace) (k : List Item) → all_throw p ss xs ≡ true → AreKnown given places xs → ItemsThrow p given places k
+    all_items : (ss : List UStmt) → AllGood ss → (n : ℕ) (xs : List ℕ) (places : List ExceptionPlace) (k : List Item) → all_throw p ss xs ≡ true → AreInScope given places xs → ItemsThrow p given places k
         → ItemsThrow p given places (items_all ss n ++ k)
     all_items [] good n xs places k h known rest = rest
     all_items (s ∷ ss) good n xs places k h known rest =
@@ -125,7 +125,7 @@ module _ (p : Form) where
     every_good (s ∷ ss) = (good s, every_good ss)
 
     -- statements that throw what is known, before whatever does
-    pub body_throws : (ss : List UStmt) (n : ℕ) (xs : List ℕ) (places : List ExceptionPlace) (k : List Item) → all_throw p ss xs ≡ true → AreKnown given places xs → ItemsThrow p given places k
+    pub body_throws : (ss : List UStmt) (n : ℕ) (xs : List ℕ) (places : List ExceptionPlace) (k : List Item) → all_throw p ss xs ≡ true → AreInScope given places xs → ItemsThrow p given places k
         → ItemsThrow p given places (items_all ss n ++ k)
     body_throws ss n xs places k h known rest = all_items ss (every_good ss) n xs places k h known rest
 
@@ -143,7 +143,7 @@ module _ (p : Form) where
     on_throws places (Leave ∷ k) h = h
     on_throws places (Do n s ∷ k) h = subst (ItemsThrow p given places) (sym (goes_on (out-UWhat s.what) n s k)) h.1
 
-    second_follows : (places : List ExceptionPlace) (x : UWhat-F UWhat UStmt) (n : ℕ) (s : UStmt) (k : List Item) (xs : List ℕ) → throws_layer x xs ≡ true → AreKnown given places xs → ItemsThrow p given places k → ItemsThrow p given places (follow_what x Second n s k)
+    second_follows : (places : List ExceptionPlace) (x : UWhat-F UWhat UStmt) (n : ℕ) (s : UStmt) (k : List Item) (xs : List ℕ) → throws_layer x xs ≡ true → AreInScope given places xs → ItemsThrow p given places k → ItemsThrow p given places (follow_what x Second n s k)
     second_follows places (UWhat-F.If e a b) n s k xs h known rest = body_throws b (n + 1 + numbering.size_all a) xs places k (and_parts (all_throw p a xs) (all_throw p b xs) h).1 known rest
     second_follows places (UWhat-F.Try a t v b) n s k xs h known rest = body_throws b (n + 1 + numbering.size_all a) xs places k (and_parts (all_throw p a (t ∷ xs)) (all_throw p b xs) h).1 known rest
     second_follows places _ n s k xs h known rest = rest
@@ -154,10 +154,10 @@ module _ (p : Form) where
     second_throws places (Do n s ∷ k) h = second_follows places (out-UWhat s.what) n s k h.0.exceptions (sym (throws_out s h.0.exceptions) ∙ h.0.right) h.0.known h.1
 
     -- into the first block of an `if` or of a loop
-    pub first_of_if : (places : List ExceptionPlace) (a b : List UStmt) (n : ℕ) (k : List Item) (xs : List ℕ) → (all_throw p a xs && all_throw p b xs) ≡ true → AreKnown given places xs → ItemsThrow p given places k → ItemsThrow p given places (items_all a (n + 1) ++ k)
+    pub first_of_if : (places : List ExceptionPlace) (a b : List UStmt) (n : ℕ) (k : List Item) (xs : List ℕ) → (all_throw p a xs && all_throw p b xs) ≡ true → AreInScope given places xs → ItemsThrow p given places k → ItemsThrow p given places (items_all a (n + 1) ++ k)
     first_of_if places a b n k xs h known rest = body_throws a (n + 1) xs places k (and_parts (all_throw p a xs) (all_throw p b xs) h).0 known rest
 
-    pub first_of_for : (places : List ExceptionPlace) (a st b : List UStmt) (n : ℕ) (s : UStmt) (k : List Item) (xs : List ℕ) → (all_throw p a xs && (all_throw p st xs && all_throw p b xs)) ≡ true → AreKnown given places xs
+    pub first_of_for : (places : List ExceptionPlace) (a st b : List UStmt) (n : ℕ) (s : UStmt) (k : List Item) (xs : List ℕ) → (all_throw p a xs && (all_throw p st xs && all_throw p b xs)) ≡ true → AreInScope given places xs
         → ItemsThrow p given places (Do n s ∷ k) → ItemsThrow p given places (items_all b (n + 1) ++ (items_all st (n + 1 + numbering.size_all b) ++ Do n s ∷ k))
     first_of_for places a st b n s k xs h known rest =
         let w = and_parts (all_throw p a xs) (all_throw p st xs && all_throw p b xs) h in
@@ -165,7 +165,7 @@ module _ (p : Form) where
         body_throws b (n + 1) xs places (items_all st (n + 1 + numbering.size_all b) ++ Do n s ∷ k) v.1 known
         (body_throws st (n + 1 + numbering.size_all b) xs places (Do n s ∷ k) v.0 known rest)
 
-    known_inside : (places : List ExceptionPlace) (e : ExceptionPlace) (xs : List ℕ) → AreKnown given places xs → AreKnown given (places ++ e ∷ []) (e.exception ∷ xs)
+    known_inside : (places : List ExceptionPlace) (e : ExceptionPlace) (xs : List ℕ) → AreInScope given places xs → AreInScope given (places ++ e ∷ []) (e.exception ∷ xs)
     known_inside places e xs known x a =
         let more : (y : ℕ) → Among (exceptions_of places ++ e.exception ∷ []) y → Among (exceptions_of (places ++ e ∷ [])) y = λ y h. subst (λ l. Among l y) (sym (exceptions_more places e)) h in
         elim (among_cases e.exception xs x a) [
@@ -174,7 +174,7 @@ module _ (p : Form) where
         ]
 
     -- into the body of a `try`, whose place is in force then
-    pub first_of_try : (places : List ExceptionPlace) (e : ExceptionPlace) (a b : List UStmt) (n : ℕ) (k : List Item) (xs : List ℕ) → (all_throw p a (e.exception ∷ xs) && all_throw p b xs) ≡ true → AreKnown given places xs → ItemsThrow p given places k
+    pub first_of_try : (places : List ExceptionPlace) (e : ExceptionPlace) (a b : List UStmt) (n : ℕ) (k : List Item) (xs : List ℕ) → (all_throw p a (e.exception ∷ xs) && all_throw p b xs) ≡ true → AreInScope given places xs → ItemsThrow p given places k
         → ItemsThrow p given (places ++ e ∷ []) (items_all a (n + 1) ++ Leave ∷ k)
     first_of_try places e a b n k xs h known rest =
         body_throws a (n + 1) (e.exception ∷ xs) (places ++ e ∷ []) (Leave ∷ k) (and_parts (all_throw p a (e.exception ∷ xs)) (all_throw p b xs) h).0 (known_inside places e xs known)

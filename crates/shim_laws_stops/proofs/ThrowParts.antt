@@ -32,7 +32,7 @@ use Rattle.shim_units.proofs.PartSteps.{branch_what_part, what_part}
 use Rattle.shim_process.specs.LocalState.{unit_at}
 use Rattle.shim_laws_binding.specs.Innermost.{IsNumberOfInnermost}
 use Rattle.shim_laws_binding.specs.LexicalScope as is
-use Rattle.shim_laws_binding.specs.LexicalScope.{Point, Pairwise, inside_try, behind_block, behind_variable, slot_of_variable, BindsCall, BindsWhat, BindsStmt, BindsStmts, BindsBlock, BindsBranchWhat, BindsBranch, BindsBranches}
+use Rattle.shim_laws_binding.specs.LexicalScope.{Point, Pairwise, inside_try, point_after_block, point_after_variable, slot_of_variable, BindsCall, BindsWhat, BindsStmt, BindsStmts, BindsBlock, BindsBranchWhat, BindsBranch, BindsBranches}
 use Rattle.shim_laws_binding.proofs.Lists.{each_of_both}
 use Rattle.shim_laws_sources.proofs.Lifting.{stand_first, stand_from}
 use Rattle.shim_base.proofs.Facts.{both_hold}
@@ -130,7 +130,7 @@ module _ (form : Form) where
         lifts = two form right fine better (numbers p.handled) p.exceptions m.exceptions q.exceptions rs qs ts us g f h same a.numbered next a.lifts lifts;
       }
 
-  in_block : (p q : Point) (body : List RStmt) → BodyThrows p q body → BodyThrows p (behind_block p q) body
+  in_block : (p q : Point) (body : List RStmt) → BodyThrows p q body → BodyThrows p (point_after_block p q) body
   in_block p q body h = record { same = refl; numbered = h.numbered; lifts = h.lifts }
 
   no_stmts : (p : Point) → BodyThrows p p []
@@ -334,11 +334,11 @@ module _ (form : Form) where
     }
 
   -- a handler's variable is no exception
-  handler_throws : (p m q : Point) (y : Option (List ℕ)) (b : List RStmt) → BodyThrows (behind_variable y (behind_block p m)) q b → BodyThrows (behind_block p m) (behind_block p q) b
+  handler_throws : (p m q : Point) (y : Option (List ℕ)) (b : List RStmt) → BodyThrows (point_after_variable y (point_after_block p m)) q b → BodyThrows (point_after_block p m) (point_after_block p q) b
   handler_throws p m q None b k = record { same = refl; numbered = k.numbered; lifts = k.lifts }
   handler_throws p m q (Some y) b k = record { same = refl; numbered = k.numbered; lifts = k.lifts }
 
-  part_try : (p m q : Point) (x : List ℕ) (z : Option ℕ) (a b : List RStmt) → BodyThrows (inside_try x p) m a → BodyThrows (behind_block p m) q b → WhatThrows p q (r.Try a p.exceptions z b)
+  part_try : (p m q : Point) (x : List ℕ) (z : Option ℕ) (a b : List RStmt) → BodyThrows (inside_try x p) m a → BodyThrows (point_after_block p m) q b → WhatThrows p q (r.Try a p.exceptions z b)
   unfolding roll-RWhat denote.Hole.Carrier.roll
   part_try p m q x z a b h k line =
       let hs : List ℕ = numbers p.handled in
@@ -413,7 +413,7 @@ module _ (form : Form) where
           λ line. let h = part_for p m n q f t s b (stmts_right i) (stmts_right j) (block_right k) line in record { same = refl; numbered = h.numbered; lifts = h.lifts }
       what_right (is.block {p = p} {q = q} {b = b} h) = part_block p q b (block_right h)
       what_right (is.call {p = p} {r = d} h) = part_call p d (handed h) (many_handed h)
-      what_right (is.try {p = p} {m = m} {q = q} {x = x} {y = y} {b = b} {h = h} i j) = part_try p m (behind_block p q) x (slot_of_variable y m) b h (block_right i) (handler_throws p m q y h (stmts_right j))
+      what_right (is.try {p = p} {m = m} {q = q} {x = x} {y = y} {b = b} {h = h} i j) = part_try p m (point_after_block p q) x (slot_of_variable y m) b h (block_right i) (handler_throws p m q y h (stmts_right j))
       what_right (is.throw {p = p} {x = x} {number = number} {r = e} i a) = part_throw p number e (innermost_among x p.handled number i)
       what_right (is.par {p = p} {q = q} {rs = rs} h) = part_par p q rs (branches_right h)
 

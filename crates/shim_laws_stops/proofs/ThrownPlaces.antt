@@ -18,7 +18,7 @@ use Rattle.shim_process.specs.Todo.{Item, Do, Leave, next_stmt}
 use Rattle.shim_process.specs.Unwinding.{exception_place_in}
 use Rattle.shim_process.specs.Sound.{Sound}
 use Rattle.shim_base.proofs.Facts.{choose, some_same, none_some}
-use Rattle.shim_laws_stops.specs.FrameLabels.{AreKnown, ItemsThrow, FrameLabels, FramesLabels, HasLabels}
+use Rattle.shim_laws_stops.specs.FrameLabels.{AreInScope, ItemsThrow, FrameLabels, StackLabels, HasLabels}
 use Rattle.shim_laws_stops.specs.Thrown.{HasPlace}
 use Rattle.shim_laws_stops.proofs.ThrowItems.{throws_layer, throws_out}
 use Rattle.shim_laws_stops.proofs.FrameSteps.{Given, given_of, inner_labels}
@@ -32,7 +32,7 @@ in_list [] i h = absurd (omega (arith, h))
 in_list (e ∷ es) zero h = (e, refl)
 in_list (e ∷ es) (suc i) h = in_list es i (omega (arith, h))
 
-place_there : (program : Form) (f : Frame) (n : ℕ) (cs : List Frame) → FramesLabels program f cs → n < f.outer + length f.places → (e : ExceptionPlace) × (exception_place_in f n cs ≡ Some e)
+place_there : (program : Form) (f : Frame) (n : ℕ) (cs : List Frame) → StackLabels program f cs → n < f.outer + length f.places → (e : ExceptionPlace) × (exception_place_in f n cs ≡ Some e)
 place_there program f n [] h below = let none = h.1 in in_list f.places (n - f.outer) (omega (arith, below, none))
 place_there program f n (c ∷ cs) h below = elim (cases_Bool (nat_lt n f.outer)) [
   | inl low ↦
@@ -78,7 +78,7 @@ module _ (l : LocalState) (least : 1 ≤ l.base) (g : Given l.program l.frame) w
   abbrev given : ℕ
   given = (unit_at l.program l.frame.unit).throws
 
-  what_least : (w : UWhat-F UWhat UStmt) (xs : List ℕ) → AreKnown given l.frame.places xs → throws_layer l.program w xs ≡ true → ThrowsLeast (what_stop w (statement_view l))
+  what_least : (w : UWhat-F UWhat UStmt) (xs : List ℕ) → AreInScope given l.frame.places xs → throws_layer l.program w xs ≡ true → ThrowsLeast (what_stop w (statement_view l))
   what_least (UWhat-F.Next x) xs known h = next_least (location_of l.locations l.frame.slots x)
   what_least (UWhat-F.NextAssign x e) xs known h = choose ThrowsLeast l.frame.halfway (at_next (location_of l.locations l.frame.slots x)) AtQuiet (next_least (location_of l.locations l.frame.slots x)) tt
   what_least (UWhat-F.AssignNext x y) xs known h = choose ThrowsLeast l.frame.halfway AtQuiet (at_next (location_of l.locations l.frame.slots y)) tt (next_least (location_of l.locations l.frame.slots y))

@@ -18,7 +18,7 @@ use Rattle.shim_laws_stops.specs.InScope.{is_number, option_right, Scoped, what_
 abbrev pub HasLocation : UnitOf → Locations → List ℕ → ℕ → Type 0
 HasLocation u locations slots x = is_number (slice_get u.slots x) ≡ true → IsThere (location_of locations slots x)
 
--- a statement as far as its kind, and where a loop stands at its test
+-- whether a statement of this kind is right, and what it declares
 abbrev pub scoped_kind : Form → UnitOf → UWhat-F UWhat UStmt → Scoped
 scoped_kind program u w = what_scoped program u (map-UWhat UWhat UStmt Scoped Scoped (fold-UWhat Scoped Scoped (what_scoped program u) (λ s. s.what)) (scoped program u) w)
 
@@ -39,7 +39,7 @@ ItemsScoped program u Has declared [] = Unit {0}
 ItemsScoped program u Has declared (Leave ∷ k) = ItemsScoped program u Has declared k
 ItemsScoped program u Has declared (Do n s ∷ k) = ItemScoped program u Has declared s × ItemsScoped program u Has ((scoped program u s).declares ++ declared) k
 
--- what the statement that is next declares
+-- the slots that the next item declares; none where it is the end of a `try`, or there is no item
 abbrev pub next_declares : Form → UnitOf → List Item → List ℕ
 next_declares program u [] = []
 next_declares program u (Leave ∷ k) = []
@@ -55,7 +55,7 @@ abbrev pub what_takes : UWhat-F UWhat UStmt → Option ℕ
 what_takes (UWhat-F.Try body x y handler) = y
 what_takes _ = None
 
--- that of the handler of the `try` that is next
+-- the slot of the handler's variable, where the next item is a `try` whose handler has one
 abbrev pub next_takes : List Item → Option ℕ
 next_takes [] = None
 next_takes (Leave ∷ k) = None
@@ -76,7 +76,7 @@ pub record FrameScoped (program : Form) (locations : Locations) (f : Frame) : Ty
   -- there is room for the locations of its own variables
   pub room : (x : ℕ) → is_own_slot (unit_at program f.unit) x ≡ true → number_of f.slots x < length locations
 
--- each unit that waits does so at a call, and has its variables before the locations of the one that it called
+-- Each frame is scoped (`FrameScoped`), a caller over the locations before the floor of the frame that it called. The next statement of a caller declares nothing.
 abbrev pub FramesScoped : Form → Locations → Frame → List Frame → Type 0
 FramesScoped program locations f [] = FrameScoped program locations f
 FramesScoped program locations f (caller ∷ callers) =

@@ -33,7 +33,7 @@ abbrev pub all_right : List InForce → InForce
 all_right [] xs = true
 all_right (f ∷ fs) xs = f xs && all_right fs xs
 
--- in the body of a `try` its exception is in force, too
+-- Whether a statement is right where these exceptions are in force, from the same of the statements in it. In the body of a `try` its exception is in force, too.
 abbrev pub what_throws : Form → UWhat-F InForce InForce → InForce
 what_throws program (UWhat-F.If e first second) xs = all_right first xs && all_right second xs
 what_throws program (UWhat-F.While e body) xs = all_right body xs

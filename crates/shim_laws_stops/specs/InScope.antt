@@ -1,4 +1,4 @@
--- What binding gives the units of a program: what a statement names, in its expressions, too, is in scope and of the kind that is asked for, an argument is given by reference once, and a fork has a branch.
+-- What binding gives the units of a program: each variable or stream that a statement names, in its expressions, too, is in scope and of the kind that is asked for. No call gives a slot by reference twice, no fork gives a slot by reference to two branches, and each fork has a branch.
 use Rattle.std.specs.Prelude.{◌≡◌, ℕ, Bool, true, false, not, ◌&&◌, List, [], ◌∷◌, ◌++◌, Option, Some, None, length, map, slice_get}
 use Rattle.shim_syntax.specs.declared.tree.Sort.{Sort}
 use Rattle.shim_syntax.specs.declared.tree.Sort.TheVariants.{Value, Input, Output}
@@ -38,7 +38,7 @@ is_output_at (Some Input) = false
 is_output_at (Some Output) = true
 is_output_at None = false
 
--- it holds what the first one does: a number, the input or the output
+-- a slot of the second sort holds what the first sort says: a number, the input or the output
 abbrev pub same_kind : Sort → Option Sort → Bool
 same_kind (Value t) o = is_number o
 same_kind Input o = is_input_at o
@@ -86,7 +86,7 @@ reads_right u xs e = have_numbers u xs (variables_read e)
 abbrev pub option_right : UnitOf → List ℕ → Option UExpr → Bool
 option_right u xs e = have_numbers u xs (variables_in_option e)
 
--- the argument is in scope and of the kind of its parameter
+-- arguments
 
 -- what the argument names is among these slots, and the argument is of its parameter's kind
 abbrev pub argument_right : UnitOf → List ℕ → UParam → Arg → Bool
@@ -132,7 +132,7 @@ abbrev pub apart_from_all : List ℕ → List UBranch → Bool
 apart_from_all xs [] = true
 apart_from_all xs (b ∷ branches) = are_apart xs (references b.call.args) && apart_from_all xs branches
 
--- no two branches are given a slot by reference
+-- no slot is given by reference to two branches
 abbrev pub branches_apart : List UBranch → Bool
 branches_apart [] = true
 branches_apart (b ∷ branches) = apart_from_all (references b.call.args) branches && branches_apart branches
@@ -201,7 +201,7 @@ slots_right [] ss = all_numbers ss
 slots_right (p ∷ ps) [] = false
 slots_right (p ∷ ps) (s ∷ ss) = same_kind p.sort (Some s) && slots_right ps ss
 
--- where a unit begins its parameters are in scope
+-- The slots of the unit hold what `slots_right` asks for. Its statements are right where its parameters are in scope.
 abbrev pub unit_scoped : Form → UnitOf → Bool
 unit_scoped program u = slots_right u.params u.slots && all_scoped program u u.body (upto (length u.params))
 

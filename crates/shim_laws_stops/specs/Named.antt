@@ -39,7 +39,7 @@ pub data IsNextOf (x : ℕ) : UWhat-F UWhat UStmt → Type 0 where
   next_assign : (e : UExpr) → IsNextOf x (UWhat-F.NextAssign x e)
   assign_next : (y : ℕ) → IsNextOf x (UWhat-F.AssignNext y x)
 
--- each `next` at which a live process stands has a location
+-- the variable of each `next` at which a live process stands has a location
 abbrev pub NextsHaveLocations : Tree LocalState → Type 0
 NextsHaveLocations t = (l : LocalState) (w : UWhat-F UWhat UStmt) (x : ℕ) → IsLiveIn t l → IsAtStmt l w → IsNextOf x w → HasItsLocation l x
 
@@ -76,11 +76,11 @@ variables_at _ = []
 abbrev pub VariablesHaveLocations : Tree LocalState → Type 0
 VariablesHaveLocations t = (l : LocalState) (w : UWhat-F UWhat UStmt) (x : ℕ) → IsLiveIn t l → IsAtStmt l w → is_among (variables_at w) x ≡ true → HasItsLocation l x
 
--- each fork at which one stands has a branch
+-- each fork at which a live process stands has a branch
 abbrev pub ForksHaveBranches : Tree LocalState → Type 0
 ForksHaveBranches t = (l : LocalState) (branches : List UBranch) → IsLiveIn t l → IsAtStmt l (UWhat-F.Par branches) → branches ≡ [] → ⊥
 
--- an argument that is a variable has its location, where its parameter is a number; a stream has none
+-- A variable that is given by reference has its location, where its parameter is a number. A variable that is given as a copy has its location. Of an expression nothing is asked.
 abbrev pub ArgumentHasLocation : LocalState → UParam → Arg → Type 0
 ArgumentHasLocation l p (Ref x) = is_number (Some p.sort) ≡ true → HasItsLocation l x
 ArgumentHasLocation l p (Pass x) = HasItsLocation l x
@@ -102,7 +102,7 @@ abbrev pub BranchesHaveLocations : LocalState → List UBranch → Type 0
 BranchesHaveLocations l [] = Unit {0}
 BranchesHaveLocations l (b ∷ branches) = CallHasLocations l b.call × BranchesHaveLocations l branches
 
--- each argument of a branch of a fork at which a live process stands has a location, and so has each of a call
+-- The arguments of each branch of a fork at which a live process stands have their locations (`ArgumentHasLocation`), one for each parameter. So have those of a call.
 pub record ArgumentsHaveLocations (t : Tree LocalState) : Type 0 where
   pub forks : (l : LocalState) (branches : List UBranch) → IsLiveIn t l → IsAtStmt l (UWhat-F.Par branches) → BranchesHaveLocations l branches
   pub calls : (l : LocalState) (c : UCall) → IsLiveIn t l → IsAtStmt l (UWhat-F.Call c) → CallHasLocations l c

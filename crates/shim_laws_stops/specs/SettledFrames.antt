@@ -15,7 +15,7 @@ abbrev pub AllStartRight : List Frame → Type 0
 AllStartRight [] = Unit {0}
 AllStartRight (f ∷ fs) = StartsRight f.todo × AllStartRight fs
 
--- a unit in which nothing is left to do is left at once
+-- In no frame the end of a `try` is next. Where nothing is left to do in the innermost frame, no frame waits for it.
 pub record IsSettled (l : LocalState) : Type 0 where
   pub starts : AllStartRight (l.frame ∷ l.callers)
   pub left : l.frame.todo ≡ [] → l.callers ≡ []

@@ -21,12 +21,12 @@ abbrev pub is_of_stream : Stream → Sort → Bool
 is_of_stream TheInput s = is_input s
 is_of_stream TheOutput s = is_output s
 
--- a slot that holds this holds the stream
+-- a slot of this sort holds the stream; none does where there is no sort
 abbrev pub is_at : Stream → Option Sort → Bool
 is_at TheInput o = is_input_at o
 is_at TheOutput o = is_output_at o
 
--- one of these parameters takes it
+-- one of these parameters takes the stream
 abbrev pub takes_stream : Stream → List UParam → Bool
 takes_stream TheInput ps = takes_input ps
 takes_stream TheOutput ps = takes_output ps
@@ -35,7 +35,7 @@ abbrev pub is_there : Option ℕ → Bool
 is_there None = false
 is_there (Some n) = true
 
--- by its place in the input, where it has the input, and by whether it has the output, a process has the stream
+-- Whether a process has the stream: the input if there is a place in the input, the output if the flag is set.
 abbrev pub holds_stream : Stream → Option ℕ → Bool → Bool
 holds_stream TheInput at holds = is_there at
 holds_stream TheOutput at holds = holds
@@ -51,7 +51,7 @@ takes s program n = takes_stream s (unit_at program n).params
 abbrev pub HasOneSlot : Stream → UnitOf → Type 0
 HasOneSlot s u = (x y : ℕ) → is_at s (slice_get u.slots x) ≡ true → is_at s (slice_get u.slots y) ≡ true → x ≡ y
 
--- Each of these units, the innermost first, has at most one slot for the stream. A unit that takes the stream was called by a unit that takes it.
+-- Each of these units, the innermost first, has at most one slot for the stream. A unit that takes the stream was called by a unit that takes it, but for the last, of which no caller is given.
 abbrev pub UnitsTake : Stream → Form → ℕ → List ℕ → Type 0
 UnitsTake s program n [] = HasOneSlot s (unit_at program n)
 UnitsTake s program n (m ∷ ms) = HasOneSlot s (unit_at program n) × (takes s program n ≡ true → takes s program m ≡ true) × UnitsTake s program m ms
@@ -73,19 +73,19 @@ first_unit l = last_unit l.frame.unit (waiting_units l)
 abbrev pub IsTaking : Stream → LocalState → Type 0
 IsTaking s l = UnitsTake s l.program l.frame.unit (waiting_units l)
 
--- a process that waits for no children has the stream where its first unit takes it
+-- What a process has that waits for no children: locations for what its frames name, and units that take the stream as `UnitsTake` says. If its first unit takes the stream, the process has it.
 pub record HoldsStream (s : Stream) (l : LocalState) : Type 0 where
   pub named : HasLocations l
   pub taking : IsTaking s l
   pub holds : takes s l.program (first_unit l) ≡ true → has_stream s l ≡ true
 
--- one of these children began in the unit of its branch, which takes the stream
+-- One of these children has this program and began in the unit of its branch. That unit takes the stream.
 abbrev pub OneTakes : Stream → Form → List UBranch → List LocalState → Type 0
 OneTakes s program [] ks = ⊥
 OneTakes s program (b ∷ branches) [] = ⊥
 OneTakes s program (b ∷ branches) (k ∷ ks) = ((first_unit k ≡ b.call.unit) × (k.program ≡ program) × (takes s program b.call.unit ≡ true)) ⊎ OneTakes s program branches ks
 
--- If the first unit of a forked process takes the stream, the process has it, or one of these children began in a unit that takes it.
+-- What a forked process has: locations for what its frames name, and units that take the stream as `UnitsTake` says. If its first unit takes the stream, the process has it, or one of these children began in a unit that takes it.
 pub record LendsStream (s : Stream) (l : LocalState) (ks : List LocalState) : Type 0 where
   pub named : HasLocations l
   pub taking : IsTaking s l

@@ -6,10 +6,10 @@ use Rattle.shim_units.specs.declared.unit.UWhat.{UWhat-F}
 use Rattle.shim_process.specs.LocalState.{LocalState}
 use Rattle.shim_laws_stops.specs.Named.{IsLiveIn, IsAtStmt}
 
--- each `put` at which a live process stands has the output
+-- each live process that stands at a `put` has the output
 abbrev pub PutsHaveOutput : Tree LocalState → Type 0
 PutsHaveOutput t = (l : LocalState) (o : ℕ) (e : UExpr) → IsLiveIn t l → IsAtStmt l (UWhat-F.Put o e) → l.holds_output ≡ true
 
--- each `get` at which one stands has the input, and a place in it
+-- each live process that stands at a `get` has the input, with a place in it
 abbrev pub GetsHaveInput : Tree LocalState → Type 0
 GetsHaveInput t = (l : LocalState) (x i : ℕ) → IsLiveIn t l → IsAtStmt l (UWhat-F.Get x i) → (n : ℕ) × (l.input_at ≡ Some n)

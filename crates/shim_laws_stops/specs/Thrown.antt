@@ -15,7 +15,7 @@ pub record HasPlace (l : LocalState) (label : ℕ) : Type 0 where
   pub place : ExceptionPlace
   pub there : exception_place_in l.frame (label - l.base) l.callers ≡ Some place
 
--- it is one of a process on the way from the root to the one to which these branches lead, or of that one
+-- The exception place of this label is one of a process on the way from the root to the process to which the branches q lead, or one of that process.
 pub record HasPlaceOnWay (t : Tree LocalState) (q : List ℕ) (label : ℕ) : Type 0 where
   pub front : List ℕ
   pub rest : List ℕ
@@ -24,10 +24,10 @@ pub record HasPlaceOnWay (t : Tree LocalState) (q : List ℕ) (label : ℕ) : Ty
   pub at_front : at front t.root ≡ Some process
   pub place : HasPlace (state process) label
 
--- it is the label of a name that `main` throws, for which nobody has a handler
+-- the label is that of one of the exceptions that `main` throws, of which the first has label 1
 abbrev pub IsThrownByMain : Form → ℕ → Type 0
 IsThrownByMain program label = (1 ≤ label) × (label ≤ length program.main_throws)
 
--- each exception that a live process throws has a place in force around it, or is one that `main` throws
+-- each exception that a live process throws has a place, its own or one of a process on the way to it, or is one that `main` throws
 abbrev pub ThrownHavePlaces : Form → Tree LocalState → Type 0
 ThrownHavePlaces program t = (q : List ℕ) (l : LocalState) (label : ℕ) → at q t.root ≡ Some (Live l) → process_ops.stop l ≡ AtThrow label → HasPlaceOnWay t q label ⊎ IsThrownByMain program label

@@ -1,5 +1,6 @@
-//! That no run of an accepted program comes to a stop that the definition makes up.
+//! What each stop needs is there in each run of an accepted program: locations, streams and branches. Each exception
+//! that is thrown has a place, or `main` throws it.
 #![tactic(auto)]
 
-/// What is proved of the trees that an accepted program comes to.
+/// What is proved of the units of an accepted program, and of the trees that its runs reach.
 pub mod laws;

@@ -12,7 +12,7 @@ pub data RecordView : Type 0 where
   free : RecordView
   used : ℕ → ProcessStatus → RecordView
 
--- The record with this number is in use, with this state and this status. States and statuses are two lists, and a process's number is its place in both.
+-- The record with this number is in use, with this first child, state and status. States and statuses are two lists, and a process's number is its place in both.
 pub record Has {S : Type 0} (states : List S) (views : List RecordView) (i first : ℕ) (s : S) (k : ProcessStatus) : Type 0 where
   pub state_is : slice_get states i ≡ Some s
   pub view_is : slice_get views i ≡ Some (used first k)
@@ -46,6 +46,6 @@ pub record Represents {S : Type 0} (o : Ops S) (rp : Path) (states : List S) (vi
 abbrev pub OneTree : {S : Type 0} → Ops S → Type 0
 OneTree {S} o = (rp : Path) (states : List S) (views : List RecordView) (t u : Node S) → Rooted o rp states views → Agrees o rp states views t → Agrees o rp states views u → t ≡ u
 
--- one live process has one record
+-- one record, of a live process, represents the tree in which that process lives alone
 abbrev pub StartRepresents : {S : Type 0} → Ops S → Type 0
 StartRepresents {S} o = (l : S) → IsSound o (Live l) → Represents o (o.path l) (l ∷ []) (used 0 lives ∷ []) (Live l)

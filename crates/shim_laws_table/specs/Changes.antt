@@ -59,17 +59,17 @@ abbrev pub prevailing_among : List RecordView → Option Death
 prevailing_among [] = None
 prevailing_among (x ∷ xs) = prevailing_with x (prevailing_among xs)
 
--- what lies from the place g on, n of it
+-- the first n elements from the place g on, or fewer where the list ends before
 abbrev pub segment : {A : Type 0} → ℕ → ℕ → List A → List A
 segment g n xs = take n (drop g xs)
 
 -- Records represent a tree and change as an event changes them. Then they represent the tree after the event.
 pub record EventsPreserve {S : Type 0} (o : Ops S) : Type 0 where
-  -- a live process's own step that is no fork, or its end
+  -- a live process's own step that makes no children, or its end
   pub stepped : (rp : Path) (before behind : List S) (old_views views : List RecordView) (t u : Tree S) (e : Event) (i f : ℕ) (l : S) (a : Acted S)
       → Represents o rp before old_views t.root → Has before old_views i f l lives → IsBy (o.path l) e → after o e t ≡ Some u → act_live o l (o.stop l) ≡ Some a → is_leaf a.node ≡ true
       → HasChanged before behind old_views views i (state a.node) (process_status a.node) → Represents o rp behind views u.root
-  -- so many quiet steps of it
+  -- n quiet steps of a live process
   pub advanced : (rp : Path) (before behind : List S) (old_views views : List RecordView) (t u : Tree S) (i f n : ℕ) (l last : S)
       → Represents o rp before old_views t.root → Has before old_views i f l lives → QuietSteps o n l last → Advances o (o.path l) n t u
       → HasChanged before behind old_views views i last lives → Represents o rp behind views u.root

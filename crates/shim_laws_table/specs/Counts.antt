@@ -69,7 +69,7 @@ child_status o c k = record { alive = is_alive_on o c k; ready_on = ready o c k;
 abbrev pub live_child_status : Bool → ChildStatus
 live_child_status b = record { alive = true; ready_on = b; dead_on = false }
 
--- it is alive, and isn't ready
+-- the child with this status goes on and shares the channel, and isn't ready on it
 abbrev pub not_ready_on : ChildStatus → Bool
 not_ready_on r = r.alive && not r.ready_on
 

@@ -38,7 +38,7 @@ pub record MinLabelsDecide {S : Type 0} (o : Ops S) : Type 0 where
   -- A node, or some children, doom at a fork with h exception places in force exactly if their least label is below h.
   pub here : (h : ℕ) (c : Channel) (n : Node S) → dooms o h c n ≡ is_below (min_dead_label o c n) h
   pub among : (h : ℕ) (c : Channel) (ks : Nodes S) → any_dooms o h c ks ≡ is_below (min_dead_label_among o c ks) h
-  -- so a child can be poisoned exactly where its fork shares the channel, it is ready, and the least label below the fork is one of its handlers'
+  -- a child can be poisoned exactly where its fork shares the channel, it is ready, and the least label below the fork is in force there
   pub poisons : (root : Node S) (q : List ℕ) (l : S) (ks : Nodes S) (b : ℕ) (k : Node S) (c : Channel) → IsSound o root → at q root ≡ Some (Forked l ks) → child_at b [] ks ≡ Some k
       → (can_poison o l c b ks ≡ true) ↔ ((o.shares l c ≡ true) × (ready o c k ≡ true) × (is_below (min_dead_label_among o c ks) (o.handlers l) ≡ true))
   -- below a fork that doesn't count a channel, which was declared by none below it, no dead process shares it

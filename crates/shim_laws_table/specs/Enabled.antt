@@ -38,7 +38,7 @@ pub data IsAt {S : Type 0} (o : Ops S) (records : List S) (views : List RecordVi
 abbrev pub EnabledAreFound : {S : Type 0} → Ops S → Type 0
 EnabledAreFound {S} o = (rp : Path) (records : List S) (views : List RecordView) (t : Tree S) (e : Event) → Represents o rp records views t.root → Can o t e → (i : ℕ) × IsAt o records views e i
 
--- Nothing new can happen at records that are as before. Of two trees shown by records:
+-- Nothing new can happen at records that are as before. Of two trees that records represent:
 pub record NothingNew {S : Type 0} (o : Ops S) : Type 0 where
   -- a live process with the same state has no new own step and no new end
   pub steps : (rp : Path) (before behind : List S) (old_views views : List RecordView) (t u : Tree S) (i f g : ℕ) (l : S) → Represents o rp before old_views t.root → Represents o rp behind views u.root → Has before old_views i f l lives → Has behind views i g l lives

@@ -5,14 +5,14 @@ use Rattle.shim_local.specs.Process.{Ops}
 use Rattle.shim_semantics.specs.Nodes.{Node, Nodes, Live, Forked, Ended, Dead, Death, no_node, node_and, state}
 use Rattle.shim_semantics.specs.Places.{branches}
 
--- it lives, has forked into so many, has ended, or has died so
+-- a process lives, has forked into so many children, has ended, or has died this death
 pub data ProcessStatus : Type 0 where
   lives : ProcessStatus
   forks : ℕ → ProcessStatus
   ends : ProcessStatus
   dies : Death → ProcessStatus
 
--- how many nodes there are
+-- how many nodes the list has, without those below them
 abbrev pub how_many_nodes : {S : Type 0} → Nodes S → ℕ
 how_many_nodes no_node = 0
 how_many_nodes (node_and k ks) = suc (how_many_nodes ks)

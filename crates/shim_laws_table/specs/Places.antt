@@ -44,7 +44,7 @@ got o c v (forks n) s = s
 got o c v ends s = s
 got o c v (dies d) s = s
 
--- the state and the status behind the meeting, by those before it
+-- the state and the status after the meeting, by those before it
 abbrev pub seen_met : {S : Type 0} → Ops S → Channel → ℤ → Option (S × ProcessStatus) → Option (S × ProcessStatus)
 seen_met o c v None = None
 seen_met o c v (Some x) = Some (got o c v x.1 x.0, x.1)
@@ -56,7 +56,7 @@ killed o c d s (forks n) = forks n
 killed o c d s ends = ends
 killed o c d s (dies e) = dies e
 
--- the state and the status behind the poison, by those before it
+-- the state and the status after the poison, by those before it
 abbrev pub seen_killed : {S : Type 0} → Ops S → Channel → Death → Option (S × ProcessStatus) → Option (S × ProcessStatus)
 seen_killed o c d None = None
 seen_killed o c d (Some x) = Some (x.0, killed o c d x.0 x.1)
@@ -75,7 +75,7 @@ pub record HasPoisoned {S : Type 0} (o : Ops S) (p : Path) (c : Channel) (old ne
   pub killed : (s : List ℕ) → seen (at ((fork_place ++ branch ∷ []) ++ s) new) ≡ seen_killed o c (death (o.handlers parent - 1)) (seen (at ((fork_place ++ branch ∷ []) ++ s) old))
   pub aside : SameAside (fork_place ++ branch ∷ []) old new
 
--- what each event shows
+-- which states and statuses each event changes, by their places
 pub record EventsShow {S : Type 0} (o : Ops S) : Type 0 where
   pub alone : (t u : Tree S) (p : Path) (e : Event) → IsBy p e → after o e t ≡ Some u → HasActed o p t.root u.root
   pub meets : (t u : Tree S) (c : Channel) → after o (Meet c) t ≡ Some u → (p : List ℕ) → seen (at p u.root) ≡ seen_met o c (value_of o c (source o c t.root)) (seen (at p t.root))

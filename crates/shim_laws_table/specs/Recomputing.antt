@@ -47,12 +47,12 @@ pub data Recomputed {S : Type 0} (o : Ops S) (c : Channel) (records : List S) (v
   at_the_root : (n : ℕ) (before : ℕ → Option ℕ) (x : ℕ) → up x ≡ None → Recomputed o c records views up counts n before x before
   uncounted : (n : ℕ) (before : ℕ → Option ℕ) (x j : ℕ) → up x ≡ Some j → counts j ≡ None → Recomputed o c records views up counts n before x before
   as_before : (n : ℕ) (before : ℕ → Option ℕ) (x j : ℕ) → up x ≡ Some j → counts j ≢ None → IsReadOff o c records views before j (before j) → Recomputed o c records views up counts n before x before
-  recomputes : (n : ℕ) (before between behind : ℕ → Option ℕ) (x j : ℕ) → up x ≡ Some j → counts j ≢ None → IsReadOff o c records views before j (between j) → ((i : ℕ) → i ≢ j → between i ≡ before i)
-      → Recomputed o c records views up counts n between j behind → Recomputed o c records views up counts (suc n) before x behind
+  recomputes : (n : ℕ) (before between after : ℕ → Option ℕ) (x j : ℕ) → up x ≡ Some j → counts j ≢ None → IsReadOff o c records views before j (between j) → ((i : ℕ) → i ≢ j → between i ≡ before i)
+      → Recomputed o c records views up counts n between j after → Recomputed o c records views up counts (suc n) before x after
 
--- Where another node is in a place, and the labels above were read off again, all labels are those of the tree behind.
+-- Where another node is in a place, and the labels above were read off again, all labels are those of the tree with that node.
 abbrev pub LabelsRecomputed : {S : Type 0} → Ops S → Type 0
-LabelsRecomputed {S} o = (rp : Path) (records : List S) (views : List RecordView) (up : ℕ → Option ℕ) (c : Channel) (old new m a : Node S) (n x f : ℕ) (s : S) (k : ProcessStatus) (counts : ℕ → Option Tally) (before behind : ℕ → Option ℕ)
+LabelsRecomputed {S} o = (rp : Path) (records : List S) (views : List RecordView) (up : ℕ → Option ℕ) (c : Channel) (old new m a : Node S) (n x f : ℕ) (s : S) (k : ProcessStatus) (counts : ℕ → Option Tally) (before after : ℕ → Option ℕ)
     → Represents o rp records views new → AreLinked records views up → Has records views x f s k → IsReplaced (place o rp s) m a old new → o.shares s c ≡ true → HaveCounts o rp records views c counts new
-    → NoneUncounted counts before → length (place o rp s) ≤ n → LabelsOnTheWay o rp records views c counts before old new (place o rp s) → Recomputed o c records views up counts n before x behind
-    → Labelled o rp records views c counts behind new
+    → NoneUncounted counts before → length (place o rp s) ≤ n → LabelsOnTheWay o rp records views c counts before old new (place o rp s) → Recomputed o c records views up counts n before x after
+    → Labelled o rp records views c counts after new

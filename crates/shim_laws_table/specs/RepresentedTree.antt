@@ -1,4 +1,4 @@
--- The tree that flat records show, computed from them.
+-- The tree that flat records represent, computed from them.
 use Rattle.std.specs.Prelude.{◌≡◌, ℕ, zero, suc, ◌+◌, Option, Some, None, List, [], ◌∷◌, length, slice_get}
 use Rattle.shim_base.specs.Paths.{Path}
 use Rattle.shim_local.specs.Process.{Ops}
@@ -33,7 +33,7 @@ abbrev pub node_in : {S : Type 0} → (ℕ → Option (Node S)) → Option S →
 node_in node (Some s) (Some (used first k)) = node_by node s first k
 node_in node _ _ = None
 
--- the node of the record with a number, where so many forks at most are in each other
+-- the node of the record with this number, if it and the records below it have at most so many levels; else none
 abbrev pub node_of : {S : Type 0} → List S → List RecordView → ℕ → ℕ → Option (Node S)
 node_of states views zero i = None
 node_of states views (suc m) i = node_in (node_of states views m) (slice_get states i) (slice_get views i)
@@ -47,6 +47,6 @@ lengths_of o (s ∷ ss) = length (o.path s) + lengths_of o ss
 abbrev pub represented_tree : {S : Type 0} → Ops S → List S → List RecordView → Option (Node S)
 represented_tree o states views = node_of states views (suc (lengths_of o states)) 0
 
--- where records show a tree, it is the one that is computed
+-- where records represent a tree, it is the one that is computed
 abbrev pub TreeIsComputed : {S : Type 0} → Ops S → Type 0
 TreeIsComputed {S} o = (rp : Path) (states : List S) (views : List RecordView) (root : Node S) → Represents o rp states views root → represented_tree o states views ≡ Some root

@@ -14,7 +14,7 @@ abbrev pub TalliedIn : {S : Type 0} → Ops S → Path → List S → List Recor
 TalliedIn {S} o rp records views c counts tree = (i f n : ℕ) (s : S) (y : Tally) (l : S) (ks : Nodes S) → Has records views i f s (forks n) → counts i ≡ Some y
     → at (place o rp s) (tree (place o rp s)) ≡ Some (Forked l ks) → y ≡ tally_of o c ks
 
--- they are those of the nodes of one tree
+-- the counts that records keep for the channel are those of the nodes of one tree
 abbrev pub Tallied : {S : Type 0} → Ops S → Path → List S → List RecordView → Channel → (ℕ → Option Tally) → Node S → Type 0
 Tallied o rp records views c counts root = TalliedIn o rp records views c counts (λ p. root)
 

@@ -7,14 +7,14 @@ ghost use Rattle.shim_laws_table.specs.Links.{LinksFollow, RunningFollow};
 
 use shim_local::Local;
 
-/// What is read of a fork on a channel follows from three counts of its children: how many live ones share it,
-/// how many of these aren't ready, and how many dead ones share it. A child's change moves them by bits.
+/// What is read of a fork on a channel follows from three counts of its children: how many that go on share it, how
+/// many of these aren't ready, and how many dead ones share it. A child's change moves them by bits.
 pub fn counts_tell<L: Local>()
     ensures { CountsTell L.ops }
 {}
 
-/// How the counts follow a change at one process up the forks: channel by channel either the counts above are updated,
-/// or nothing is to be done.
+/// How the counts follow a change at one process up the forks: channel by channel either the counts above are
+/// updated, or nothing is to be done.
 pub fn counts_follow<L: Local>()
     ensures { CountsFollow L.ops }
 {}
@@ -31,14 +31,14 @@ pub fn given_suffice<L: Local>()
     ensures { GivenSuffice L.ops }
 {}
 
-/// What a fork reads of a process that does anything by itself: before, it isn't ready; behind, what came of it
-/// decides.
+/// What a fork reads of a process that does anything by itself: before, it isn't ready and not dead; afterwards, if
+/// it has no children, its state and its status decide.
 pub fn actors_are_read<L: Local>()
     ensures { ActorsAreRead L.ops }
 {}
 
-/// How the counts stand when a process's record has changed, has forked, or has closed: those above are still
-/// those of the tree before.
+/// How the counts stand when a process has changed, has forked, or its fork has closed: those above are still those
+/// of the tree before.
 pub fn counts_begin<L: Local>()
     ensures { CountsBegin L.ops }
 {}

@@ -7,20 +7,19 @@ ghost use Rattle.shim_laws_table.specs.Recomputing.{LabelsRecomputed};
 
 use shim_local::Local;
 
-/// The least label of the dead below a fork that share a channel decides who is doomed: a child can be
-/// poisoned where its fork shares the channel, it is ready, and that label has its handler at the fork or
-/// above.
+/// The least label of the dead below a fork that share a channel decides who is doomed: a child can be poisoned
+/// exactly where its fork shares the channel, it is ready, and that label is in force at the fork.
 pub fn min_labels_decide<L: Local>()
     ensures { MinLabelsDecide L.ops }
 {}
 
-/// How that label follows a change: a death is taken into all forks above, and where it stays at a fork it
-/// stays above.
+/// How the least label follows a change of a node. If the old node had none, all forks above take in that of the new
+/// node. If both nodes have the same one, the labels of all forks above stay.
 pub fn min_labels_follow<L: Local>()
     ensures { MinLabelsFollow L.ops }
 {}
 
-/// What can happen at a record follows from its state, its counts and that label.
+/// What can happen at a record follows from its state, its counts and its least label.
 pub fn enabled_by_records<L: Local>()
     ensures { EnabledByRecords L.ops }
 {}
@@ -31,26 +30,27 @@ pub fn enabled_are_found<L: Local>()
     ensures { EnabledAreFound L.ops }
 {}
 
-/// Where a record is as before, with its counts and that label, nothing can happen there that couldn't. So
-/// what becomes possible is found by looking at the records of which something has just changed.
+/// Where a record is as before, with its counts, its least label, and which of its children are ready, nothing can
+/// happen there that couldn't. So what becomes possible is found by looking at the records of which something has
+/// just changed.
 pub fn nothing_new<L: Local>()
     ensures { NothingNew L.ops }
 {}
 
-/// How the labels that forks keep stand when a process's record has changed, has forked, or has closed: those
-/// above are still those of the tree before.
+/// How the labels that forks keep stand when a process has changed, has forked, or its fork has closed: those above
+/// are still those of the tree before.
 pub fn labels_begin<L: Local>()
     ensures { LabelsBegin L.ops }
 {}
 
-/// Where a process has died and its label was taken in on the way up, the labels that forks keep for a channel
-/// are all those of the tree behind.
+/// A process has died, and its label was taken in on the way up. Then the labels that forks keep for a channel are
+/// all those of the tree after its death.
 pub fn labels_lowered<L: Local>()
     ensures { LabelsLowered L.ops }
 {}
 
-/// Where another node is in a place, as a fork has closed, and the labels above were read off the forks'
-/// children again, they are all those of the tree behind.
+/// Another node is in a place, as a fork has closed, and the labels above were read off the forks' children again.
+/// Then all labels are those of the tree with that node.
 pub fn labels_recomputed<L: Local>()
     ensures { LabelsRecomputed L.ops }
 {}

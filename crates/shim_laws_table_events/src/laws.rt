@@ -21,53 +21,53 @@ pub fn start_establishes<L: Local>()
     ensures { StartEstablishes L.ops }
 {}
 
-/// Where a live process does quiet steps, the records show the tree behind them.
+/// Where a live process does quiet steps, the records represent the tree after them.
 pub fn quiet_steps_preserve<L: Local>()
     ensures { QuietStepsPreserve L.ops }
 {}
 
-/// Where a live process did something by itself that leaves it alive, the records show the tree behind it.
+/// Where a live process did something by itself that leaves it alive, the records represent the tree after it.
 pub fn step_preserves<L: Local>()
     ensures { StepPreserves L.ops }
 {}
 
-/// Where a live process ended or died, the records show the tree behind it.
+/// Where a live process ended or died, the records represent the tree after it.
 pub fn exit_preserves<L: Local>()
     ensures { ExitPreserves L.ops }
 {}
 
-/// Where a process forks, and the records of its children are put in place of free ones or behind all others,
-/// the records show the tree behind it.
+/// Where a process forks, and the records of its children are put in place of free ones or after all others, the
+/// records represent the tree after it.
 pub fn fork_preserves<L: Local>()
     ensures { ForkPreserves L.ops }
 {}
 
-/// So they do where its fork traps.
+/// Where the fork of a process traps, the records represent the tree after it.
 pub fn fork_trap_preserves<L: Local>()
     ensures { ForkTrapPreserves L.ops }
 {}
 
-/// Where a fork closes, the records show the tree behind it.
+/// Where a fork closes, the records represent the tree after that.
 pub fn close_preserves<L: Local>()
     ensures { ClosePreserves L.ops }
 {}
 
-/// Where free records at the end are cut off, those that are left show the same tree.
+/// Where free records at the end are cut off, those that are left represent the same tree.
 pub fn truncate_preserves<L: Local>()
     ensures { TruncatePreserves L.ops }
 {}
 
-/// Where a live process receives at the channel at which it is, the records show the tree behind that.
+/// Where a live process receives at the channel at which it is, the records represent the tree after that.
 pub fn receive_preserves<L: Local>()
     ensures { ReceivePreserves L.ops }
 {}
 
-/// Where a live process dies of an exception for which it has no handler, so do they.
+/// Where a live process dies of an exception for which it has no handler, the records represent the tree after that.
 pub fn death_preserves<L: Local>()
     ensures { DeathPreserves L.ops }
 {}
 
-/// A descent from a process that shares a channel finds all that share it there and below.
+/// A descent from a process that shares a channel finds all that share it at and below that process.
 pub fn descents_find<L: Local>()
     ensures { DescentsFind L.ops }
 {}
@@ -78,7 +78,8 @@ pub fn meeting_preserves<L: Local>()
     ensures { MeetingPreserves L.ops }
 {}
 
-/// All that share a channel at and below its home are receivers enough for a rendezvous.
+/// Where a rendezvous is enabled, all that share the channel at and below its home include each live process that
+/// waits at it.
 pub fn sharers_receive<L: Local>()
     ensures { SharersReceive L.ops }
 {}
@@ -121,13 +122,14 @@ pub fn record_decides<L: Local>()
     ensures { RecordDecides L.ops }
 {}
 
-/// By a record no more can happen than before, where neither it nor a child of its fork has become ready on a
-/// channel by which something could.
+/// By a record no more can happen than before in three cases. Nothing but a quiet step can happen by it. Its state,
+/// labels and what it says of its process are as before, and neither it nor a child has become ready on a channel by
+/// which something could. It needn't be looked at again.
 pub fn no_more_can_happen<L: Local>()
     ensures { NoMoreCanHappen L.ops }
 {}
 
-/// So an event queue stays complete, where each record by which more can happen than before is listed, too; one by
+/// An event queue stays complete where each record by which more can happen than before is listed, too. A record by
 /// which nothing but a quiet step can happen may be dropped.
 pub fn queue_stays_complete<L: Local>()
     ensures { QueueStaysComplete L.ops }

@@ -23,7 +23,7 @@ SameEnabled {A} {B} o p R = (t : Tree A) (u : Tree B) (e : Event) → SoundAndTi
 abbrev pub SameWalks : {A B : Type 0} → Ops A → Ops B → (A → B → Type 0) → Type 0
 SameWalks {A} {B} o p R = (t : Tree A) (u : Tree B) → SoundAndTied o p R t u → walk o t.root ≡ walk p u.root
 
--- behind an event that happens in both they are tied again
+-- after an event that happens in both, the two trees are sound and tied again
 abbrev pub StayTied : {A B : Type 0} → Ops A → Ops B → (A → B → Type 0) → Type 0
 StayTied {A} {B} o p R = (t a : Tree A) (u b : Tree B) (e : Event) → SoundAndTied o p R t u → after o e t ≡ Some a → after p e u ≡ Some b → SoundAndTied o p R a b
 
@@ -31,11 +31,11 @@ StayTied {A} {B} o p R = (t a : Tree A) (u b : Tree B) (e : Event) → SoundAndT
 abbrev pub SameEnded : {A B : Type 0} → Ops A → Ops B → (A → B → Type 0) → Type 0
 SameEnded {A} {B} o p R = (t : Tree A) (u : Tree B) → SoundAndTied o p R t u → ended o t ≡ ended p u
 
--- each run of one is a run of the other, and they are tied behind it
+-- each run of the first tree is a run of the second, and the two trees after it are sound and tied
 abbrev pub SameRuns : {A B : Type 0} → Ops A → Ops B → (A → B → Type 0) → Type 0
 SameRuns {A} {B} o p R = (t a : Tree A) (u : Tree B) (es : List Event) → SoundAndTied o p R t u → run (after o) es t ≡ Some a → (b : Tree B) × (run (after p) es u ≡ Some b) × SoundAndTied o p R a b
 
--- the meanings of tied processes that share only channels of their own are tied and come to the same, whatever the budget
+-- The meanings of two tied sound processes are sound and tied, and the same is read off them, whatever the budget. The first process shares only channels that it declared.
 abbrev pub SameMeanings : {A B : Type 0} → Ops A → Ops B → (A → B → Type 0) → Type 0
 SameMeanings {A} {B} o p R = (l : A) (m : B) (b : ℕ) → o.sound l → p.sound m → R l m → SharesItsOwn o l →
     SoundAndTied o p R (meaning o b (start l)) (meaning p b (start m)) × (ended o (meaning o b (start l)) ≡ ended p (meaning p b (start m)))

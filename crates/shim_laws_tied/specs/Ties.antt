@@ -18,7 +18,7 @@ ForksTied R (Trapped l) (Trapped m) = R l m
 ForksTied R (Parted l ls) (Trapped m) = ⊥
 ForksTied R (Trapped l) (Parted m ms) = ⊥
 
--- the two are tied, and each is a state that a process comes to
+-- the two states are tied, and each is sound
 abbrev pub AreTied : {A B : Type 0} → Ops A → Ops B → (A → B → Type 0) → A → B → Type 0
 AreTied o p R l m = o.sound l × p.sound m × R l m
 

@@ -11,7 +11,7 @@ use Rattle.shim_units.specs.Units.{lifted}
 use Rattle.shim_laws_up.specs.Around.{form_renamed}
 use Rattle.shim_laws_up.specs.Titles.{AreAlike}
 
--- The second program has a text and version 2, it is bound and obeys the sharing rule. Where the first has this form, the second has the form whose list of names has the least new name for the new word, and the units of the two differ in their titles and in that entry alone.
+-- The second program has a text and version 2, is bound, and obeys the sharing rule. Its form is this one with the new word replaced in the list of names. The least new name of the first program replaces it. Lifted, the two forms differ in that entry and in the titles of units alone.
 pub record IsAcceptedInVersion2 (p q : Program) (form : Resolved) : Type 0 where
   pub bytes : List ℕ
   pub text : IsText bytes q

@@ -30,7 +30,7 @@ module _ (f : Renaming) where
   abbrev pub refusal_renamed : Refusal → Refusal
   refusal_renamed r = record { line = r.line; kind = r.kind; name = f r.name }
 
-  -- what is done to a value, and a refusal with its name replaced
+  -- g of a value, or the refusal with its name replaced
   abbrev pub answer_renamed : {A B : Type 0} → (A → B) → Result A Refusal → Result B Refusal
   answer_renamed g (Ok a) = Ok (g a)
   answer_renamed g (Err r) = Err (refusal_renamed r)

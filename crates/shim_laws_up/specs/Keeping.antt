@@ -9,7 +9,7 @@ use Rattle.shim_up.specs.Renaming.{Renaming}
 abbrev pub feeds_in : List ℕ → ℕ
 feeds_in bytes = count_by (λ b. b == 10) bytes
 
--- Names stay names within the limits, with no more line feeds than before, and in version 2 what replaces a name is one.
+-- Names stay names within the limits, with no more line feeds than before. What replaces a name isn't the new word, and so is a name in version 2, too.
 pub record KeepsNames (f : Renaming) : Type 0 where
   pub spells : (x : List ℕ) → Spells x Word → IsWithinLimits x Word → Spells (f x) Word
   pub fits : (x : List ℕ) → Spells x Word → IsWithinLimits x Word → IsWithinLimits (f x) Word

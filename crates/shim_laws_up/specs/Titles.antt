@@ -8,7 +8,7 @@ use Rattle.shim_up.specs.Renaming.{Renaming}
 abbrev pub untitled : UnitOf → UnitOf
 untitled u = record u { title = [] }
 
--- the same units but for titles, with the names replaced in the list of names
+-- The two forms have the same units but for titles, the same `main`, and the same exceptions that `main` throws. The names of the second are those of the first, replaced.
 pub record AreAlike (f : Renaming) (old new : Form) : Type 0 where
   pub units : map untitled new.units ≡ map untitled old.units
   pub names : new.names ≡ map f old.names

@@ -24,14 +24,15 @@ ghost use Rattle.shim_laws_up.specs.Keeping.{KeepsNames};
 ghost use Rattle.shim_laws_up.specs.Rewriting.{rewritten};
 ghost use Rattle.shim_laws_up.specs.Titles.{AreAlike};
 
-/// What derives functions derives them with their identifiers replaced where those of the terminals
-/// are, wherever the terminals stand in their lines.
+/// Terminals that derive functions derive them with their identifiers replaced, if the names among the terminals
+/// are replaced, too. Each terminal may stand at another byte of its line, and the end of the text at any place.
 pub fn derivations_keep_to_replaced_names()
     ensures { (f : Renaming) (end : Place) (place : ℕ → ℕ) (n : ℕ) (v : TextCounts) (s : List Terminal) (fs : List Function) → IsFunctions limits n v s [] fs → IsFunctions limits n v (rewritten f end place s) [] (renamed_functions f fs) }
 {}
 
 /// A program that has a text of version 1 has one of version 2 with its identifiers replaced, where names
-/// stay names and none becomes the word of the new type. Each line stays as it was.
+/// stay names within the limits, get no more line feeds, and none becomes the word of the new type. Each line stays
+/// as it was.
 pub fn replaced_names_have_a_text_of_version_2()
     ensures { (f : Renaming) (keeps : KeepsNames f) (bytes : List ℕ) (p : Program) → p.version ≡ 1 → IsText bytes p → (others : List ℕ) × IsText others (record { version = 2; functions = renamed_functions f p.functions }) }
 {}
@@ -69,8 +70,8 @@ pub fn up_is_one_program()
     ensures { (p q r : Program) → IsUp p q → IsUp p r → q ≡ r }
 {}
 
-/// The canonical text of what a program with a text of at most 1,048,576 bytes is in version 2 is a text of
-/// that but for lines.
+/// Where a program has a text of at most 1,048,576 bytes, take the program that it is in version 2. The canonical
+/// text of this is a text of a program that differs from it in lines alone.
 pub fn program_in_version_2_is_printed()
     ensures { (p q : Program) → HasText p → IsUp p q → IsTextOfSame q (canonical q) }
 {}

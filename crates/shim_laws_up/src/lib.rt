@@ -1,4 +1,4 @@
-//! That a program of version 1 is accepted in version 2, too, where its name for the new type is replaced.
+//! That a program of version 1 is accepted in version 2, too, with the new type's word replaced among its names.
 #![tactic(auto)]
 
 /// What is proved of programs, texts, forms and units with identifiers replaced.

@@ -82,7 +82,7 @@ passed_token text rest from at line len kind h rest_is taken =
     let Q : List ℕ → Type 0 = λ l. Spells l kind in
     let R : List ℕ → Type 0 = λ l. IsWithinLimits l kind in
     record {
-      behind_place = h.from_there;
+      after_place = h.from_there;
       some = omega (arith, some, size);
       within = omega (arith, in_rest, in_text, length-drop at text);
       spells = subst Q bytes q.first.spells;

@@ -26,7 +26,7 @@ bytes_of text t = between t.at t.past text
 abbrev pub token_of : List ℕ → Given → Token
 token_of text t = record { kind = t.kind; text = bytes_of text t; at = t.at; line = t.line }
 
--- The fault of the code, as the definition of tokens names it. The same of an optional one: `fault_kept`.
+-- A fault of the code, as the definition of tokens names it. `fault_kept` names an optional fault like this.
 abbrev pub fault_of : LexFault → Fault
 fault_of f = record { at = f.at; line = f.line; kind = f.kind }
 
@@ -36,7 +36,7 @@ fault_kept (Some f) = Some (fault_of f)
 
 -- The token is the next one of the text from this place on. Let the text after the token be cut into some tokens up to some end. Then the text from the place on is cut into the token and these, up to the same end.
 pub record IsNext (text : List ℕ) (place : Place) (t : Given) : Type 0 where
-  pub behind_place : place.at ≤ t.at
+  pub after_place : place.at ≤ t.at
   pub some : t.at < t.past
   pub within : t.past ≤ length text
   pub spells : Spells (bytes_of text t) t.kind
@@ -50,7 +50,7 @@ Finds text place (Ok (Some t)) = IsNext text place t
 Finds text place (Ok None) = Cuts place (drop place.at text) [] None
 Finds text place (Err f) = Cuts place (drop place.at text) [] (Some (fault_of f))
 
--- the token or the fault is within the text, and its line is at most one above the number of bytes before its end
+-- The token or the fault is within the text. A token's line is at most one above the number of bytes up to its end. A fault's line is at most one above the number of bytes before the fault.
 abbrev pub IsInText : List ℕ → Result (Option Given) LexFault → Type 0
 IsInText text (Ok (Some t)) = (t.past ≤ length text) × (t.line ≤ 1 + t.past)
 IsInText text (Ok None) = Unit {0}
@@ -67,7 +67,7 @@ abbrev pub AnswersNext : Option Fault → Lexing → Lexing → Result (Option G
 AnswersNext (Some fault) old new result = (new ≡ old) × ((f : LexFault) × (result ≡ Err f) × (fault_of f ≡ fault))
 AnswersNext None old new result = (new ≡ place_behind old result) × Finds old.text old.place result
 
--- The answers of one call after the other, from here up to the first that is no token.
+-- Calls from this reading on answer these tokens, one after the other. The call behind them answers the end of the text, or this fault.
 pub data Run : Lexing → List Token → Option Fault → Type 0 where
   over : (old new : Lexing) → AnswersNext None old new (Ok None) → Run old [] None
   faulty : (old new : Lexing) (f : LexFault) → AnswersNext None old new (Err f) → Run old [] (Some (fault_of f))

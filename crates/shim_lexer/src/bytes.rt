@@ -55,7 +55,7 @@ pub(crate) fn hex_digits_len(text: &[u8]) -> usize
     text.iter().take_while(|b| is_hex_digit(**b)).count()
 }
 
-/// How many bytes stand before the first line feed.
+/// How many bytes stand before the first line feed, or in the whole text if it has none.
 pub(crate) fn line_len(text: &[u8]) -> usize
     ensures is { result ≡ prefix_len is_on_line text.now }
     ensures within { result ≤ length text.now }

@@ -14,7 +14,7 @@ pub(crate) fn begins(text: &[u8], front: &[u8]) -> bool
     text.starts_with(front)
 }
 
-/// What a comment is that `//` begins: it ends before the next line feed.
+/// What stands at the front of a text that `//` begins: a comment, up to the next line feed or the end of the text.
 pub(crate) fn line_comment(text: &[u8]) -> Scanned
     requires { Begins text.now line_opener }
     ensures { IsScanned text.now result }
@@ -36,7 +36,8 @@ fn closer_at(text: &[u8]) -> Option<usize>
     None
 }
 
-/// What a comment is that `/*` begins: it ends behind the next `*/`, and is open without one.
+/// What stands at the front of a text that `/*` begins: a comment with the next `*/` as its end, or a fault if there
+/// is none.
 pub(crate) fn block_comment(text: &[u8]) -> Scanned
     requires { Begins text.now block_opener }
     ensures { IsScanned text.now result }

@@ -77,7 +77,7 @@ impl<'a> Lexer<'a> {
     }
 }
 
-// What stands behind the spacing and the comments at a place of the text.
+// What comes after the spacing and the comments at a place of the text: a token, the end, or a fault.
 fn token_from(text: &[u8], from: usize, first_line: u32) -> Result<Option<Token>, LexFault>
     requires within { from ≤ length text.now }
     requires short { length text.now ≤ 1048576 }

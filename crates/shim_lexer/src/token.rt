@@ -7,7 +7,7 @@ pub struct Token {
     pub kind: TokenKind,
     /// The place of its first byte, counted from 0.
     pub at: usize,
-    /// The place behind its last byte.
+    /// The place after its last byte.
     pub past: usize,
     /// The line on which it stands, counted from 1.
     pub line: u32,

@@ -95,7 +95,7 @@ fn sign_of(text: &[u8]) -> Option<Sign>
     }
 }
 
-/// What stands where a letter does: a name, which has at most 64 bytes if it is no keyword.
+/// What stands where a letter does: a keyword, another name of at most 64 bytes, or the fault of a longer one.
 pub(crate) fn name(text: &[u8]) -> Scanned
     requires place { IsTokenPlace text.now }
     requires letter { IsTrue (tokens.is_letter (slice_index text.now 0)) }
@@ -126,7 +126,7 @@ fn sign_at(text: &[u8]) -> Option<(Sign, usize)>
     Some((sign, one.len()))
 }
 
-/// What stands where neither a letter nor a digit does.
+/// What stands where a token may begin and neither a letter nor a digit stands: a sign, or the fault of a bad byte.
 pub(crate) fn sign(text: &[u8]) -> Scanned
     requires place { IsTokenPlace text.now }
     requires no_letter { tokens.is_letter (slice_index text.now 0) ≡ false }

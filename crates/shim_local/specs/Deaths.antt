@@ -3,11 +3,11 @@ use Rattle.std.specs.Prelude.{ℕ, ℤ, pos, Option, Some, None, cond, ltb, min,
 use Rattle.std.specs.Option.{option_or}
 use Rattle.shim_local.specs.declared.death.Death.{Death}
 
--- the death of one that was poisoned, which has no number
+-- the death of this label without a number, which a poisoned process dies
 abbrev pub death : ℕ → Death
 death x = record { label = x; given = None }
 
--- the death of an exception that was thrown with this number
+-- the death of this label with this number: of a throw the number thrown, of a trap 0
 abbrev pub death_with : ℕ → ℤ → Death
 death_with x v = record { label = x; given = Some v }
 

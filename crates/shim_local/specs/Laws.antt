@@ -25,7 +25,7 @@ pub data Called {S : Type 0} (o : Ops S) (l m : S) : Type 0 where
   by_receive : (c : NamedChannel) (v : ℤ) → o.stop l ≡ AtNext c → m ≡ o.receive l v → Called o l m
   by_thrown : (label : ℕ) → o.stop l ≡ AtThrow label → m ≡ o.thrown l → Called o l m
 
--- the second state is the first after it caught an exception of some label with some number
+-- the second state is the first after it caught an exception with some number, of the label of one of its own exception places
 pub data Unwound {S : Type 0} (o : Ops S) (l m : S) : Type 0 where
   by_label : (label : ℕ) (v : ℤ) → o.base l ≤ label → label < o.handlers l → m ≡ o.unwind l label v → Unwound o l m
 
@@ -64,14 +64,14 @@ pub record LocalLaws {S : Type 0} (o : Ops S) : Type 0 where
   -- each call keeps a state sound, and the children of a fork are sound
   pub moved_sound : (l m : S) → o.sound l → Moved o l m → o.sound m
   pub fork_sound : (l p : S) (ks : List S) → o.sound l → Forks o l p ks → AllOf o.sound ks
-  -- what never changes
+  -- no call changes the path, the base or the given channels of a process
   pub moved_path : (l m : S) → o.sound l → Moved o l m → o.path m ≡ o.path l
   pub moved_base : (l m : S) → o.sound l → Moved o l m → o.base m ≡ o.base l
   pub moved_given : (l m : S) → o.sound l → Moved o l m → o.given m ≡ o.given l
   -- A root was given no channels. Any other process shares a channel of another process exactly where it was given that.
   pub root_given : (l : S) → o.sound l → o.path l ≡ [] → o.given l ≡ []
   pub given_shared : (l : S) (c : Channel) → o.sound l → o.path l ≢ [] → c.home ≢ o.path l → (o.shares l c ≡ true) ↔ IsGiven o l c
-  -- At least one exception place is in force around a process. A fork, its trap, and a join that stays at the fork leave the number of places in force as it is.
+  -- At least one exception place is in force around a process, and no fewer with its own. A fork, its trap, and a join that stays at the fork leave the number of places in force as it is.
   pub base_least : (l : S) → o.sound l → 1 ≤ o.base l
   pub base_most : (l : S) → o.sound l → o.base l ≤ o.handlers l
   pub fork_handlers : (l p : S) (ks : List S) → o.sound l → Forks o l p ks → o.handlers p ≡ o.handlers l
@@ -98,7 +98,7 @@ pub record LocalLaws {S : Type 0} (o : Ops S) : Type 0 where
   pub fork_shares : (l p : S) (ks : List S) (c : Channel) → o.sound l → Forks o l p ks → o.shares p c ≡ o.shares l c
   pub fork_trap_shares : (l m : S) (c : Channel) → o.sound l → o.stop l ≡ AtFork → o.fork l ≡ Trapped m → o.shares m c ≡ o.shares l c
   pub join_shares : (l : S) (ks : List S) (goes_on : Bool) (c : Channel) → o.sound l → AllOf o.sound ks → o.born l ks → o.shares (o.join l ks goes_on) c ≡ o.shares l c
-  -- A fork has at least one child. Each child has its path and its base. It shares only channels that the parent shares or whose home is the child, and exactly those that it was given.
+  -- A fork has at least one child. Each child has the path of its branch of that fork. The base of each child is the number of exception places in force in the parent. A child shares only channels that the parent shares or whose home is the child, and exactly those that it was given.
   pub fork_some : (l p : S) (ks : List S) → o.sound l → Forks o l p ks → ks ≢ []
   pub fork_children : (l p : S) (ks : List S) → o.sound l → Forks o l p ks → (f : ℕ) × AreChildren o (o.path l) (o.handlers l) f 0 ks
   pub children_share : (l p : S) (ks : List S) (c : Channel) → o.sound l → Forks o l p ks → AllOf (λ k. o.shares k c ≡ true → (o.shares l c ≡ true) ⊎ (c.home ≡ o.path k)) ks

@@ -84,7 +84,7 @@ pub trait Local: Send + Sized + Drop {
         ensures err { OnErr result (self.new ≡ self.old) };
 
     /// Takes back the values of the children of its last fork, whatever calls they have had since. They
-    /// have to be given in order. It then stands behind the fork, where `goes_on`, and else still at it.
+    /// have to be given in order. If `goes_on`, the process then goes on after the fork, else it stays at the fork.
     fn join(&mut self, children: &[Self], goes_on: bool)
         requires { ops.born self.old children.now }
         ensures { self.new ≡ ops.join self.old children.now goes_on };
@@ -112,7 +112,7 @@ pub trait Local: Send + Sized + Drop {
         ensures { result ≡ ops.shares self.now c.now.channel };
 
     /// Lends one of the channels that the fork which made the process gave it, counted from 0; `None`
-    /// behind the last. No call changes them, and a root has none.
+    /// past the last. No call changes these channels, and a root has none.
     fn given(&self, at: usize) -> Option<&Chan>
         ensures { option_copied result ≡ slice_get (ops.given self.now) at };
 
@@ -134,7 +134,7 @@ pub trait Local: Send + Sized + Drop {
     fn base(&self) -> u32
         ensures { result ≡ ops.base self.now };
 
-    /// How many are in force with its own.
+    /// How many exception places are in force in all: those around the process, and its own.
     fn handlers(&self) -> u32
         ensures { result ≡ ops.handlers self.now };
 
@@ -154,7 +154,7 @@ pub trait Local: Send + Sized + Drop {
 
     /// About how many quiet steps take as long as handing this process over does: the copies that are made
     /// of it, and the comparison when it comes back. It is a hint for who hands processes out, and no clause
-    /// says anything of it; it takes no longer than a step.
+    /// says anything of it; the call itself takes no longer than a step.
     fn hand_over_cost(&self) -> u64;
 
     /// What holds of every kind of process.

@@ -3,7 +3,7 @@ use Rattle.std.specs.Prelude.{ℤ}
 use Rattle.shim_base.specs.Value.{stored}
 use Rattle.shim_process.specs.Locations.{Location, kept, restored}
 
--- the value is stored by its type
+-- the location with this value, stored by the location's type
 abbrev pub with_stored : ℤ → Location → Location
 with_stored v l = record l { value = stored l.ty v }
 

@@ -9,7 +9,7 @@ abbrev pub is_lent_out : ℕ → List ℕ → Bool
 is_lent_out n [] = false
 is_lent_out n (m ∷ ms) = nat_eq m n || is_lent_out n ms
 
--- what is kept where the locations of these numbers were given by reference, one after another
+-- the locations of a process after it gave those of these numbers by reference, one after another
 abbrev pub lent_at : List ℕ → Locations → Locations
 lent_at [] locations = locations
 lent_at (n ∷ ns) locations = lent_at ns (lend_at locations n)

@@ -67,7 +67,7 @@ impl Location {
         self.ownership
     }
 
-    /// Whether it is its channel's own variable.
+    /// Whether it is its channel's own variable and isn't with a child.
     pub fn own(&self) -> bool
         ensures { result ≡ is_own self.now.ownership }
     {
@@ -101,7 +101,8 @@ impl Location {
         self.ownership = kept(self.ownership);
     }
 
-    /// The value and the ownership of another one come back.
+    /// The value of another one comes back. If this one is lent and the other is the channel's own variable, this
+    /// one is that again.
     pub fn restore_from(&mut self, other: &Location)
         ensures { self.new ≡ given_back other.now self.old }
     {

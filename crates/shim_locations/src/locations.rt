@@ -44,8 +44,8 @@ pub fn value_in(locations: &[Option<Location>], slots: &[usize], slot: u32) -> i
     }
 }
 
-/// All locations of a process. That of a variable is empty until its declaration is executed, that of a
-/// stream always.
+/// All locations of a process. That of a declared variable is empty until its declaration is executed, that of a
+/// handler's variable until the handler takes it. That of a stream is always empty.
 #[derive(Drop)]
 pub struct Locations {
     items: Vec<Option<Location>>,
@@ -142,7 +142,8 @@ impl Locations {
         }
     }
 
-    /// The value and the ownership come back from a location of another process.
+    /// The value comes back from a location of another process, if there is one. The ownership comes back if the
+    /// location here is lent and that one is the channel's own variable.
     #[tactic(auto, unfolding(shim_process::specs::Locations::at_number))]
     pub fn restore(&mut self, number: usize, back: Option<&Location>)
         ensures { self.new ≡ slice_set self.old number (with_back (option_copied back.entry) (at_number self.old number)) }

@@ -6,14 +6,14 @@ ghost use Rattle.shim_locations.specs.Ownerships.{ownership_of};
 /// What a location is to its channel.
 #[derive(Clone, Copy, Debug, PartialEq, Eq)]
 pub enum Ownership {
-    /// The channel's own variable, whose value a rendezvous gives to all others.
+    /// The channel's own variable, whose value a rendezvous gives to each process that waits at a `next` of it.
     Own,
     /// The channel's own variable, but it is with a child of the fork at which the process stands.
     Lent,
     Copy,
 }
 
-/// Whether it is the channel's own variable.
+/// Whether it is that of the channel's own variable, which isn't with a child.
 pub fn is_own(ownership: Ownership) -> bool
     ensures { result ≡ is_own (ownership_of ownership) }
 {
@@ -35,7 +35,7 @@ pub fn kept(ownership: Ownership) -> Ownership
     }
 }
 
-/// The ownership that the branch has of it.
+/// The ownership that the child's location has if a branch takes a location of this ownership by reference.
 pub fn moved(ownership: Ownership) -> Ownership
     ensures { ownership_of result ≡ moved (ownership_of ownership) }
 {

@@ -52,7 +52,7 @@ pub fn fresh(
     Ok(Location::new(chan, ty, value))
 }
 
-// Puts a new channel's own variable behind these; the answer is how many channels the process has made with it.
+// Puts a new channel's own variable after these; the answer is how many channels the process has made with it.
 fn push_fresh(
     passed: &mut List<Option<Location>>,
     home: &Arc<Path>,
@@ -112,7 +112,8 @@ pub fn call_locations(
     })
 }
 
-// The ownership that a location has in the branch that takes it by reference, where one before took it or not.
+// The ownership that a location has in the branch that takes it by reference. `taken` is whether it was given by
+// reference before.
 fn ownership_there(ownership: Ownership, taken: bool) -> Ownership
     ensures { ownership_of result ≡ if taken then Copy else moved (ownership_of ownership) }
 {
@@ -169,7 +170,7 @@ fn branch_location(
     }
 }
 
-// So many elements are no more than memory holds.
+// The sum of two lengths. One that is too large for its type counts as out of memory.
 fn sum(some: usize, more: usize) -> Result<usize, NoMemory> {
     some.checked_add(more).ok_or(NoMemory)
 }
@@ -235,7 +236,7 @@ pub fn with_empties(
     Ok(all)
 }
 
-/// Other values of these channels.
+/// Copies of these channels, in order.
 pub fn copy_channels(alloc: Global, channels: &[Chan]) -> Result<List<Chan>, NoMemory>
     ensures { IfOk result (λ copies. copies ≡ channels.now) }
 {

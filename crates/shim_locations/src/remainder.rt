@@ -51,7 +51,7 @@ fn lend_location(taken: &mut List<usize>, slots: &[usize], arg: &Arg) -> Result<
     }
 }
 
-// The arguments go with the parameters.
+// The locations that the arguments give by reference are taken. An argument without a parameter is left out.
 fn lend_args(
     taken: &mut List<usize>,
     slots: &[usize],
@@ -95,14 +95,14 @@ fn lend_arguments(taken: &mut List<usize>, given: &[Argument]) -> Result<(), NoM
     Ok(())
 }
 
-// Where the input is read by what a branch with these parameters leaves.
+// How many bytes of the input were read, or none if a branch with these parameters takes the input.
 fn input_left(params: &[UParam], at: Option<usize>) -> Option<usize>
     ensures { result ≡ if takes_input params.now then None else at }
 {
     if takes_input(params) { None } else { at }
 }
 
-// Whether a branch with these parameters leaves the output.
+// Whether the process still has the output after a branch with these parameters took its streams.
 fn output_left(params: &[UParam], has_output: bool) -> bool
     ensures { result ≡ if takes_output params.now then false else has_output }
 {

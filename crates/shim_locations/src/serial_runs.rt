@@ -68,7 +68,7 @@ impl SerialRuns {
         })
     }
 
-    /// Room for so much from now on. A refusal changes nothing.
+    /// Room for so many numbers to be added or taken from now on. A refusal changes nothing.
     pub fn reserve(&mut self, room: usize) -> Result<(), NoMemory>
         ensures ok { OnOk result (self.new ≡ record self.old { room = room }) }
         ensures err { OnErr result (self.new ≡ self.old) }
@@ -118,7 +118,7 @@ impl SerialRuns {
     }
 }
 
-// The number stands right behind this run.
+// The number is the next one after the last of this run.
 fn follows(run: SerialRun, serial: u32) -> bool
     requires { last_serial run < serial }
     ensures { result ≡ eqb serial (suc (last_serial run)) }
@@ -170,7 +170,7 @@ fn above(run: SerialRun, serial: u32) -> Option<SerialRun>
     })
 }
 
-// What it has below it.
+// What a run has below one of its numbers.
 fn below(run: SerialRun, serial: u32) -> Option<SerialRun>
     requires { is_in_run serial run ≡ true }
     ensures { option_to_list result ≡ run_below serial run }

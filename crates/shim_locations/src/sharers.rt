@@ -32,7 +32,7 @@ pub fn declared(home: &Arc<Path>, made: u32, untaken: &SerialRuns, c: &Chan) -> 
     *c.home() == **home && c.serial() < made && !untaken.has(c.serial())
 }
 
-// Whether it is the channel's own variable.
+// Whether the location is the channel's own variable and isn't with a child.
 fn is_own(location: &Location, c: &Chan) -> bool
     ensures { result ≡ is_own location.now.ownership && is_on c.now.channel location.now }
 {

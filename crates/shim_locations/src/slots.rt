@@ -15,7 +15,7 @@ fn after(number: usize) -> Result<usize, NoMemory>
     number.checked_add(1).ok_or(NoMemory)
 }
 
-// That of one argument; the answer is the number of the next new location.
+// Adds the number of the location of one argument's slot; the answer is the number of the next new location.
 fn call_slot(slots: &mut List<usize>, next: usize, argument: &Argument) -> Result<usize, NoMemory>
     ensures { IfOk result (λ more. (rest : ListOf ArgumentOf) (declared : ListOf SortOf) → slots.new ++ call_slots more rest declared ≡ slots.old ++ call_slots next (argument_of argument.now ∷ rest) declared) }
 {

@@ -47,14 +47,14 @@ pub fn takes_output(params: &[UParam]) -> bool
     false
 }
 
-/// Where a unit begins to read the input, of which so much is read, if it takes that.
+/// How many bytes of the input were read, for a unit that takes the input, and none for another.
 pub fn input_for(params: &[UParam], at: Option<usize>) -> Option<usize>
     ensures { result ≡ if takes_input params.now then at else None }
 {
     if takes_input(params) { at } else { None }
 }
 
-/// Whether a unit has the output, where its parent had it.
+/// Whether a unit with these parameters has the output: it takes the output, and its parent had it.
 pub fn output_for(params: &[UParam], has_output: bool) -> bool
     ensures { result ≡ if takes_output params.now then has_output else false }
 {

@@ -33,12 +33,12 @@ ReturnAlike codes [] [] [] = Unit {0}
 ReturnAlike codes (f ∷ callers) (x ∷ xs) (y ∷ ys) = LeadAlike (codes f.unit) x.place y.place × (AllLeadAlike (codes f.unit) x.handlers y.handlers × ReturnAlike codes callers xs ys)
 ReturnAlike codes _ _ _ = ⊥
 
--- The handlers and the callers of a process lead to the same marks by either places. The places themselves may differ, since a jump to a mark may be in its place.
+-- The handlers and the callers of a process lead to the same marks by either places. The places themselves may differ, since a jump to a mark may stand in place of the mark.
 pub record GoOnAlike (codes : Codes) (l : LocalState) (handlers : List ℕ) (back : List ReturnPlace) (handlers' : List ℕ) (back' : List ReturnPlace) : Type 0 where
   pub caught : AllLeadAlike (codes l.frame.unit) handlers handlers'
   pub returned : ReturnAlike codes l.callers back back'
 
--- From a machine one comes to this very place, as this state, and goes on from there as with these handlers and callers.
+-- The machine `m` runs to this very place, as this state. The handlers and callers that it has there lead to the same marks as the given ones.
 pub record ComesToPlace (codes : Codes) (bound : ℕ) (m : Machine) (pc : ℕ) (handlers : List ℕ) (back : List ReturnPlace) (l : LocalState) : Type 0 where
   pub own_handlers : List ℕ
   pub own_back : List ReturnPlace
@@ -47,7 +47,7 @@ pub record ComesToPlace (codes : Codes) (bound : ℕ) (m : Machine) (pc : ℕ) (
   pub comes : run_code codes count m ≡ At (between_steps pc own_handlers own_back l)
   pub alike : GoOnAlike codes l own_handlers own_back handlers back
 
--- what the definition says of a statement, the machine does, and comes to this place
+-- what the definition says of a statement, the machine does, and comes to this place unless it traps; of `Wait` this claims nothing
 abbrev pub DoesTo : Codes → ℕ → Machine → Action → ℕ → List ℕ → List ReturnPlace → LocalState → Type 0
 DoesTo codes bound m Wait pc handlers back l = Unit {0}
 DoesTo codes bound m (Trapped t) pc handlers back l = ComesToTrap codes bound m (done (Trapped t) l)

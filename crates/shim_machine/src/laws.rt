@@ -60,7 +60,7 @@ pub fn arguments_are_gathered()
 {}
 
 /// One step of the machine from a mark is what the statement there asks for: it comes to the mark at
-/// which the process stands then, or traps as the process does.
+/// which the process stands then, or traps as the process does. At a statement that isn't quiet this says nothing.
 pub fn one_step()
     ensures { (codes : Codes) (most : ℕ) (l : LocalState) (pc : ℕ) (handlers : List ℕ) (back : List ReturnPlace) → AreCodesOf codes l.program → AreBounded codes most → NextSuits l.frame.todo l → Corresponds codes pc handlers back l → Does codes (step_room most (length l.callers)) (machine (pc + 1) handlers back (line_of l.frame.todo) l) (next_action l) l }
 {}
@@ -129,8 +129,8 @@ pub fn each_place_has_its_height()
     ensures { (u : CodedUnit) → u.code ≡ machine_unit u.units u.body → (pc : ℕ) (i : MachineInstr) → fetch u pc ≡ Some i → HasHeight u pc i × (height_at u (pc + 1) ≡ height_after (height_at u pc) i) }
 {}
 
-/// The instructions that lead past the ends of a unit and of its callers are as many as one unit's code and
-/// one more has, for each of them.
+/// The bound `room` of a unit and its callers is their number times one more than `most`, the bound on the
+/// instructions of a unit's code.
 pub fn room_is_a_product()
     ensures { (most callers : ℕ) → room most callers ≡ (callers + 1) * (most + 1) }
 {}
@@ -151,7 +151,8 @@ pub fn the_machine_comes_to_the_place()
 
 /// From the mark of a state one step of the machine comes to the place at which a process stands that has
 /// taken the step that the definition says, and has its places in the code then, or it traps as the process
-/// does. The machine may have begun with handlers and callers of its own.
+/// does. The machine may have begun with handlers and callers of its own. At a statement that isn't quiet this
+/// says nothing.
 pub fn one_step_comes_to_the_place()
     ensures { (codes : Codes) (most : ℕ) (l : LocalState) (pc pc' : ℕ) (handlers handlers' : List ℕ) (back back' : List ReturnPlace) → AreCodesOf codes l.program → AreBounded codes most → NextSuits l.frame.todo l → Corresponds codes pc handlers back l → Corresponds codes pc' handlers' back' (done (next_action l) l) → DoesTo codes (step_room most (length l.callers)) (machine (pc + 1) handlers back (line_of l.frame.todo) l) (next_action l) pc' handlers' back' l }
 {}

@@ -76,7 +76,7 @@ fn words_that_could_not_be_had_ask_for_nothing(rt: HostRuntime) -> Result<(), Fa
     Ok(())
 }
 
-// The number behind the last space of a line; 0 where there is none.
+// The number after the last space of a line; 0 where there is none.
 fn last_number(line: &str) -> u64 {
     match line.rsplit_once(' ') {
         Some((_, number)) => number.parse().unwrap_or(0),

@@ -18,7 +18,7 @@ pub record Matches {S : Type 0} (pid slot round most : ℕ) (start : S) (g : Ope
   pub most_is : g.most ≡ most
   pub start_is : g.start ≡ start
 
--- the journal with so many quiet steps of the process of the path behind it; no steps are no entry
+-- the journal with one entry more, of so many quiet steps of the process of the path; no steps are no entry
 abbrev pub with_piece : Path → ℕ → List Entry → List Entry
 with_piece p zero js = js
 with_piece p (suc n) js = js ++ Quiet p (suc n) ∷ []
@@ -37,7 +37,7 @@ pub record Absorbs {S : Type 0} (o : Ops S) (before after : NetView S) (pid slot
   pub closes : Closes o before after place used
   pub matches : Matches pid slot round most start closes.grant
 
--- what this answer of `absorb` claims: the first if the piece was taken in; the second if memory ran out; the third if no open grant matches the piece
+-- What this answer of `absorb` claims: the first if the piece was taken in; the second if it was, and memory had been refused for a further step; the third if no open grant matches it.
 abbrev pub OnAbsorbed : {F : Type 0} → Type 0 → Type 0 → (F → Type 0) → Absorbed F → Type 0
 OnAbsorbed taken short stranger Taken = taken
 OnAbsorbed taken short stranger Short = short
@@ -55,7 +55,7 @@ pub record Redoes {S : Type 0} (o : Ops S) (before after : NetView S) : Type 0 w
   pub most : used ≤ closes.grant.most
   pub fewer : FewerWithCause o used closes.grant.most false last
 
--- open grants were closed so, one after the other, and nothing else was done
+-- open grants, or none, were closed one after the other, each as `Redoes` has it, and nothing else was done
 pub data RedoesSome {S : Type 0} (o : Ops S) (before : NetView S) : NetView S → Type 0 where
   redid_none : RedoesSome o before before
   redid_one : (between after : NetView S) → RedoesSome o before between → Redoes o between after → RedoesSome o before after

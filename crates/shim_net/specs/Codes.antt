@@ -13,7 +13,7 @@ grant_code {S} s = code_by (ℕ × (ℕ × (ℕ × (ℕ × S)))) (coded× coded_
     (λ g. (g.pid, (g.slot, (g.round, (g.most, g.start)))))
     (λ p. record { pid = p.0; slot = p.1.0; round = p.1.1.0; most = p.1.1.1.0; start = p.1.1.1.1 }) (λ _. refl)
 
--- the same of nets
+-- a coding of nets as nested pairs, from a coding of states
 abbrev pub net_code : {S : Type 0} → Coded S → Coded (NetView S)
 net_code {S} s = code_by (S × (ℕ × (Tree S × (List Entry × List (OpenGrant S))))) (coded× s (coded× coded_ℕ (coded× (tree_code s) (coded× (coded_list entry_code) (coded_list (grant_code s))))))
     (λ n. (n.root, (n.budget, (n.tree, (n.journal, n.grants)))))

@@ -19,10 +19,10 @@ pub record IsAtHome {S : Type 0} (o : Ops S) (t : Tree S) (grants : List (OpenGr
 abbrev pub GivesNone : {S : Type 0} → Ops S → NetView S → NetView S → Type 0
 GivesNone o before after = (after ≡ before) × ((steps before.tree + reserved_in before.grants ≡ before.budget) ⊎ NoneAtHome o before.tree before.grants)
 
--- a piece of work of some process at home was given out; which process isn't said
+-- a piece of work of a process at home was given out; of several at home nothing says which
 pub record Grants {S : Type 0} (o : Ops S) (before after : NetView S) (most slot round : ℕ) (pid : ℕ) (start : S) (grant : ℕ) : Type 0 where
   pub process : IsAtHome o before.tree before.grants start
-  -- what was asked for, or what is left of the budget
+  -- the lesser of what was asked for and what is left of the budget
   pub lesser : grant ≡ min most (before.budget - (steps before.tree + reserved_in before.grants))
   pub some : 1 ≤ grant
   -- the root alone has the number 0

@@ -9,7 +9,7 @@ use Rattle.shim_net.specs.Nets.{OpenGrant, NetView, reserved_in}
 use Rattle.shim_net.specs.Granting.{NoneAtHome}
 use Rattle.shim_net.specs.Settling.{RestsButForQuiet}
 
--- root and budget are the same, and what was done is in the journal, behind what was there before
+-- root and budget are the same, and what was done is in the journal, after what was there before
 pub record GoesOn {S : Type 0} (o : Ops S) (before after : NetView S) : Type 0 where
   pub root : after.root ≡ before.root
   pub budget : after.budget ≡ before.budget

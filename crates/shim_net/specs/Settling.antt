@@ -25,14 +25,14 @@ abbrev pub AllHappen : {S : Type 0} → Ops S → List Event → Tree S → Tree
 AllHappen o [] t u = t ≡ u
 AllHappen {S} o (e ∷ es) t u = (v : Tree S) × IsNoQuietStep o t e × (after o e t ≡ Some v) × AllHappen o es v u
 
--- so many such events happened, and are in the journal
+-- so many events that are no quiet steps happened one after another, and each is an entry of the journal
 pub record Settles {S : Type 0} (o : Ops S) (before after : NetView S) (count : ℕ) : Type 0 where
   pub events : List Event
   pub counted : length events ≡ count
   pub happened : AllHappen o events before.tree after.tree
   pub after_is : after ≡ record { root = before.root; budget = before.budget; tree = after.tree; journal = before.journal ++ map Did events; grants = before.grants }
 
--- one such event happened, or there is none
+-- For `true` an event that is no quiet step happened. For `false` nothing changed, and each enabled event is a quiet step.
 abbrev pub SettlesOne : {S : Type 0} → Ops S → NetView S → NetView S → Bool → Type 0
 SettlesOne {S} o before after true = (e : Event) × IsNoQuietStep o before.tree e × Happens o before after e
 SettlesOne o before after false = (after ≡ before) × RestsButForQuiet o before.tree

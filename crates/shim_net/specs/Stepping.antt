@@ -25,7 +25,7 @@ abbrev pub IsNextHome : {S : Type 0} → Ops S → NetView S → NetView S → O
 IsNextHome o before after None = GivesNone o before after
 IsNextHome o before after (Some pid) = (after ≡ before) × (1 ≤ left_of before) × IsHomeNumber o before pid
 
--- a process at home did quiet steps, as one entry of the journal
+-- a process at home did as many quiet steps as the answer says, which are one entry of the journal; no steps are no entry
 pub record StepsInPlace {S : Type 0} (o : Ops S) (before after : NetView S) (most : ℕ) (burst : Quiet) : Type 0 where
   pub process : S
   pub last : S

@@ -27,7 +27,7 @@ pub struct Net<L: Local> {
     // with room for an entry of each open grant
     pub(crate) journal: Vec<Entry>,
     pub(crate) grants: Vec<OpenGrant<L>>,
-    // the steps of all open grants
+    // the most steps of all open grants, added up
     pub(crate) reserved: u64,
 }
 

@@ -1,4 +1,4 @@
-// Doing work that was given out again.
+// Doing once more the work that was given out.
 ghost use Rattle.std.specs.Prelude.{◌≡◌, [], IfOk, OnOk, OnErr};
 ghost use Rattle.shim_net.specs.Absorbing.{RedoesOne, RedoesSome};
 ghost use Rattle.shim_net.specs.Progress.{GoesOn, AreAmong};
@@ -31,8 +31,8 @@ impl<L: Local> Net<L> {
         Ok(true)
     }
 
-    /// Does the work of all open grants, each from its start, and takes it in. Where memory is wanted, the
-    /// grants whose work was done stay closed, and the others stay open.
+    /// Does the work of all open grants, each from its start, and takes it in. Where memory runs out, the grants
+    /// whose work was done stay closed, and the others stay open.
     pub fn redo_all(&mut self) -> Result<(), NoMemory>
         ensures redoes { RedoesSome L.ops self.old self.new }
         ensures goes_on { GoesOn L.ops self.old self.new }

@@ -10,9 +10,8 @@ use shim_local::Local;
 use shim_run_log::Entry;
 
 impl<L: Local> Net<L> {
-    /// Does enabled events other than quiet steps, until none is enabled, or all that is left of the
-    /// budget is reserved, and answers how many. Where memory is wanted, the events that were done stay,
-    /// and are in the journal.
+    /// Does enabled events other than quiet steps, until none is enabled, or all that is left of the budget is
+    /// reserved, and answers how many. Where memory runs out, the events that were done stay, and are in the journal.
     pub fn settle(&mut self) -> Result<u64, NoMemory>
         ensures did { IfOk result (λ n. Settles L.ops self.old self.new n) }
         ensures end { OnOk result (RestsButForQuiet L.ops self.new.tree ⊎ (steps self.new.tree + reserved_in self.new.grants ≡ self.new.budget)) }

@@ -38,10 +38,10 @@ impl<L: Local> Net<L> {
         Some(number as u64)
     }
 
-    /// Such a process does quiet steps in place: up to `most`, which are at least 1, or what is left of the
-    /// budget where that is less. They are one entry of the journal, and no grant changes. It does fewer only
-    /// where it comes to another stop, or memory was wanted for a further step (`short`); `None` exactly where
-    /// no process is at home, or nothing is left. Running out of memory before the first step changes nothing.
+    /// A process at home does quiet steps in place: up to `most`, which are at least 1, or what is left of the budget
+    /// where that is less. They are one entry of the journal, and no grant changes. It does fewer only where it comes
+    /// to another stop, or memory was refused for a further step (`short`). `None` exactly where no process is at
+    /// home, or nothing is left. Running out of memory before the first step changes nothing.
     pub fn step(&mut self, most: u64) -> Result<Option<Quiet>, NoMemory>
         requires most { 1 ≤ most }
         ensures ok { IfOk result (λ burst. StepsHome L.ops self.old self.new most burst) }
@@ -50,7 +50,8 @@ impl<L: Local> Net<L> {
         self.enter_and_step(most, &NoOpGate::new())
     }
 
-    /// Does as `step` does, behind the gate, which is entered with the number of the process that is next.
+    /// Enters the gate with the number of the process that is next, and then does as `step` does. Where `step` would
+    /// answer `None` the gate isn't entered.
     pub fn enter_and_step<G: Gate>(
         &mut self,
         most: u64,

@@ -15,7 +15,7 @@ use Rattle.shim_syntax.specs.Grammar.{TextCounts, at_level, new_body, behind_bod
 use Rattle.shim_grammar.specs.Machine.{SymbolStack, Past, Block, Body, Statement, Pars, AfterBody, Branch, ask, go, wants, run_parser}
 use Rattle.shim_grammar.proofs.Runs.{asked, is_left_brace, body_skips}
 use Rattle.shim_parser.specs.declared.fault.ParseFault.{ParseFault}
-use Rattle.shim_parser.specs.Statements.{IsSignAt, IsKeyAt, IsThing, IsBehindPar}
+use Rattle.shim_parser.specs.Statements.{IsSignAt, IsKeyAt, IsThing, IsAfterPar}
 use Rattle.shim_parser.specs.ReaderViews.{ReaderView, Blames, Fails, Reads, reader_with}
 use Rattle.shim_parser.proofs.Exits.{Leads, Took, took, fails_as, fails_under, reads_as, refused}
 use Rattle.shim_parser.proofs.Sequences.{then, same_run, block_leads, fails_there}
@@ -117,7 +117,7 @@ module _ (l : ℕ) (a d e : ReaderView) (y : Bool) (h : IsTrue y ↔ IsSignAt g.
         pub body_branches_fails : (at : ReaderView) (err : ParseFault) → Fails (Pars l 1 ∷ []) s at err → Fails (Body l ∷ []) a at err
         body_branches_fails at err o = fails_as (Body l ∷ []) (Pars l 1 ∷ []) a s at err body_forked o
 
-        pub body_fork_reads : (i : ReaderView) (line : ℕ) (bs : List BranchTree) (ys : List Stmt) → line ≡ brace_place.line → IsBehindPar (record { line = line; what = br.Block xs }) l s.counts i.counts s.rest i.rest bs
+        pub body_fork_reads : (i : ReaderView) (line : ℕ) (bs : List BranchTree) (ys : List Stmt) → line ≡ brace_place.line → IsAfterPar (record { line = line; what = br.Block xs }) l s.counts i.counts s.rest i.rest bs
             → ys ≡ record { line = line; what = st.Par bs } ∷ [] → IsBody limits l a.counts i.counts a.rest i.rest ys
         body_fork_reads i line bs ys o (t', r, cs, e', z, v') ys_are =
             let rest : m.rest ≡ Key k.Par t' ∷ r = fork_rest ∙ e' in

@@ -18,7 +18,7 @@ use Rattle.shim_parser.specs.declared.terminal.Terminal as read
 use Rattle.shim_parser.specs.declared.terminal.Terminal.TheVariants as here
 use Rattle.shim_parser.specs.TerminalView.{terminal_view}
 use Rattle.shim_parser.specs.declared.fault.ParseFault.{ParseFault}
-use Rattle.shim_parser.specs.Functions.{is_void, is_end, IsParameters, IsThrowsHere, IsFunctionBehind, AreAll}
+use Rattle.shim_parser.specs.Functions.{is_void, is_end, IsParameters, IsThrowsHere, IsFunctionAfter, AreAll}
 use Rattle.shim_parser.specs.Parts.{IsNameBefore}
 use Rattle.shim_parser.specs.ReaderViews.{ReaderView, Fails, reader_with, is_last}
 use Rattle.shim_parser.proofs.Exits.{Leads, fails_as, fails_under}
@@ -56,7 +56,7 @@ module _ (a b : ReaderView) (x : List ℕ) (m : IsNameBefore punctuation.LeftPar
       same_counts = m.3 ∙ n.1 ∙ o.1
 
       pub function_reads : (f : ReaderView) (line : ℕ) (ys : List Stmt) → IsBlock limits 1 e.counts f.counts e.rest f.rest ys
-          → IsFunctionBehind line a.counts f.counts a.rest f.rest (record { line = line; name = x; params = ps; throws = ts; body = ys })
+          → IsFunctionAfter line a.counts f.counts a.rest f.rest (record { line = line; name = x; params = ps; throws = ts; body = ys })
       function_reads f line ys i = λ u at v.
           let p : Place = record { at = at; line = line } in
           let body : IsBlock limits 1 (new_function u) f.counts e.rest f.rest ys = subst (λ y. IsBlock limits 1 y f.counts e.rest f.rest ys) (sym same_counts ∙ v) i in
@@ -92,7 +92,7 @@ module _ (a b : ReaderView) (n : ℕ) (fs : List Function) (c : FunctionsSoFar a
       within : is_within (Count many.Functions) (suc n) ≡ true
       within = subst (λ u. is_within (Count many.Functions) u ≡ true) s f
 
-      pub functions_go : (e : ReaderView) (line : ℕ) (x : Function) (gs : List Function) → line ≡ (terminal_place (first b.rest)).line → IsFunctionBehind line d.counts e.counts d.rest e.rest x → gs ≡ fs ++ x ∷ []
+      pub functions_go : (e : ReaderView) (line : ℕ) (x : Function) (gs : List Function) → line ≡ (terminal_place (first b.rest)).line → IsFunctionAfter line d.counts e.counts d.rest e.rest x → gs ≡ fs ++ x ∷ []
           → FunctionsSoFar a e i gs
       functions_go e line x gs l m v =
           let at : ℕ = (terminal_place (first b.rest)).at in

@@ -22,7 +22,7 @@ use Rattle.shim_parser.specs.TerminalView.{terminal_view}
 use Rattle.shim_parser.specs.declared.fault.ParseFault.{ParseFault}
 use Rattle.shim_parser.specs.Parts.{IsPunctuation, IsWholeBefore}
 use Rattle.shim_parser.specs.Declares.{IsDeclaredHere}
-use Rattle.shim_parser.specs.Headers.{IsValueBehind}
+use Rattle.shim_parser.specs.Headers.{IsValueAfter}
 use Rattle.shim_parser.specs.ReaderViews.{ReaderView, Fails, reader_with}
 use Rattle.shim_parser.proofs.Exits.{Leads, took, fails_as, fails_under}
 use Rattle.shim_parser.proofs.ExprExits.{Counted, counted_took}
@@ -82,13 +82,13 @@ module _ (l : ℕ) (a b d i : ReaderView) (x o : List ℕ) (p : Place) (value : 
   target_took : Counted (at_level l) (Name x p) a d
   target_took = counted_took (at_level l) (Name x p) a b d (sym h) e q
 
-  pub first_assign_reads : IsValueBehind punctuation.Semicolon l d.counts i.counts d.rest i.rest value → IsFirst limits l a.counts i.counts a.rest i.rest xs
+  pub first_assign_reads : IsValueAfter punctuation.Semicolon l d.counts i.counts d.rest i.rest value → IsFirst limits l a.counts i.counts a.rest i.rest xs
   first_assign_reads v =
       let r : IsWhole limits l (at_level l a.counts) i.counts v.2 (Sign g.Semicolon v.1 ∷ i.rest) value =
       subst (λ u. IsWhole limits l u i.counts v.2 (Sign g.Semicolon v.1 ∷ i.rest) value) target_took.counts v.4 in
       rw (s, same, target_took.rest, v.3) (is.first_assign n r)
 
-  pub step_reads : IsValueBehind punctuation.RightParen l d.counts i.counts d.rest i.rest value → IsStep limits l a.counts i.counts a.rest i.rest xs
+  pub step_reads : IsValueAfter punctuation.RightParen l d.counts i.counts d.rest i.rest value → IsStep limits l a.counts i.counts a.rest i.rest xs
   step_reads v =
       let r : IsWhole limits l (at_level l a.counts) i.counts v.2 (Sign g.RightParen v.1 ∷ i.rest) value =
       subst (λ u. IsWhole limits l u i.counts v.2 (Sign g.RightParen v.1 ∷ i.rest) value) target_took.counts v.4 in

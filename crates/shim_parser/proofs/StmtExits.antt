@@ -29,7 +29,7 @@ use Rattle.shim_parser.specs.declared.fault.ParseFault.{ParseFault}
 use Rattle.shim_grammar.specs.declared.punctuation.Punctuation.TheVariants as punctuation
 use Rattle.shim_parser.specs.Parts.{IsPunctuation}
 use Rattle.shim_parser.specs.Calls.{IsCall}
-use Rattle.shim_parser.specs.Statements.{IsSignAt, IsKeyAt, IsThing, IsAssigned, IsNamed, IsBraced, IsBehindPar, IsNumberedBranch}
+use Rattle.shim_parser.specs.Statements.{IsSignAt, IsKeyAt, IsThing, IsAssigned, IsNamed, IsBraced, IsAfterPar, IsNumberedBranch}
 use Rattle.shim_parser.specs.ReaderViews.{ReaderView, Fails, Reads}
 use Rattle.shim_parser.proofs.Exits.{Leads, Took, took, fails_as, fails_under, reads_as}
 use Rattle.shim_parser.proofs.Sequences.{then, same_run, punctuation_leads, call_leads, block_leads}
@@ -81,13 +81,13 @@ abbrev Rest : ℕ → ℕ → TextCounts → TextCounts → List Terminal → Li
 Rest l n v w m r bs = ((m ≡ r) × (is_par (first r) ≡ false) × (bs ≡ []) × (v ≡ w)) ⊎ ((p : Place) × (q : List Terminal) × (m ≡ Key k.Par p ∷ q) × IsBranches limits l n v w q r bs)
 
 pub record ForkSoFar (l n : ℕ) (b : BranchTree) (a d : ReaderView) (all : List BranchTree) : Type 0 where
-  pub reads : (w : TextCounts) (r : List Terminal) (bs : List BranchTree) → Rest l n d.counts w d.rest r bs → IsBehindPar b l a.counts w a.rest r (all ++ bs)
+  pub reads : (w : TextCounts) (r : List Terminal) (bs : List BranchTree) → Rest l n d.counts w d.rest r bs → IsAfterPar b l a.counts w a.rest r (all ++ bs)
   pub runs : Leads (Pars l 1 ∷ []) (Pars l n ∷ []) a d
   pub few : n ≤ 64
 
 pub fork_end : (l n : ℕ) (b : BranchTree) (a d : ReaderView) (all : List BranchTree) (y : Bool) → ForkSoFar l n b a d all → IsTrue y ↔ IsKeyAt k.Par (first d.rest) → y ≡ false
-    → IsBehindPar b l a.counts d.counts a.rest d.rest all
-fork_end l n b a d all y c h e = subst (λ u. IsBehindPar b l a.counts d.counts a.rest d.rest u) (append-nil all) (c.reads d.counts d.rest [] (inl (refl, not_par (first d.rest) y h e, refl, refl)))
+    → IsAfterPar b l a.counts d.counts a.rest d.rest all
+fork_end l n b a d all y c h e = subst (λ u. IsAfterPar b l a.counts d.counts a.rest d.rest u) (append-nil all) (c.reads d.counts d.rest [] (inl (refl, not_par (first d.rest) y h e, refl, refl)))
 
 -- one more branch: at d stands `par`, at m what follows it, and at n what follows the branch
 module _ (l c : ℕ) (b : BranchTree) (a d m : ReaderView) (all : List BranchTree) (j : ℕ) (e : j ≡ suc c) (y : Bool) (f : ForkSoFar l c b a d all) (h : IsTrue y ↔ IsKeyAt k.Par (first d.rest)) (i : y ≡ true)
@@ -202,7 +202,7 @@ module _ (l line : ℕ) (x : List ℕ) (a : ReaderView) (y : Bool) (h : IsTrue y
       named_branches_fails at err f = fails_as (AfterWord l ∷ []) (Pars l 1 ∷ []) a m at err
           (then (AfterWord l ∷ []) (Arguments l ∷ Fixed punctuation.Semicolon ∷ Pars l 1 ∷ []) (Pars l 1 ∷ []) a d m named_opened (call_leads l (Pars l 1 ∷ []) d m xs u)) f
 
-      pub named_fork : (n : ReaderView) (bs : List BranchTree) → IsBehindPar (record { line = line; what = br.Call (record { function = x; args = xs }) }) l m.counts n.counts m.rest n.rest bs
+      pub named_fork : (n : ReaderView) (bs : List BranchTree) → IsAfterPar (record { line = line; what = br.Call (record { function = x; args = xs }) }) l m.counts n.counts m.rest n.rest bs
           → IsNamed x line l a.counts n.counts a.rest n.rest (st.Par bs)
       named_fork n bs (p, q, cs, e, w, v) at = rw (t.1, t.2, v) (is.call_fork (subst (λ i. IsArguments limits l d.counts m.counts d.rest (Sign g.Semicolon u.0 ∷ i) xs) e u.1) w)
 
@@ -221,7 +221,7 @@ module _ (l line j : ℕ) (e : j ≡ suc l) (a : ReaderView) where
     pub braced_branches_fails : (at : ReaderView) (err : ParseFault) → Fails (Pars l 1 ∷ []) m at err → Fails (Block (suc l) ∷ Pars l 1 ∷ []) a at err
     braced_branches_fails at err f = fails_as (Block (suc l) ∷ Pars l 1 ∷ []) (Pars l 1 ∷ []) a m at err (block_leads (suc l) (Pars l 1 ∷ []) a m xs braced_block_is) f
 
-    pub braced_fork : (n : ReaderView) (bs : List BranchTree) → IsBehindPar (record { line = line; what = br.Block xs }) l m.counts n.counts m.rest n.rest bs
+    pub braced_fork : (n : ReaderView) (bs : List BranchTree) → IsAfterPar (record { line = line; what = br.Block xs }) l m.counts n.counts m.rest n.rest bs
         → IsBraced line l a.counts n.counts a.rest n.rest (st.Par bs)
     braced_fork n bs (p, q, cs, e, w, v) at = rw v (is.block_fork (subst (λ i. IsBlock limits (suc l) a.counts m.counts a.rest i xs) e braced_block_is) w)
 

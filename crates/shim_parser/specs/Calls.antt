@@ -12,6 +12,6 @@ use Rattle.shim_syntax.specs.Grammar.{TextCounts, IsWhole, IsArguments}
 abbrev pub IsArgument : ℕ → ℕ → TextCounts → TextCounts → List Terminal → List Terminal → Expr → Type 0
 IsArgument n l v w s r x = (is_within (Count Arguments) n ≡ true) × IsWhole limits l v w s r x
 
--- arguments up to a semicolon
+-- the arguments of a call after the left parenthesis, with the right one and the semicolon
 abbrev pub IsCall : ℕ → TextCounts → TextCounts → List Terminal → List Terminal → List Expr → Type 0
 IsCall l v w s r xs = (p : Place) × IsArguments limits l v w s (Sign Semicolon p ∷ r) xs

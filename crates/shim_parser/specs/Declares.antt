@@ -8,7 +8,7 @@ use Rattle.shim_syntax.specs.Grammar.{TextCounts, IsDeclared}
 use Rattle.shim_grammar.specs.Machine.{is_operator}
 use Rattle.shim_parser.specs.declared.name_value.Declared.{Declared}
 
--- whether it is the sign `=`
+-- whether the terminal is the sign `=`
 abbrev pub is_equal : Terminal → Bool
 is_equal (Sign Equal p) = true
 is_equal _ = false

@@ -11,7 +11,7 @@ use Rattle.shim_syntax.specs.Terminals.{Terminal, Name, Sort, Key, Sign, End}
 use Rattle.shim_syntax.specs.Limits.{Count, limits, is_within}
 use Rattle.shim_syntax.specs.Grammar.{TextCounts, new_function, IsParam, IsParams, IsThrows, IsFunction, IsFunctions}
 
--- the `&` of a parameter
+-- whether the terminal is the sign `&`
 abbrev pub is_ampersand : Terminal → Bool
 is_ampersand (Sign Amp p) = true
 is_ampersand _ = false
@@ -20,7 +20,7 @@ abbrev pub is_comma : Terminal → Bool
 is_comma (Sign Comma p) = true
 is_comma _ = false
 
--- a parameter begins with it
+-- whether a parameter begins with the terminal
 abbrev pub is_sort : Terminal → Bool
 is_sort (Sort sort p) = true
 is_sort _ = false
@@ -45,7 +45,7 @@ IsParameter n v w s r x = (is_within (Count Parameters) n ≡ true) × IsParam s
 abbrev pub IsParameters : TextCounts → TextCounts → List Terminal → List Terminal → List Param → Type 0
 IsParameters v w s r xs = IsParams limits s r xs × (v ≡ w)
 
--- the name of that number
+-- the exception of that number in a `throws`, which changes no count
 abbrev pub IsThrown : ℕ → TextCounts → TextCounts → List Terminal → List Terminal → List ℕ → Type 0
 IsThrown n v w s r x = (p : Place) × (s ≡ Name x p ∷ r) × (is_within (Count Throws) n ≡ true) × (v ≡ w)
 
@@ -53,9 +53,9 @@ IsThrown n v w s r x = (p : Place) × (s ≡ Name x p ∷ r) × (is_within (Coun
 abbrev pub IsThrowsHere : TextCounts → TextCounts → List Terminal → List Terminal → List (List ℕ) → Type 0
 IsThrowsHere v w s r xs = IsThrows limits s r xs × (v ≡ w)
 
--- behind a `void` on that line, where the declarations are counted from none on
-abbrev pub IsFunctionBehind : ℕ → TextCounts → TextCounts → List Terminal → List Terminal → Function → Type 0
-IsFunctionBehind line v w s r f = (u : TextCounts) (at : ℕ) → v ≡ new_function u → IsFunction limits u w (Key Void (record { at = at; line = line }) ∷ s) r f
+-- the rest of a function after its `void`, which stands on that line; none of its declarations is counted before
+abbrev pub IsFunctionAfter : ℕ → TextCounts → TextCounts → List Terminal → List Terminal → Function → Type 0
+IsFunctionAfter line v w s r f = (u : TextCounts) (at : ℕ) → v ≡ new_function u → IsFunction limits u w (Key Void (record { at = at; line = line }) ∷ s) r f
 
 -- all of a program's functions, before the end of the text, which is left
 abbrev pub AreAll : TextCounts → TextCounts → List Terminal → List Terminal → List Function → Type 0

@@ -11,8 +11,8 @@ use Rattle.shim_parser.specs.declared.for_parts.ForParts.{ForParts}
 use Rattle.shim_parser.specs.Parts.{punctuationed}
 
 -- an `=`, a value, and a punctuation
-abbrev pub IsValueBehind : Punctuation → ℕ → TextCounts → TextCounts → List Terminal → List Terminal → Expr → Type 0
-IsValueBehind f l v w s r x = (p : Place) × (q : Place) × (m : List Terminal) × (s ≡ Sign Equal p ∷ m) × IsWhole limits l v w m (punctuationed f q ∷ r) x
+abbrev pub IsValueAfter : Punctuation → ℕ → TextCounts → TextCounts → List Terminal → List Terminal → Expr → Type 0
+IsValueAfter f l v w s r x = (p : Place) × (q : Place) × (m : List Terminal) × (s ≡ Sign Equal p ∷ m) × IsWhole limits l v w m (punctuationed f q ∷ r) x
 
 -- the parentheses of a `for` of the level l
 abbrev pub IsHeader : ℕ → TextCounts → TextCounts → List Terminal → List Terminal → ForParts → Type 0

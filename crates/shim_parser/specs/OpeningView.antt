@@ -23,7 +23,7 @@ opening_view o.For p = t.Key k.For p
 opening_view o.Try p = t.Key k.Try p
 opening_view o.Throw p = t.Key k.Throw p
 
--- a statement begins with it
+-- whether a statement begins with the terminal
 abbrev pub opens : Terminal → Bool
 opens (t.Sign g.Semicolon p) = true
 opens (t.Sign g.LeftBrace p) = true

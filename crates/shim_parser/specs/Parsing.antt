@@ -8,7 +8,7 @@ use Rattle.shim_syntax.specs.Text.{FaultCause, Lexical, IsText, HasFault}
 use Rattle.shim_parser.specs.declared.fault.ParseFault.{ParseFault}
 use Rattle.shim_parser.specs.declared.fault.ParseFault.TheVariants.{Lex, Unexpected, TooDeep, TooMany, NoMemory}
 
--- what a fault's value says: which fault it is, and where it stands, or on which line
+-- The value reports a fault of that cause at that place. Of nesting and of counts it has the line alone. `NoMemory` reports no fault of a text.
 abbrev pub IsReportedAs : ParseFault → FaultCause → Place → Type 0
 IsReportedAs (Lex f) fault place = (fault ≡ Lexical f.kind) × (place ≡ record { at = f.at; line = f.line })
 IsReportedAs (Unexpected at line) fault place = (fault ≡ text.Unexpected) × (place ≡ record { at = at; line = line })
@@ -26,7 +26,7 @@ ParsesAs bytes (Ok program) = IsText bytes program
 ParsesAs bytes (Err NoMemory) = Unit {0}
 ParsesAs bytes (Err fault) = IsFaultOf bytes fault
 
--- no other answer comes but `NoMemory`: a text of a program gives that program, and a text with a fault this fault
+-- A program that is answered is the only one of the text, which has no fault. If a fault is answered, the text is of no program, and the value reports each fault of the text. `NoMemory` claims nothing.
 abbrev pub IsOnly : List ℕ → Result Program ParseFault → Type 0
 IsOnly bytes (Ok program) = ((other : Program) → IsText bytes other → other ≡ program) × ((f : FaultCause) (place : Place) → HasFault bytes f place → ⊥)
 IsOnly bytes (Err NoMemory) = Unit {0}

@@ -46,7 +46,7 @@ IsName v w s r x = (p : Place) × (s ≡ Name x p ∷ r) × (v ≡ w)
 abbrev pub IsNameBefore : Punctuation → TextCounts → TextCounts → List Terminal → List Terminal → List ℕ → Type 0
 IsNameBefore f v w s r x = (p : Place) × (q : Place) × (s ≡ Name x p ∷ punctuationed f q ∷ r) × (v ≡ w)
 
--- an operand begins with it
+-- whether an operand begins with the terminal
 abbrev pub begins_operand : Terminal → Bool
 begins_operand (Number n p) = true
 begins_operand (Name x p) = true
@@ -56,7 +56,7 @@ begins_operand (Sign g.Bang p) = true
 begins_operand (Sign g.Tilde p) = true
 begins_operand _ = false
 
--- an operand that is a thing of that level begins here
+-- an operand begins with the first terminal, which is left; the limit allows the level, and the level is counted
 abbrev pub IsEntered : ℕ → TextCounts → TextCounts → List Terminal → List Terminal → Unit {0} → Type 0
 IsEntered l v w s r x = (is_within Nesting l ≡ true) × (w ≡ at_level l v) × (s ≡ r) × (begins_operand (first s) ≡ true)
 

@@ -18,7 +18,7 @@ pub record ReaderView : Type 0 where
 abbrev pub reader_with : (TextCounts → TextCounts) → ReaderView → ReaderView
 reader_with f r = record { rest = r.rest; counts = f r.counts }
 
--- the end of a text, in whatever way it ends
+-- whether the terminal is the end of a text, or where the text can't be cut any further
 abbrev pub is_last : Terminal → Bool
 is_last (End p) = true
 is_last (Broken kind p) = true
@@ -29,7 +29,7 @@ abbrev pub FitsName : Terminal → Type 0
 FitsName (Name text p) = (1 ≤ length text) × (length text ≤ 64)
 FitsName _ = Unit {0}
 
--- names are of their length, and the last terminal alone is an end
+-- There is a terminal, each name has 1 to 64 bytes, and the last terminal alone passes `is_last`.
 abbrev pub Proper : List Terminal → Type 0
 Proper [] = ⊥
 Proper (t ∷ []) = is_last t ≡ true
@@ -54,12 +54,12 @@ abbrev pub Fails : SymbolStack → ReaderView → ReaderView → ParseFault → 
 Fails stack old new NoMemory = Unit {0}
 Fails stack old new fault = Halts stack old new fault
 
--- A value that was read has the relation to what was left before and after. Of a fault, the machine with these symbols to come halts at the terminals that are left. `NoMemory` claims nothing.
+-- A value that was read has the relation X to the counts and the terminals that are left, before and after. Of a fault, the machine with these symbols to come halts at the terminals that are left. `NoMemory` claims nothing.
 abbrev pub Reads : {V : Type 0} → (TextCounts → TextCounts → List Terminal → List Terminal → V → Type 0) → SymbolStack → Result V ParseFault → ReaderView → ReaderView → Type 0
 Reads X stack (Ok x) old new = X old.counts new.counts old.rest new.rest x
 Reads X stack (Err fault) old new = Fails stack old new fault
 
--- the limit allows the number, and it is counted; or it doesn't, and nothing changes
+-- If the limit allows the number, `count` changes the counts. If it doesn't, nothing changes, and the fault blames the limit at the first terminal.
 abbrev pub CountsWithin : Limit → ℕ → (TextCounts → TextCounts) → Result (Unit {0}) ParseFault → ReaderView → ReaderView → Type 0
 CountsWithin limit n count (Ok x) old new = (is_within limit n ≡ true) × (new ≡ reader_with count old)
 CountsWithin limit n count (Err fault) old new = (is_within limit n ≡ false) × (new ≡ old) × Blames fault (Past limit) (first old.rest)

@@ -23,7 +23,7 @@ IsSignAt sign t = (p : Place) × (t ≡ Sign sign p)
 abbrev pub IsKeyAt : Keyword → Terminal → Type 0
 IsKeyAt key t = (p : Place) × (t ≡ Key key p)
 
--- a statement as a thing of that level
+-- a statement that is a thing of the level l: the limit allows the level, and the level is counted
 abbrev pub IsThing : ℕ → TextCounts → TextCounts → List Terminal → List Terminal → List Stmt → Type 0
 IsThing l v w s r xs = (is_within Nesting l ≡ true) × IsStmt limits l (at_level l v) w s r xs
 
@@ -37,25 +37,25 @@ Becomes line (Ok what) (Ok xs) = xs ≡ stmt_on_line line what
 Becomes line (Ok what) (Err e) = e ≡ NoMemory
 Becomes line (Err e) result = result ≡ Err e
 
--- behind a keyword
+-- the rest of a statement after that keyword, whatever place the keyword has
 abbrev pub IsKeyed : Keyword → ℕ → TextCounts → TextCounts → List Terminal → List Terminal → What → Type 0
 IsKeyed key l v w s r what = (p : Place) → IsPlain limits l v w (Key key p ∷ s) r (stmt_on_line p.line what)
 
--- behind a name and `=`
+-- the rest of an assignment after the name x and `=`, whatever places these have
 abbrev pub IsAssigned : List ℕ → ℕ → TextCounts → TextCounts → List Terminal → List Terminal → What → Type 0
 IsAssigned x l v w s r what = (p q : Place) → IsPlain limits l v w (Name x p ∷ Sign Equal q ∷ s) r (stmt_on_line p.line what)
 
--- behind a name on that line
+-- the rest of a statement after the name x, which stands on that line
 abbrev pub IsNamed : List ℕ → ℕ → ℕ → TextCounts → TextCounts → List Terminal → List Terminal → What → Type 0
 IsNamed x line l v w s r what = (at : ℕ) → IsPlain limits l v w (Name x (record { at = at; line = line }) ∷ s) r (stmt_on_line line what)
 
--- behind a left brace on that line
+-- the rest of a block, or of a fork that begins with one, after the left brace, which stands on that line
 abbrev pub IsBraced : ℕ → ℕ → TextCounts → TextCounts → List Terminal → List Terminal → What → Type 0
 IsBraced line l v w s r what = (at : ℕ) → IsStmt limits l v w (Sign LeftBrace (record { at = at; line = line }) ∷ s) r (stmt_on_line line what)
 
--- from the first `par` on; all branches, with that first one
-abbrev pub IsBehindPar : Branch → ℕ → TextCounts → TextCounts → List Terminal → List Terminal → List Branch → Type 0
-IsBehindPar b l v w s r bs = (p : Place) × (m : List Terminal) × (others : List Branch) × (s ≡ Key k.Par p ∷ m) × IsBranches limits l 1 v w m r others × (bs ≡ b ∷ others)
+-- the branches bs of a fork: the given branch b, and those from the first `par` on
+abbrev pub IsAfterPar : Branch → ℕ → TextCounts → TextCounts → List Terminal → List Terminal → List Branch → Type 0
+IsAfterPar b l v w s r bs = (p : Place) × (m : List Terminal) × (others : List Branch) × (s ≡ Key k.Par p ∷ m) × IsBranches limits l 1 v w m r others × (bs ≡ b ∷ others)
 
 -- the branch of that number
 abbrev pub IsNumberedBranch : ℕ → ℕ → TextCounts → TextCounts → List Terminal → List Terminal → Branch → Type 0

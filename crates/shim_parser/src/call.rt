@@ -31,7 +31,7 @@ fn argument(alloc: Global, tokens: &mut Reader, n: u16, level: u16) -> Result<Ex
     expression(alloc, tokens, level)
 }
 
-/// The arguments behind the left parenthesis, with the right one.
+/// The arguments after the left parenthesis of a call, with the right one.
 fn arguments(alloc: Global, tokens: &mut Reader, level: u16) -> Result<List<Expr>, ParseFault>
     requires { level ≤ 64 }
     ensures { Reads (IsArguments limits level) (Arguments level ∷ []) result tokens.old tokens.new }
@@ -61,7 +61,7 @@ fn arguments(alloc: Global, tokens: &mut Reader, level: u16) -> Result<List<Expr
     }
 }
 
-/// The arguments, and the semicolon behind them.
+/// The arguments of a call after the left parenthesis, the right parenthesis, and the semicolon.
 pub(crate) fn call(alloc: Global, tokens: &mut Reader, level: u16) -> Result<List<Expr>, ParseFault>
     requires { level ≤ 64 }
     ensures { Reads (IsCall level) (Arguments level ∷ Fixed Semicolon ∷ []) result tokens.old tokens.new }

@@ -42,7 +42,7 @@ pub(crate) fn declared(
     Ok(Declared { name, value: None })
 }
 
-/// The declared names behind a type that stands on this line, with the semicolon.
+/// The declared names that follow a type on this line, with their first values and the semicolon.
 pub(crate) fn declarations(
     alloc: Global,
     tokens: &mut Reader,

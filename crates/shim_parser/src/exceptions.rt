@@ -1,4 +1,5 @@
-// What stands behind the exception of a `throw` and of a `catch`, which version 2 has more of.
+// What stands after the exception of a `throw` and of a `catch`. Version 2 alone allows a number or a
+// variable there.
 ghost use Rattle.std.specs.Prelude.{◌≤◌, [], ◌∷◌};
 ghost use Rattle.shim_base.specs.declared.token.Sign.TheVariants as g;
 ghost use Rattle.shim_syntax.specs.Terminals.{first};

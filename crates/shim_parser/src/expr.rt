@@ -58,7 +58,7 @@ fn enter_operand(tokens: &mut Reader, level: u16) -> Result<(), ParseFault>
     tokens.enter(level)
 }
 
-/// The operand of an operator with one operand, at the operator.
+/// An operator with one operand, which is the next terminal, together with the operand.
 #[cycle(expr)]
 fn operand_of(alloc: Global, tokens: &mut Reader, op: UnOp, level: u16) -> Result<Expr, ParseFault>
     requires level { level ≤ 64 }
@@ -136,7 +136,7 @@ pub(crate) fn expression(alloc: Global, tokens: &mut Reader, level: u16) -> Resu
     row(alloc, tokens, LOOSEST, level)
 }
 
-/// A whole expression, and the terminal that must come behind it.
+/// A whole expression, and the punctuation that must come after it.
 pub(crate) fn expression_before(
     alloc: Global,
     tokens: &mut Reader,

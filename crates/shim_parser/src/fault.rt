@@ -12,12 +12,12 @@ use std::alloc::{AllocError, AllocFailed};
 pub enum ParseFault {
     /// The bytes there make no token.
     Lex(LexFault),
-    /// No program has this token behind those before it. Where the text ends too early, the place is its
-    /// end.
+    /// No program begins with the tokens before this one and then this one. If the text ends too early, the
+    /// place is the end of the text.
     Unexpected { at: usize, line: u32 },
     /// Statements, parentheses and operands stand in each other more than `MOST_NESTING` deep.
     TooDeep { line: u32 },
-    /// The text has more of these than `what.most()` where that is the limit.
+    /// The part of the text that this limit is for has more of these than `what.most()`.
     TooMany { what: Many, line: u32 },
     /// No memory was found, which says nothing of the text.
     NoMemory,

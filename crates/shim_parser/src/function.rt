@@ -6,7 +6,7 @@ ghost use Rattle.shim_grammar.specs.declared.punctuation.Punctuation.TheVariants
 ghost use Rattle.shim_syntax.specs.Terminals.{first};
 ghost use Rattle.shim_syntax.specs.Grammar as grammar;
 ghost use Rattle.shim_parser.specs.Functions as pieces;
-ghost use Rattle.shim_parser.specs.Functions.{IsParameter, IsParameters, IsThrown, IsThrowsHere, IsFunctionBehind, AreAll};
+ghost use Rattle.shim_parser.specs.Functions.{IsParameter, IsParameters, IsThrown, IsThrowsHere, IsFunctionAfter, AreAll};
 ghost use Rattle.shim_parser.specs.ReaderViews.{Reads};
 
 use crate::fault::ParseFault;
@@ -69,7 +69,7 @@ fn is_throws(tokens: &Reader) -> bool
     }
 }
 
-/// Whether the text ends here.
+/// Whether the next terminal is the end of the text.
 fn is_end(tokens: &Reader) -> bool
     ensures { result ≡ pieces.is_end (first tokens.now.rest) }
 {
@@ -113,7 +113,7 @@ fn parameter(alloc: Global, tokens: &mut Reader, n: u16) -> Result<Param, ParseF
     })
 }
 
-/// The parameters behind the left parenthesis, with the right one.
+/// The parameters after the left parenthesis of a function, with the right one.
 fn parameters(alloc: Global, tokens: &mut Reader) -> Result<List<Param>, ParseFault>
     ensures { Reads IsParameters (Parameters ∷ []) result tokens.old tokens.new }
 {
@@ -179,9 +179,9 @@ fn throws(alloc: Global, tokens: &mut Reader) -> Result<List<Name>, ParseFault>
     }
 }
 
-/// Behind `void` on this line.
+/// The rest of a function after its `void`, which stands on this line.
 fn function(alloc: Global, tokens: &mut Reader, line: u32) -> Result<Function, ParseFault>
-    ensures { Reads (IsFunctionBehind line) (Word ∷ Fixed punctuation.LeftParen ∷ Parameters ∷ machine.Throws ∷ Block 1 ∷ []) result tokens.old tokens.new }
+    ensures { Reads (IsFunctionAfter line) (Word ∷ Fixed punctuation.LeftParen ∷ Parameters ∷ machine.Throws ∷ Block 1 ∷ []) result tokens.old tokens.new }
 {
     let name = name_before(alloc, tokens, Punctuation::LeftParen)?;
     let params = parameters(alloc, tokens)?;

@@ -5,7 +5,7 @@ ghost use Rattle.shim_syntax.specs.Limits.{limits};
 ghost use Rattle.shim_syntax.specs.Grammar.{IsFirst, IsTest, IsStep};
 ghost use Rattle.shim_grammar.specs.Machine.{Fixed, Expression, Operators, First, Test, Step};
 ghost use Rattle.shim_grammar.specs.declared.punctuation.Punctuation.TheVariants as punctuation;
-ghost use Rattle.shim_parser.specs.Headers.{IsValueBehind, IsHeader};
+ghost use Rattle.shim_parser.specs.Headers.{IsValueAfter, IsHeader};
 ghost use Rattle.shim_parser.specs.ReaderViews.{Reads};
 
 use crate::declare::declared;
@@ -21,21 +21,21 @@ use shim_grammar::Punctuation;
 use shim_syntax::{Expr, Sort, Stmt, What};
 use std::alloc::Global;
 
-/// The value behind the `=` of an assignment, and the terminal that must come behind it.
-fn value_behind_equal(
+/// The `=` of an assignment, its value, and the punctuation that must come after the value.
+fn value_after_equal(
     alloc: Global,
     tokens: &mut Reader,
     level: u16,
     behind: Punctuation,
 ) -> Result<Expr, ParseFault>
     requires { level ≤ 64 }
-    ensures { Reads (IsValueBehind behind level) (Fixed punctuation.Equal ∷ Expression level ∷ Operators level ∷ Fixed behind ∷ []) result tokens.old tokens.new }
+    ensures { Reads (IsValueAfter behind level) (Fixed punctuation.Equal ∷ Expression level ∷ Operators level ∷ Fixed behind ∷ []) result tokens.old tokens.new }
 {
     punctuation(tokens, Punctuation::Equal)?;
     expression_before(alloc, tokens, level, behind)
 }
 
-/// An assignment on this line, alone.
+/// A list of one assignment, which stands on this line.
 fn assignment(alloc: Global, line: u32, name: Name, value: Expr) -> Result<List<Stmt>, NoMemory>
     ensures { IfOk result (λ list. list ≡ record { line = line; what = Assign name value } ∷ []) }
 {
@@ -43,7 +43,7 @@ fn assignment(alloc: Global, line: u32, name: Name, value: Expr) -> Result<List<
     alone(alloc, Stmt { line, what })
 }
 
-/// The first statement of a `for`, which has this level, with its semicolon.
+/// The first statement of a `for`, with its semicolon. The statement, if there is one, has this level.
 fn first_statement(alloc: Global, tokens: &mut Reader, level: u16) -> Result<List<Stmt>, ParseFault>
     ensures { Reads (IsFirst limits level) (First level ∷ []) result tokens.old tokens.new }
 {
@@ -70,7 +70,7 @@ fn first_statement(alloc: Global, tokens: &mut Reader, level: u16) -> Result<Lis
         Terminal::Name(text) => {
             tokens.enter(level)?;
             tokens.advance();
-            let value = value_behind_equal(alloc, tokens, level, Punctuation::Semicolon)?;
+            let value = value_after_equal(alloc, tokens, level, Punctuation::Semicolon)?;
             let name = Name::new(alloc, text)?;
             Ok(assignment(alloc, token.line, name, value)?)
         }
@@ -91,7 +91,7 @@ fn test(alloc: Global, tokens: &mut Reader, level: u16) -> Result<Option<Expr>, 
     Ok(Some(test))
 }
 
-/// The step of a `for`, which has this level, with the right parenthesis.
+/// The step of a `for`, with the right parenthesis. The step, if there is one, has this level.
 fn step(alloc: Global, tokens: &mut Reader, level: u16) -> Result<List<Stmt>, ParseFault>
     ensures { Reads (IsStep limits level) (Step level ∷ []) result tokens.old tokens.new }
 {
@@ -104,7 +104,7 @@ fn step(alloc: Global, tokens: &mut Reader, level: u16) -> Result<List<Stmt>, Pa
         Terminal::Name(text) => {
             tokens.enter(level)?;
             tokens.advance();
-            let value = value_behind_equal(alloc, tokens, level, Punctuation::RightParen)?;
+            let value = value_after_equal(alloc, tokens, level, Punctuation::RightParen)?;
             let name = Name::new(alloc, text)?;
             Ok(assignment(alloc, token.line, name, value)?)
         }
@@ -112,7 +112,7 @@ fn step(alloc: Global, tokens: &mut Reader, level: u16) -> Result<List<Stmt>, Pa
     }
 }
 
-/// What stands in the parentheses of a `for` of this level, with these.
+/// The parentheses of a `for` of this level, with what stands in them.
 pub(crate) fn header(alloc: Global, tokens: &mut Reader, level: u16) -> Result<ForParts, ParseFault>
     requires { level ≤ 64 }
     ensures { Reads (IsHeader level) (Fixed punctuation.LeftParen ∷ First (suc level) ∷ Test level ∷ Step (suc level) ∷ []) result tokens.old tokens.new }

@@ -6,8 +6,8 @@ ghost use Rattle.shim_syntax.specs.Text.{IsText};
 ghost use Rattle.shim_parser.specs.declared.fault.ParseFault.{ParseFault};
 ghost use Rattle.shim_parser.specs.Parsing.{ParsesAs, IsOnly, IsReadBack};
 
-/// Of a program that has a text, the text that is printed is read as the same program but for lines:
-/// what `parse` may answer for it, by its clauses, is such a program or out of memory.
+/// If a program has a text, the clauses of `parse` allow two answers to what is printed of the program: the
+/// same program but for lines, or `NoMemory`.
 pub fn printed_text_is_read_back()
     ensures { (bytes : List ℕ) (p : Program) (result : Result Program ParseFault) → IsText bytes p
         → ParsesAs (canonical p) result → IsOnly (canonical p) result → IsReadBack p result }

@@ -25,7 +25,7 @@ pub(crate) enum Opening<'a> {
     Throw,
 }
 
-/// The statement that begins with a terminal; `None` where none does.
+/// With what a statement begins whose first terminal this is; `None` if no statement begins with the terminal.
 pub(crate) fn opening_of<'a>(what: Terminal<'a>) -> Option<Opening<'a>>
     ensures { (p : Place) → MatchOption result (opens (terminal_view what.entry p) ≡ false) (λ o. terminal_view what.entry p ≡ opening_view o p) }
 {

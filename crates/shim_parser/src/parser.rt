@@ -9,9 +9,10 @@ use crate::text::tokens_of;
 use shim_syntax::Program;
 use std::alloc::Global;
 
-/// The program that a text of at most 1,048,576 bytes is of. Of a text that is of none, the first
-/// token that shows it, and why; where several causes meet at one token, the order is that of
-/// `ParseFault`. `NoMemory` may come in place of any answer.
+/// The program that a text of at most 1,048,576 bytes is of. Of a text of no program `parse` answers the cause
+/// with the place of the first token that shows it. `TooDeep` and `TooMany` have the line of the token alone.
+/// Of several causes at one token the first in the order of `ParseFault` counts. `NoMemory` may come in place
+/// of any answer.
 pub fn parse(alloc: Global, text: &[u8]) -> Result<Program, ParseFault>
     requires { length text.now ≤ 1048576 }
     ensures answers { ParsesAs text.now result }

@@ -37,7 +37,7 @@ fn is_punctuation(what: Terminal, punctuation: Punctuation) -> bool
     punctuation_of(what) == Some(punctuation)
 }
 
-/// Takes a terminal that must come.
+/// Takes the next terminal, or gives a fault if it isn't this punctuation.
 pub(crate) fn punctuation(tokens: &mut Reader, punctuation: Punctuation) -> Result<(), ParseFault>
     ensures { Reads (IsPunctuation punctuation) (Fixed punctuation ∷ []) result tokens.old tokens.new }
 {
@@ -60,7 +60,7 @@ pub(crate) fn name(alloc: Global, tokens: &mut Reader) -> Result<Name, ParseFaul
     }
 }
 
-/// A name, and the terminal that must come behind it.
+/// A name, and the punctuation that must come after it.
 pub(crate) fn name_before(
     alloc: Global,
     tokens: &mut Reader,

@@ -1,4 +1,4 @@
-// Statements that hold no other, behind their first terminals.
+// The rest of statements that hold no other, after their first terminals.
 ghost use Rattle.std.specs.Prelude.{◌≡◌, ◌≤◌, [], ◌∷◌};
 ghost use Rattle.shim_base.specs.declared.token.Keyword.TheVariants as k;
 ghost use Rattle.shim_grammar.specs.Machine.{AfterEqual, AfterNext, Expression, Fixed, Operators, ThrowRest, Word};
@@ -17,7 +17,7 @@ use shim_grammar::Punctuation;
 use shim_syntax::What;
 use std::alloc::Global;
 
-/// Behind `x =`.
+/// The rest of an assignment after the name `target` and `=`, with the semicolon.
 pub(crate) fn assignment(
     alloc: Global,
     tokens: &mut Reader,
@@ -45,7 +45,7 @@ pub(crate) fn assignment(
     }
 }
 
-/// Behind `next`.
+/// The rest of a `next` statement after the word `next`, with the semicolon.
 pub(crate) fn next(alloc: Global, tokens: &mut Reader, level: u16) -> Result<What, ParseFault>
     requires { level ≤ 64 }
     ensures { Reads (IsKeyed k.Next level) (Word ∷ AfterNext level ∷ []) result tokens.old tokens.new }
@@ -65,7 +65,7 @@ pub(crate) fn next(alloc: Global, tokens: &mut Reader, level: u16) -> Result<Wha
     }
 }
 
-/// Behind `put`.
+/// The rest of a `put` statement after the word `put`, with the semicolon.
 pub(crate) fn put(alloc: Global, tokens: &mut Reader, level: u16) -> Result<What, ParseFault>
     requires { level ≤ 64 }
     ensures { Reads (IsKeyed k.Put level)
@@ -76,7 +76,7 @@ pub(crate) fn put(alloc: Global, tokens: &mut Reader, level: u16) -> Result<What
     Ok(What::Put(stream, value))
 }
 
-/// Behind `throw`.
+/// The rest of a `throw` statement after the word `throw`, with the semicolon.
 pub(crate) fn throw(alloc: Global, tokens: &mut Reader, level: u16) -> Result<What, ParseFault>
     requires { level ≤ 64 }
     ensures { Reads (IsKeyed k.Throw level) (Word ∷ ThrowRest level ∷ []) result tokens.old tokens.new }

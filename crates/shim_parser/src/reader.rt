@@ -109,7 +109,7 @@ impl<'a> Reader<'a> {
         }
     }
 
-    /// A thing of this level begins with the next terminal.
+    /// Counts the level of the thing that begins with the next terminal, or gives a fault if it is too deep.
     pub(crate) fn enter(&mut self, level: u16) -> Result<(), ParseFault>
         ensures { CountsWithin Nesting level (grammar.at_level level) result self.old self.new }
     {
@@ -123,7 +123,8 @@ impl<'a> Reader<'a> {
         Ok(())
     }
 
-    /// The thing of this number among its kind begins with the next terminal.
+    /// Gives a fault if the limit doesn't allow this number, which the thing that begins with the next terminal
+    /// has among its kind.
     pub(crate) fn number(&self, what: Many, n: u16) -> Result<(), ParseFault>
         ensures { CountsWithin (Count what) n (λ w. w) result self.now self.now }
     {
@@ -133,7 +134,7 @@ impl<'a> Reader<'a> {
         Ok(())
     }
 
-    /// The next terminal is an operator.
+    /// Counts the next terminal as an operator, or gives a fault if the limit doesn't allow one more.
     pub(crate) fn count_operator(&mut self) -> Result<(), ParseFault>
         ensures { CountsWithin (Count m.Operators) (suc self.old.counts.operators) grammar.with_operator result self.old self.new }
     {
@@ -142,7 +143,7 @@ impl<'a> Reader<'a> {
         Ok(())
     }
 
-    /// The next terminal is a declared name.
+    /// Counts the next terminal as a declared name, or gives a fault if the limit doesn't allow one more.
     pub(crate) fn count_local(&mut self) -> Result<(), ParseFault>
         ensures { CountsWithin (Count m.Locals) (suc self.old.counts.locals) grammar.with_local result self.old self.new }
     {
@@ -151,7 +152,7 @@ impl<'a> Reader<'a> {
         Ok(())
     }
 
-    /// The text is one of version 2.
+    /// Notes that the text is one of version 2.
     pub(crate) fn begin_version_2(&mut self)
         ensures { self.new ≡ reader_with grammar.in_version_2 self.old }
     {
@@ -165,14 +166,14 @@ impl<'a> Reader<'a> {
         self.two
     }
 
-    /// An expression begins.
+    /// Sets the count of operators to 0, since an expression begins.
     pub(crate) fn begin_expression(&mut self)
         ensures { self.new ≡ reader_with grammar.new_expression self.old }
     {
         self.operators = 0;
     }
 
-    /// A function begins.
+    /// Sets the count of declarations to 0, since a function begins.
     pub(crate) fn begin_function(&mut self)
         ensures { self.new ≡ reader_with grammar.new_function self.old }
     {
@@ -190,8 +191,8 @@ impl<'a> Reader<'a> {
         outside
     }
 
-    /// The level that what was read of this body comes to, where it turns out to be a branch of a fork
-    /// of the level.
+    /// The deepest level that counts if the block of this body turns out to be the first branch of a fork of
+    /// this level.
     pub(crate) fn as_branch(&self, level: u16) -> u16
         requires { level ≤ 65 }
         ensures { result ≡ grammar.as_branch level self.now.counts }

@@ -14,7 +14,7 @@ use shim_grammar::Punctuation;
 use shim_syntax::Program;
 use std::alloc::Global;
 
-/// What stands behind the first word of a text of version 2, up to its functions.
+/// The number 2 and the semicolon, which follow the first word of a text of version 2.
 fn version(tokens: &mut Reader) -> Result<(), ParseFault>
     ensures { Reads IsTwo (Version ∷ Fixed Semicolon ∷ []) result tokens.old tokens.new }
 {

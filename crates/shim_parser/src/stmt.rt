@@ -8,7 +8,7 @@ ghost use Rattle.shim_syntax.specs.Grammar.{IsBlock, IsBody};
 ghost use Rattle.shim_grammar.specs.Machine as machine;
 ghost use Rattle.shim_grammar.specs.Machine.{AfterWord, CatchRest, Else, Expression, First, Fixed, Operators, Pars, Statement, Step, Test, Word};
 ghost use Rattle.shim_grammar.specs.declared.punctuation.Punctuation.TheVariants as punctuation;
-ghost use Rattle.shim_parser.specs.Statements.{IsSignAt, IsKeyAt, Becomes, IsThing, IsBraced, IsNamed, IsKeyed, IsBehindPar, IsNumberedBranch};
+ghost use Rattle.shim_parser.specs.Statements.{IsSignAt, IsKeyAt, Becomes, IsThing, IsBraced, IsNamed, IsKeyed, IsAfterPar, IsNumberedBranch};
 ghost use Rattle.shim_parser.specs.ReaderViews.{Reads};
 
 use crate::call::call;
@@ -48,7 +48,7 @@ fn is_key(tokens: &Reader, key: Keyword) -> bool
     }
 }
 
-/// The statement on this line, alone, where it was read.
+/// A list of the one statement on this line, if it was read. If it wasn't, its fault stays.
 fn one(alloc: Global, line: u32, what: Result<What, ParseFault>) -> Result<List<Stmt>, ParseFault>
     ensures { Becomes line what result }
 {
@@ -56,7 +56,7 @@ fn one(alloc: Global, line: u32, what: Result<What, ParseFault>) -> Result<List<
     Ok(alone(alloc, Stmt { line, what })?)
 }
 
-/// The statements of a block behind its left brace, with the right one. They have this level.
+/// The statements of a block after its left brace, with the right one. The statements have this level.
 #[cycle(statements)]
 pub(crate) fn block(
     alloc: Global,
@@ -105,7 +105,8 @@ fn statement(alloc: Global, tokens: &mut Reader, level: u16) -> Result<List<Stmt
     }
 }
 
-/// Behind a left brace on this line: a block, or a fork whose first branch it is.
+/// The rest of a block after its left brace, which stands on this line, or of a fork whose first branch is
+/// that block.
 #[cycle(statements)]
 fn braced(alloc: Global, tokens: &mut Reader, line: u32, level: u16) -> Result<What, ParseFault>
     requires { level ≤ 64 }
@@ -122,7 +123,7 @@ fn braced(alloc: Global, tokens: &mut Reader, line: u32, level: u16) -> Result<W
     Ok(What::Par(branches(alloc, tokens, first, level)?))
 }
 
-/// Behind a name on this line.
+/// The rest of a statement after the name with which it begins on this line.
 #[cycle(statements)]
 fn named(
     alloc: Global,
@@ -185,7 +186,7 @@ fn body(alloc: Global, tokens: &mut Reader, level: u16) -> Result<List<Stmt>, Pa
     Ok(alone(alloc, Stmt { line, what })?)
 }
 
-/// Behind `if`.
+/// The rest of an `if` statement after the word `if`.
 #[cycle(statements)]
 fn if_statement(alloc: Global, tokens: &mut Reader, level: u16) -> Result<What, ParseFault>
     requires { level ≤ 64 }
@@ -203,7 +204,7 @@ fn if_statement(alloc: Global, tokens: &mut Reader, level: u16) -> Result<What, 
     Ok(What::If(test, then_do, List::new(alloc)))
 }
 
-/// Behind `while`.
+/// The rest of a `while` statement after the word `while`.
 #[cycle(statements)]
 fn while_loop(alloc: Global, tokens: &mut Reader, level: u16) -> Result<What, ParseFault>
     requires { level ≤ 64 }
@@ -215,7 +216,7 @@ fn while_loop(alloc: Global, tokens: &mut Reader, level: u16) -> Result<What, Pa
     Ok(What::While(test, repeated))
 }
 
-/// Behind `for`.
+/// The rest of a `for` statement after the word `for`.
 #[cycle(statements)]
 fn for_loop(alloc: Global, tokens: &mut Reader, level: u16) -> Result<What, ParseFault>
     requires { level ≤ 64 }
@@ -227,7 +228,7 @@ fn for_loop(alloc: Global, tokens: &mut Reader, level: u16) -> Result<What, Pars
     Ok(What::For(first, test, step, repeated))
 }
 
-/// Behind `try`.
+/// The rest of a `try` statement after the word `try`.
 #[cycle(statements)]
 fn try_statement(alloc: Global, tokens: &mut Reader, level: u16) -> Result<What, ParseFault>
     requires { level ≤ 64 }
@@ -245,7 +246,7 @@ fn try_statement(alloc: Global, tokens: &mut Reader, level: u16) -> Result<What,
     Ok(What::Try(tried, exception, variable, handler))
 }
 
-/// The branches of a fork of this level from its first `par` on, behind the first branch.
+/// All branches of a fork of this level: the given first branch, and those from the first `par` on.
 #[cycle(statements)]
 fn branches(
     alloc: Global,
@@ -255,7 +256,7 @@ fn branches(
 ) -> Result<List<Branch>, ParseFault>
     requires level { level ≤ 64 }
     requires par { IsKeyAt k.Par (first tokens.old.rest) }
-    ensures { Reads (IsBehindPar first_branch level) (Pars level 1 ∷ []) result tokens.old tokens.new }
+    ensures { Reads (IsAfterPar first_branch level) (Pars level 1 ∷ []) result tokens.old tokens.new }
 {
     let mut all = alone(alloc, first_branch)?;
     let mut count = 1;

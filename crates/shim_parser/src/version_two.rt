@@ -59,7 +59,7 @@ fn see_type(token: &mut Token<'_>)
     }
 }
 
-/// Sees terminals as version 2 does: `int64` is a type there, and no name.
+/// Changes each terminal to what version 2 sees: `int64` is a type in it, and no name.
 pub(crate) fn see_types(tokens: &mut [Token<'_>])
     ensures { token_views tokens.new ≡ map (of_version true) (token_views tokens.old) }
 {

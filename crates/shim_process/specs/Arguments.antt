@@ -34,13 +34,13 @@ argument locations slots p (Ref x) = Ok (ByReference (number_of slots x))
 argument locations slots p (Pass x) = Ok (ByCopy (type_of p.sort) (number_of slots x))
 argument locations slots p (Fresh e) = on_value (λ v. Ok (ByValue (type_of p.sort) p.name v)) (value e (env_of locations slots))
 
--- computed from the left; the first trap stands
+-- what the arguments give the parameters, computed from the left, or the first trap
 abbrev pub arguments : Locations → List ℕ → List UParam → List Arg → Result (List Argument) Trap
 arguments locations slots [] args = Ok []
 arguments locations slots (p ∷ ps) [] = Ok []
 arguments locations slots (p ∷ ps) (a ∷ rest) = on_value (λ one. on_value (λ others. Ok (one ∷ others)) (arguments locations slots ps rest)) (argument locations slots p a)
 
--- the value is stored by the parameter's type
+-- a copy of the location, as a variable of this type, with the value stored by the type; none where there is no location
 abbrev pub copied_location : Ty → Option Location → Option Location
 copied_location t None = None
 copied_location t (Some l) = Some (record l { ty = t; value = stored t l.value; ownership = Copy })
@@ -56,14 +56,14 @@ new_channels (ByReference n ∷ rest) = new_channels rest
 new_channels (ByCopy t n ∷ rest) = new_channels rest
 new_channels (ByValue t name v ∷ rest) = 1 + new_channels rest
 
--- The locations that a call makes for its arguments: none for one by reference. The channels' home is the calling process, and the first new one has this serial number.
+-- The locations that a call makes for its arguments: none for one by reference. The home of the new channels is the calling process, and the first of them has this serial number.
 abbrev pub call_locations : Path → Locations → ℕ → List Argument → Locations
 call_locations home locations serial [] = []
 call_locations home locations serial (ByReference n ∷ rest) = call_locations home locations serial rest
 call_locations home locations serial (ByCopy t n ∷ rest) = copied_location t (at_number locations n) ∷ call_locations home locations serial rest
 call_locations home locations serial (ByValue t name v ∷ rest) = Some (new_location home serial name t v) ∷ call_locations home locations (serial + 1) rest
 
--- The locations that a branch makes for its arguments. One by reference is moved into the child, with its value and its ownership, so that a later argument finds what is kept; the home of new channels is the child.
+-- The locations that a branch makes for its arguments. One by reference is moved into the child, with its value and the ownership `moved`. A later argument finds what the parent keeps of it. The home of new channels is the child.
 abbrev pub branch_locations : Path → Locations → ℕ → List Argument → Locations
 branch_locations child locations serial [] = []
 branch_locations child locations serial (ByReference n ∷ rest) = with_moved (at_number locations n) ∷ branch_locations child (lend_at locations n) serial rest
@@ -76,16 +76,16 @@ channels_of [] = []
 channels_of (None ∷ locations) = channels_of locations
 channels_of (Some l ∷ locations) = l.channel ∷ channels_of locations
 
--- the slots of the unit's own declarations
+-- the sorts of the unit's own slots, which come after those of its parameters: of its declarations and of the variables of its handlers
 abbrev pub declared_slots : UnitOf → List Sort
 declared_slots u = drop (length u.params) u.slots
 
--- as many empty locations
+-- an empty location for each of the sorts
 abbrev pub empties : List Sort → Locations
 empties [] = []
 empties (s ∷ ss) = None ∷ empties ss
 
--- as many numbers, one after another
+-- a number for each of the sorts, counted up from `first`
 abbrev pub numbers_from : ℕ → List Sort → List ℕ
 numbers_from first [] = []
 numbers_from first (s ∷ ss) = first ∷ numbers_from (first + 1) ss
@@ -97,7 +97,7 @@ call_slots first (ByReference n ∷ rest) declared = n ∷ call_slots first rest
 call_slots first (ByCopy t n ∷ rest) declared = first ∷ call_slots (first + 1) rest declared
 call_slots first (ByValue t name v ∷ rest) declared = first ∷ call_slots (first + 1) rest declared
 
--- a unit, of this number, at its first statement, with the locations of its slots and the labels of the exceptions that it was given
+-- the frame of a unit, of this number, at its first statement, with the numbers of its slots' locations and the labels of the exceptions that it was given
 abbrev pub entered : UnitOf → ℕ → List ℕ → List ℕ → ℕ → ℕ → Frame
 entered u unit slots labels floor outer = record {
   unit = unit;

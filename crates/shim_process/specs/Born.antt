@@ -10,7 +10,7 @@ use Rattle.shim_process.specs.FittingFrames.{parameters_of}
 use Rattle.shim_process.specs.Forks.{item_branches}
 use Rattle.shim_process.specs.Stops.{stop}
 
--- A variable that an argument gives, by reference or as a copy, has a location in the child, on the channel of that of the parent. The child's first locations are those of its parameters, in order; the first argument's has this number.
+-- Where an argument gives a variable, by reference or as a copy, the child's location and the parent's are on the same channel, or neither is there. The child's first locations are those of its parameters, in order; the first argument's has this number.
 abbrev pub OnChannels : List ℕ → ℕ → List Arg → Locations → Locations → Type 0
 OnChannels slots n [] child locations = Unit {0}
 OnChannels slots n (Ref x ∷ rest) child locations = (channel_at child n ≡ channel_at locations (number_of slots x)) × OnChannels slots (n + 1) rest child locations
@@ -30,7 +30,7 @@ InBranches l f i [] [] = Unit {0}
 InBranches l f i (b ∷ branches) (k ∷ ks) = InBranch l f i b k × InBranches l f (i + 1) branches ks
 InBranches _ _ _ _ _ = ⊥
 
--- The process stands at its last fork, and these are in its branches in order, each after any calls.
+-- The process stands at its last fork, and the other processes are in the fork's branches, in order, whatever they have done since the fork.
 pub record Born (l : LocalState) (ks : List LocalState) : Type 0 where
   pub fork : ℕ
   pub last : l.forks ≡ fork + 1

@@ -7,13 +7,13 @@ use Rattle.shim_process.specs.LocalState.{LocalState, Frame, ExceptionPlace}
 abbrev pub without_last : List ExceptionPlace → List ExceptionPlace
 without_last places = take (length places - 1) places
 
--- past the ends of `try` blocks that come next
+-- the frame with what is to be done after the ends of `try` blocks that come first; each of these ends takes the last exception place away
 abbrev pub past_ends : List Item → List ExceptionPlace → Frame → Frame
 past_ends [] places f = record f { todo = []; places = places }
 past_ends (Leave ∷ k) places f = past_ends k (without_last places) f
 past_ends (Do n s ∷ k) places f = record f { todo = Do n s ∷ k; places = places }
 
--- on from the statement at which the unit stands, with the ends of `try` blocks that follow
+-- the frame gone on from its statement to the successor, and past the ends of `try` blocks that come then
 unfoldable pub went : Successor → Frame → Frame
 went successor f = past_ends (followed successor f.todo) f.places (record f { halfway = false })
 
@@ -29,6 +29,6 @@ settled (caller ∷ callers) f l =
     if is_over f.todo then settled callers (went On caller) (record l { locations = take f.floor l.locations })
     else record l { frame = f; callers = caller ∷ callers }
 
--- on from the statement at which the process stands, with the ends that follow
+-- the process gone on from its statement to the successor, and past the ends of `try` blocks and of called units that come then
 unfoldable pub gone : Successor → LocalState → LocalState
 gone successor l = settled l.callers (went successor l.frame) l

@@ -64,7 +64,7 @@ root program input =
       input = input;
     }
 
--- the branches of the fork at which a process stands
+-- the branches of a fork, and none of another statement
 abbrev pub what_branches : UWhat-F UWhat UStmt → List UBranch
 what_branches (UWhat-F.Par branches) = branches
 what_branches _ = []
@@ -85,7 +85,7 @@ all_arguments l (b ∷ branches) =
     on_value (λ one. on_value (λ others. Ok (one ∷ others)) (all_arguments l branches))
     (arguments l.locations l.frame.slots (unit_at l.program b.call.unit).params b.call.args)
 
--- the child of this place, at the first statement of this unit, with these labels of the unit's exceptions and these arguments
+-- the child in branch i, at the first statement of this unit, with these labels of the unit's exceptions and these arguments
 abbrev pub new_child : LocalState → ℕ → ℕ → List ℕ → List Argument → LocalState
 new_child l i unit labels given =
     let u = unit_at l.program unit in
@@ -112,7 +112,7 @@ new_child l i unit labels given =
 abbrev pub child : LocalState → ℕ → UBranch → List Argument → LocalState
 child l i b given = new_child l i b.call.unit (passed_labels (statement_view l) b.call.throws) given
 
--- what is kept of the variables that arguments give by reference; like the arguments, they go with the parameters
+-- the process's locations with what it keeps of those that arguments give by reference; an argument without a parameter gives nothing
 abbrev pub lent : List ℕ → List UParam → List Arg → Locations → Locations
 lent slots [] args locations = locations
 lent slots (p ∷ ps) [] locations = locations
@@ -120,7 +120,7 @@ lent slots (p ∷ ps) (Ref x ∷ rest) locations = lent slots ps rest (lend_at l
 lent slots (p ∷ ps) (Pass x ∷ rest) locations = lent slots ps rest locations
 lent slots (p ∷ ps) (Fresh e ∷ rest) locations = lent slots ps rest locations
 
--- what is kept of the variables that these arguments give by reference, once they are computed
+-- the process's locations with what it keeps of those that these computed arguments give by reference
 abbrev pub lent_by : List Argument → Locations → Locations
 lent_by [] locations = locations
 lent_by (ByReference n ∷ given) locations = lent_by given (lend_at locations n)
@@ -145,7 +145,7 @@ lending l b = keeping l b.call.unit (lent l.frame.slots (unit_at l.program b.cal
 abbrev pub lending_given : LocalState → ℕ → List Argument → LocalState
 lending_given l unit given = keeping l unit (lent_by given l.locations)
 
--- The children, from the left, where the first has this place. Each takes of what those before it left.
+-- The children of the branches, from the left, of which the first is branch i. Each child takes of what those before it left.
 abbrev pub children_from : LocalState → ℕ → List UBranch → List (List Argument) → List LocalState
 children_from l i [] given = []
 children_from l i (b ∷ branches) [] = []
@@ -156,7 +156,7 @@ abbrev pub all_lending : LocalState → List UBranch → LocalState
 all_lending l [] = l
 all_lending l (b ∷ branches) = all_lending (lending l b) branches
 
--- the parent, which still stands at the fork; what it gave by reference is with the children
+-- the parent, which still stands at the fork, with one more fork counted; what it gave by reference is with the children
 abbrev pub parent : LocalState → List UBranch → LocalState
 parent l branches = record (all_lending l branches) { forks = l.forks + 1 }
 
@@ -195,7 +195,7 @@ abbrev pub some_or : Option ℕ → Option ℕ → Option ℕ
 some_or None at = at
 some_or (Some n) at = Some n
 
--- the input comes back as far as it was read
+-- how many bytes of the input were read: by the last of the children that has the input, or else as the second argument has it
 abbrev pub input_back : List LocalState → Option ℕ → Option ℕ
 input_back [] at = at
 input_back (c ∷ children) at = input_back children (some_or c.input_at at)
@@ -213,6 +213,6 @@ joined l children = record l {
   holds_output = output_back children l.holds_output;
 }
 
--- the values of the children come back; behind the fork, or still at it
+-- the parent with what its children give back; it has gone on after the fork if `goes_on`, and else still stands at it
 unfoldable pub join : LocalState → List LocalState → Bool → LocalState
 join l children goes_on = if goes_on then gone On (joined l children) else joined l children

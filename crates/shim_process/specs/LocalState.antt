@@ -14,7 +14,7 @@ use Rattle.shim_process.specs.Todo.{Item}
 use Rattle.shim_process.specs.declared.handler_variable.HandlerVariable.{HandlerVariable}
 use Rattle.shim_process.specs.declared.serial_run.SerialRun.{SerialRun}
 
--- an exception place in force: the number in its unit, the name and the line of its `try`, the variable of its handler where it has one, and what there was to do in the unit, the `try` first
+-- An exception place in force: the number of its exception in the unit, the name and the line of its `try`, and the variable of its handler, if it has one. Its `todo` is what there was to do in the unit, the `try` first.
 pub record ExceptionPlace : Type 0 where
   pub exception : ℕ
   pub name : ℕ
@@ -52,7 +52,7 @@ pub record LocalState : Type 0 where
   -- how many channels it made, and how many forks it did
   pub made : ℕ
   pub forks : ℕ
-  -- the serial numbers of those that a `try` made and no handler has taken
+  -- the serial numbers of the channels that a `try` made and no handler has taken
   pub untaken : List SerialRun
   -- the channels that the arguments of its first unit gave it, in the order of the parameters
   pub given : List NamedChannel
@@ -109,7 +109,7 @@ type_of sort.Output = ty.Int32
 abbrev pub handlers : LocalState → ℕ
 handlers l = l.base + (l.frame.outer + length l.frame.places)
 
--- it can make no more channels and do no more forks
+-- the process made at least 4,000,000,000 channels or did at least as many forks; it then makes no more channels and does no more forks
 abbrev pub is_full : LocalState → Bool
 is_full l = nat_le 4000000000 l.made || nat_le 4000000000 l.forks
 

@@ -6,7 +6,7 @@ use Rattle.shim_base.specs.Paths.{Channel, NamedChannel, same_channel}
 
 -- what a location is to its channel
 pub data Ownership : Type 0 where
-  -- the channel's own variable, whose value a meeting gives to all others
+  -- the channel's own variable, whose value a meeting gives to each process that waits at a `next` of the channel
   Own : Ownership
   -- the channel's own variable, but it is with a child of the fork at which the process stands
   Lent : Ownership
@@ -19,7 +19,7 @@ pub record Location : Type 0 where
   pub value : ℤ
   pub ownership : Ownership
 
--- All locations of a process, by their numbers. That of a variable is empty until its declaration is executed, that of a stream always.
+-- All locations of a process, by their numbers. That of a declared variable is empty until its declaration is executed, that of a handler's variable until the handler takes it. That of a stream is always empty.
 abbrev pub Locations : Type 0
 Locations = List (Option Location)
 
@@ -41,12 +41,12 @@ channel_in (Some l) = Some l.channel
 abbrev pub channel_at : Locations → ℕ → Option NamedChannel
 channel_at locations n = channel_in (at_number locations n)
 
--- what it holds; a variable in scope has a location, so that the 0 is never asked for
+-- the value of a location, and 0 where there is none; a variable in scope has a location
 abbrev pub location_value : Option Location → ℤ
 location_value None = pos 0
 location_value (Some l) = l.value
 
--- the value is stored by the location's type
+-- the location with this value, stored by the location's type; where there is no location there is still none
 abbrev pub with_value : ℤ → Option Location → Option Location
 with_value v None = None
 with_value v (Some l) = Some (record l { value = stored l.ty v })
@@ -55,7 +55,7 @@ with_value v (Some l) = Some (record l { value = stored l.ty v })
 unfoldable pub store_at : Locations → ℕ → ℤ → Locations
 store_at locations n v = slice_set locations n (with_value v (at_number locations n))
 
--- the location is the channel's own variable, and isn't with a child
+-- a location of this ownership is the channel's own variable, and isn't with a child
 abbrev pub is_own : Ownership → Bool
 is_own Own = true
 is_own Lent = false
@@ -99,7 +99,7 @@ lend_at locations n = slice_set locations n (with_kept (at_number locations n))
 abbrev pub is_on : Channel → Location → Bool
 is_on c l = same_channel l.channel.channel c
 
--- the value comes back from the child's location, and the ownership if it was lent
+-- The location of the second argument with the value of the child's location, which is the first, and with the ownership `restored`. Where either isn't there, the second argument stays as it is.
 abbrev pub with_back : Option Location → Option Location → Option Location
 with_back (Some back) (Some l) = Some (record l { value = back.value; ownership = restored back.ownership l.ownership })
 with_back _ l = l

@@ -17,7 +17,7 @@ abbrev pub all_suit : Form → List UBranch → Bool
 all_suit program [] = true
 all_suit program (b ∷ branches) = has_arguments program b.call && all_suit program branches
 
--- the slot is one of the unit's own, which stand behind those of its parameters
+-- the slot is one of the unit's own, which come after those of its parameters
 abbrev pub is_own_slot : UnitOf → ℕ → Bool
 is_own_slot u x = nat_le (length u.params) x && nat_lt x (length u.slots)
 
@@ -42,7 +42,7 @@ what_fits program u (UWhat-F.Try body x y handler) = all_true body && (is_own_va
 what_fits program u (UWhat-F.Par branches) = all_suit program branches
 what_fits _ _ _ = true
 
--- a statement of the unit declares slots of the unit's own, and its calls suit
+-- a statement declares own slots of the unit alone, and its calls and branches have an argument for each parameter
 abbrev pub fits : Form → UnitOf → UStmt → Bool
 fits program u = fold-UStmt Bool Bool (what_fits program u) (λ s. s.what)
 

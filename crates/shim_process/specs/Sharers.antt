@@ -13,11 +13,11 @@ is_among c (d ∷ ds) = same_channel d.channel c || is_among c ds
 abbrev pub made_serial : LocalState → ℕ → Bool
 made_serial l n = nat_lt n l.made && not (is_in_runs n l.untaken)
 
--- the process declared it
+-- the process declared the channel: the channel's home is the process's path, and `made_serial` holds of its serial number
 abbrev pub declared : LocalState → Channel → Bool
 declared l c = same_path c.home l.path && made_serial l c.serial
 
--- an argument gave it the channel, or it declared it
+-- an argument gave the process the channel, or the process declared it
 unfoldable pub shares : LocalState → Channel → Bool
 shares l c = is_among c l.given || declared l c
 
@@ -29,10 +29,10 @@ is_present (Some l) = true
 unfoldable pub carries : LocalState → Channel → Bool
 carries l c = is_present (own_of c l.locations)
 
--- the value of the channel's own variable, where it carries that
+-- the value of the channel's own variable where the process carries the channel, and else 0
 unfoldable pub channel_value : LocalState → Channel → ℤ
 channel_value l c = location_value (own_of c l.locations)
 
--- the channel given at this place
+-- the channel at this index of those that the process was given
 abbrev pub given_at : LocalState → ℕ → Option NamedChannel
 given_at l at = slice_get l.given at

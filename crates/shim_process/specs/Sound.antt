@@ -13,7 +13,7 @@ use Rattle.shim_process.specs.FittingFrames.{IsFitting}
 abbrev pub IsPathPrefix : Path → Path → Type 0
 IsPathPrefix p q = (rest : Path) × (p ++ rest ≡ q)
 
--- it is the channel's own variable, here or with a child
+-- a location of this ownership is the channel's own variable, here or with a child
 abbrev pub IsOwned : Ownership → Type 0
 IsOwned Own = Unit {0}
 IsOwned Lent = Unit {0}
@@ -44,12 +44,12 @@ abbrev pub VariablesGrow : Path → List SerialRun → ℕ → List ExceptionPla
 VariablesGrow path untaken bound [] = Unit {0}
 VariablesGrow path untaken bound (p ∷ places) = VariableIsBelow path untaken bound p.variable × VariablesGrow path untaken (bound_by bound p.variable) places
 
--- these places, which came into force one after the other, before others, the innermost first
+-- the exception places of the first list, in reverse order, that is with the innermost first, and then the list `outer`
 abbrev pub inward : List ExceptionPlace → List ExceptionPlace → List ExceptionPlace
 inward [] outer = outer
 inward (p ∷ places) outer = inward places (p ∷ outer)
 
--- those of all frames
+-- the exception places of all frames, the innermost first
 abbrev pub places_inward : List Frame → List ExceptionPlace
 places_inward [] = []
 places_inward (f ∷ fs) = inward f.places (places_inward fs)
@@ -77,5 +77,5 @@ pub record Sound (l : LocalState) : Type 0 where
   pub places : PlacesGrow l.path l.untaken l.made (l.frame ∷ l.callers)
   -- a root was given no channels
   pub root : l.path ≡ [] → l.given ≡ []
-  -- its program's units use slots of their own, so that what it declares is behind the locations of its parameters
+  -- its program's units use slots of their own, and what a process declares has locations after those of its parameters
   pub fitting : IsFitting l

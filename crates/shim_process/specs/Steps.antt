@@ -113,7 +113,7 @@ abbrev pub next_byte : Option ℕ → List ℕ → ℤ
 next_byte None input = negsuc 0
 next_byte (Some at) input = byte_or_end (slice_get input at)
 
--- how far the input is read after it
+-- how many bytes of the input were read once the next one is taken: one more, or as many as before if the input is over, or none without the input
 abbrev pub read_on : Option ℕ → List ℕ → Option ℕ
 read_on None input = None
 read_on (Some at) input = Some (if nat_le (length input) at then at else at + 1)
@@ -142,7 +142,7 @@ abbrev pub installing : ℕ → ℕ → Option ℕ → LocalState → LocalState
 installing x name None l = record l { frame = installed x name None l.frame }
 installing x name (Some y) l = record l { frame = installed x name (Some (variable_in y l)) l.frame; untaken = with_serial l.made l.untaken; made = l.made + 1 }
 
--- the frame of the called unit is the innermost from now on, with its own locations behind the others
+-- the frame of the called unit is the innermost from now on, with its own locations after the others
 unfoldable pub pushed : ℕ → List Argument → List ℕ → LocalState → LocalState
 pushed unit given labels l =
     let u = unit_at l.program unit in
@@ -159,7 +159,7 @@ pushed unit given labels l =
 unfoldable pub called : ℕ → List Argument → List ℕ → LocalState → LocalState
 called unit given labels l = let m = pushed unit given labels l in settled m.callers m.frame m
 
--- the state after the statement, with the ends that follow
+-- the state after the action of the statement, past the ends of blocks and units that come then; `Wait` changes nothing
 abbrev pub done : Action → LocalState → LocalState
 done (Go successor) l = gone successor l
 done (Store x v) l = gone On (stored_in x v l)
@@ -171,6 +171,6 @@ done (Install x name y) l = gone First (installing x name y l)
 done (Trapped t) l = trapped t (line_of l.frame.todo) l
 done Wait l = l
 
--- after one quiet statement
+-- the state after one quiet step; at a statement that isn't quiet it stays the same
 unfoldable pub quiet : LocalState → LocalState
 quiet l = done (next_action l) l

@@ -13,7 +13,7 @@ use Rattle.shim_process.specs.StatementViews.{StatementView, statement_view, lab
 use Rattle.shim_process.specs.Ends.{gone}
 use Rattle.shim_process.specs.Steps.{stored_in, half, line_of, value_or}
 
--- Where a process can't go on, nothing is left to do. No run of an accepted program comes to such a statement: a variable in scope has a location, who puts has the output, and a fork has branches.
+-- A process that can't do its statement is at its end. No run of an accepted program comes to such a statement: a variable in scope has a location, a process that puts has the output, and a fork has branches.
 
 -- at a `next` of the location's channel, or at the end where there is no location
 abbrev pub at_next : Option Location → StopView
@@ -30,7 +30,7 @@ abbrev pub at_fork : List UBranch → StopView
 at_fork [] = AtFinish
 at_fork (b ∷ branches) = AtFork
 
--- at what a statement stands, by what it sees
+-- the stop of a process at a statement, by what the statement sees
 abbrev pub what_stop : UWhat-F UWhat UStmt → StatementView → StopView
 what_stop (UWhat-F.Next x) s = at_next (location_of s.locations s.slots x)
 what_stop (UWhat-F.NextAssign x e) s = if s.halfway then at_next (location_of s.locations s.slots x) else AtQuiet
@@ -54,7 +54,7 @@ stop_or (Some t) s = AtTrap t.kind t.line
 unfoldable pub stop : LocalState → StopView
 stop l = stop_or l.trap (stmt_stop (next_stmt l.frame.todo) (statement_view l))
 
--- the value of the expression of a `put`
+-- the value of the expression of a `put`, and 0 of another statement
 abbrev pub what_put : UWhat-F UWhat UStmt → StatementView → Value
 what_put (UWhat-F.Put o e) s = value e (env_of s.locations s.slots)
 what_put _ s = Ok (pos 0)
@@ -82,11 +82,11 @@ abbrev pub after_put : Value → LocalState → LocalState
 after_put (Ok v) l = gone On l
 after_put (Err t) l = trapped t (line_of l.frame.todo) l
 
--- behind the `put`, or trapped at it
+-- the state after the `put`, or the state trapped at it
 unfoldable pub put : LocalState → LocalState
 put l = after_put (put_value l) l
 
--- the number of a throw, which is 0 where its statement gives none
+-- the number of a throw, or its trap; 0 where the throw gives no number, and of another statement
 abbrev pub what_thrown : UWhat-F UWhat UStmt → StatementView → Value
 what_thrown (UWhat-F.Throw x e) s = value_or (pos 0) e (env_of s.locations s.slots)
 what_thrown _ s = Ok (pos 0)
@@ -114,11 +114,11 @@ abbrev pub after_throw : Value → LocalState → LocalState
 after_throw (Ok v) l = l
 after_throw (Err t) l = trapped t (line_of l.frame.todo) l
 
--- still at the throw, or trapped at it
+-- the same state, or the state trapped at the throw if its expression traps
 unfoldable pub throw_evaluated : LocalState → LocalState
 throw_evaluated l = after_throw (thrown_value l) l
 
--- the value of a meeting is stored in the location that the statement names
+-- The state after the statement's meeting, whose value is stored in the location of the meeting's variable. Of `x = next y` this is y, and the second part comes next. After another statement with a meeting the process goes on.
 abbrev pub what_receive : UWhat-F UWhat UStmt → ℤ → LocalState → LocalState
 what_receive (UWhat-F.Next x) v l = gone On (stored_in x v l)
 what_receive (UWhat-F.NextAssign x e) v l = gone On (stored_in x v l)
@@ -130,6 +130,6 @@ abbrev pub stmt_receive : Option UStmt → ℤ → LocalState → LocalState
 stmt_receive None v l = l
 stmt_receive (Some stmt) v l = what_receive (out-UWhat stmt.what) v l
 
--- after the meeting at which it stands gave this value
+-- the state after the meeting at which the process stands gave this value
 unfoldable pub receive : LocalState → ℤ → LocalState
 receive l v = stmt_receive (next_stmt l.frame.todo) v l

@@ -47,7 +47,7 @@ pub data Successor : Type 0 where
   First : Successor
   Second : Successor
 
--- What is to be done after the process goes from statement s, which has number n, to this successor; k is what follows s. The body of a loop is followed by the loop, and the block of a `try` by its end.
+-- What is to be done after the process goes from statement s, which has number n, to this successor; k is what follows s. The body of a `while` is followed by the loop, that of a `for` by the step and then the loop, and the block of a `try` by its end.
 abbrev pub follow_what : UWhat-F UWhat UStmt → Successor → ℕ → UStmt → List Item → List Item
 follow_what (UWhat-F.If e first second) First n s k = items_all first (n + 1) ++ k
 follow_what (UWhat-F.If e first second) Second n s k = items_all second (n + 1 + size_all first) ++ k
@@ -61,7 +61,7 @@ follow_what _ successor n s k = k
 abbrev pub follow : Successor → ℕ → UStmt → List Item → List Item
 follow successor n s k = follow_what (out-UWhat s.what) successor n s k
 
--- from the statement that is next
+-- What is to be done at the successor of the statement that is next. Where no statement is next, the items stay as they are.
 abbrev pub followed : Successor → List Item → List Item
 followed successor [] = []
 followed successor (Leave ∷ k) = Leave ∷ k

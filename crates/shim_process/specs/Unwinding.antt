@@ -10,7 +10,7 @@ use Rattle.shim_process.specs.LocalState.{LocalState, Frame, ExceptionPlace, num
 use Rattle.shim_process.specs.declared.handler_variable.HandlerVariable.{HandlerVariable}
 use Rattle.shim_process.specs.Ends.{went, settled}
 
--- the frame goes on with the handler of the `try` whose place it is; the place goes out of force, with those inside it
+-- The frame goes on with the handler of its exception place i, which goes out of force with those inside it. Without the place the frame stays as it is.
 abbrev pub handling : Option ExceptionPlace → ℕ → Frame → Frame
 handling None i f = f
 handling (Some p) i f = went Second (record f { todo = p.todo; places = take i f.places })
@@ -32,7 +32,7 @@ abbrev pub catching : Option ExceptionPlace → ℤ → Frame → LocalState →
 catching None v f l = l
 catching (Some p) v f l = taking p.variable v f l
 
--- The frames that were entered since the `try` of exception place n, among those of the process, was executed are left, with their locations.
+-- The state at the handler of exception place n of the process, with the number v in the handler's variable, if it has one. The frames that were entered since the place's `try` was executed are left, with their locations.
 abbrev pub unwound : List Frame → Frame → ℕ → ℤ → LocalState → LocalState
 unwound [] f n v l = settled [] (handling (slice_get f.places (n - f.outer)) (n - f.outer) f) (catching (slice_get f.places (n - f.outer)) v f l)
 unwound (caller ∷ callers) f n v l =

@@ -21,7 +21,7 @@ use Rattle.shim_laws_table_events.specs.queues.RecordDecisions.{IsReady}
 use Rattle.shim_laws_table_events.specs.queues.NoMore.{WasReady}
 use Rattle.shim_laws_table_events.proofs.queues.NoMore.{as_ready}
 use Rattle.shim_laws_table_events.proofs.queues.Same.{was_there}
-use Rattle.shim_process_table.specs.Touching.{ChangesOnlyAbove, ReadiesAbove, HasReadied, ReadiesRecords, StopReadies, MoveReadies}
+use Rattle.shim_process_table.specs.Touching.{ChangesOnlyAbove, ReadiesAbove, HasReadiedWhere, ReadiesRecords, StopReadies, MoveReadies}
 use Rattle.shim_process_table.proofs.Above.{above_as}
 use Rattle.shim_process_table.proofs.Touching.{rest_at, rest_parents, rest_long}
 
@@ -41,11 +41,11 @@ readies_none mine n x before behind none e = subst (ReadiesRecords mine n x befo
 
 -- the process came to one channel
 module _ (mine : Channel → Type 0) (c : Channel) (n x : ℕ) (before behind : List Record) (alone : (d : Channel) → mine d → d ≡ c) (only : OnlyCounts c before behind) (readies : ReadiesWithin c n x before behind) where
-  as_one : (d : Channel) (j : ℕ) → c ≡ d → HasReadied mine d x before behind j → ways.HasReadied c x before behind j
+  as_one : (d : Channel) (j : ℕ) → c ≡ d → HasReadiedWhere mine d x before behind j → ways.HasReadied c x before behind j
   as_one d j same (inl w) = inl w.0
   as_one d j same (inr w) = inr (subst (λ z. (counts_ready (counts_in z behind j) ≡ true) × (counts_ready (counts_in z before j) ≡ false)) (sym same) w)
 
-  not_other : {B : Type 0} (d : Channel) (j : ℕ) → same_channel c d ≡ false → HasReadied mine d x before behind j → B
+  not_other : {B : Type 0} (d : Channel) (j : ℕ) → same_channel c d ≡ false → HasReadiedWhere mine d x before behind j → B
   not_other d j far (inl w) = clash (same_channel c d) (subst (λ z. same_channel c z ≡ true) (sym (alone d w.1)) (same_channel_refl c)) far
   not_other d j far (inr w) = clash (counts_ready (counts_in d before j)) (ap counts_ready (sym (only.elsewhere d far j)) ∙ w.0) w.1
 
@@ -74,7 +74,7 @@ module _ (mine : Channel → Type 0) (c : Channel) (n x : ℕ) (before between b
   not_ready : (d : Channel) (i : ℕ) → counts_ready (counts_in d before i) ≡ false → counts_ready (counts_in d between i) ≡ false
   not_ready d i other = elim (true_or_false (counts_ready (counts_in d between i))) [ inl e ↦ clash (counts_ready (counts_in d before i)) (none_ready d i e) other | inr e ↦ e ]
 
-  readied_then : (d : Channel) (j : ℕ) → HasReadied mine d x before behind j → HasReadied mine d x between behind j
+  readied_then : (d : Channel) (j : ℕ) → HasReadiedWhere mine d x before behind j → HasReadiedWhere mine d x between behind j
   readied_then d j (inl w) = inl w
   readied_then d j (inr w) = inr (w.0, not_ready d j w.1)
 
@@ -97,7 +97,7 @@ module _ {S : Type 0} (o : Ops S) where
     module _ (i : ℕ) (out : IsAbove (up_in before.records) n x i → ⊥) where
       -- a child is ready that was so, or its fork has no label
       module _ (c : Channel) (j f : ℕ) (s : S) (some : min_labels_in c behind.records i ≢ None) (up : up_in before.records j ≡ Some i) where
-        unlabelled : {B : Type 0} → HasReadied mine c x before.records behind.records j → B
+        unlabelled : {B : Type 0} → HasReadiedWhere mine c x before.records behind.records j → B
         unlabelled readied = absurd (some (readies.labels c i ∙ readies.children c i j up out readied))
 
         was_so : (k : ProcessStatus) → IsReady o behind c j s k → IsReady o before c j s k

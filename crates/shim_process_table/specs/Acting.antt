@@ -17,8 +17,8 @@ use Rattle.shim_process_table.specs.declared.acting.Thrown.TheVariants as thrown
 abbrev pub IsTrappedAt : {S : Type 0} → Ops S → TableView S → ℕ → Type 0
 IsTrappedAt o v number = (kind : Trap) × (line : ℕ) × LivesAt o v number (AtTrap kind line)
 
--- The live process with this number was at this stop and did the one thing that it can do by itself. It has this status now, and these are the effects. The tree moves by that event, and no other process has changed. No record in use is readier than before but its own and those of the first n forks above.
-pub record ActsAlone {S : Type 0} (o : Ops S) (n number : ℕ) (stop : StopView) (k : ProcessStatus) (effects : Effects) (before behind : TableView S) : Type 0 where
+-- The live process with this number was at this stop and did the one thing that it can do by itself. It has this status now, and these are the effects. The tree moves by the event of that act (`event_at_stop`), and no other process has changed. No record in use is readier than before but its own and those of the first n forks above. There are no more records than before.
+pub record ActsAlone {S : Type 0} (o : Ops S) (n number : ℕ) (stop : StopView) (k : ProcessStatus) (effects : Effects) (before after : TableView S) : Type 0 where
   pub first : ℕ
   pub process : S
   pub has : HasProcessState before number first process lives
@@ -26,23 +26,23 @@ pub record ActsAlone {S : Type 0} (o : Ops S) (n number : ℕ) (stop : StopView)
   pub left : Node S
   pub does : act_live o process stop ≡ Some (record { node = left; effects = effects })
   pub came : process_status left ≡ k
-  pub becomes : HasBecome number (state left) k before behind
-  pub moves : Performs o (event_at_stop stop (o.path process)) before behind
-  pub newly_ready : ReadiesAbove o n number before behind
+  pub becomes : HasBecome number (state left) k before after
+  pub moves : Performs o (event_at_stop stop (o.path process)) before after
+  pub newly_ready : ReadiesAbove o n number before after
 
--- the status of a process behind a throw with this outcome
+-- the status of a process after a throw with this outcome
 abbrev pub status_by_throw : Thrown → ProcessStatus
 status_by_throw (thrown.Caught name line) = lives
 status_by_throw (thrown.Died d) = dies d
 status_by_throw thrown.Trapped = lives
 
--- the effects of such a throw
+-- the effects of a throw with this outcome
 abbrev pub throw_effects : Thrown → Effects
 throw_effects (thrown.Caught name line) = catch_logged (name, line)
 throw_effects (thrown.Died d) = nothing
 throw_effects thrown.Trapped = nothing
 
--- the node and the effects that such a throw leaves, of a process in this state
+-- the node and the effects after a throw with this outcome, where the process then has this state
 abbrev pub thrown_by : {S : Type 0} → Thrown → S → Acted S
 thrown_by (thrown.Caught name line) s = record { node = Live s; effects = catch_logged (name, line) }
 thrown_by (thrown.Died d) s = record { node = Dead s d; effects = nothing }

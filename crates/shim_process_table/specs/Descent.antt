@@ -13,12 +13,12 @@ use Rattle.shim_process_table.specs.declared.descent.Block.{Block}
 abbrev pub numbers_of_block : Block → List ℕ
 numbers_of_block b = numbers_of_length b.first b.count
 
--- those of all blocks, the last one first
+-- the numbers of all blocks, those of the last block first
 abbrev pub ahead_of : List Block → List ℕ
 ahead_of [] = []
 ahead_of (b ∷ bs) = ahead_of bs ++ numbers_of_block b
 
--- how many children a process has whose record has this status; none where the record is free
+-- how many children a process has whose record has this status; `None` where the record is free
 abbrev pub children_by : Status → Option ℕ
 children_by code.Free = None
 children_by code.Live = Some 0
@@ -26,11 +26,11 @@ children_by (code.Forked n) = Some n
 children_by code.Ended = Some 0
 children_by (code.Dead x) = Some 0
 
--- the process with this number shares the channel, and these are its children; or it doesn't
+-- Some: the process with this number shares the channel, and the block has its children. None: no process with this number shares the channel.
 abbrev pub IsSharer : {S : Type 0} → Ops S → TableView S → Channel → ℕ → Option Block → Type 0
 IsSharer {S} o v c i None = (f : ℕ) (s : S) (k : ProcessStatus) → HasProcessState v i f s k → o.shares s c ≡ false
 IsSharer {S} o v c i (Some b) = (s : S) × (k : ProcessStatus) × HasProcessState v i b.first s k × (o.shares s c ≡ true) × (b.count ≡ children k)
 
--- a step of a descent: whatever is found from the numbers still ahead, behind what is found so far, is what is found from the numbers that were ahead
+-- A step of a descent leads from `ahead` and `found` to `ahead'` and `found'`. If a descent from `ahead'` finds `more`, a descent from `ahead` finds some `all`. Then `found` with `all` behind it is `found'` with `more` behind it.
 abbrev pub DescendsOn : {S : Type 0} → Ops S → TableView S → Channel → List ℕ → List ℕ → List ℕ → List ℕ → Type 0
 DescendsOn o v c ahead found ahead' found' = (more : List ℕ) → Descends o v c ahead' more → (all : List ℕ) × Descends o v c ahead all × (found ++ all ≡ found' ++ more)

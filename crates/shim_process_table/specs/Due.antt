@@ -17,7 +17,7 @@ use Rattle.shim_process_table.specs.Stepping.{LivesAt}
 use Rattle.shim_process_table.specs.declared.due.Due.{Due}
 use Rattle.shim_process_table.specs.declared.due.Due.TheVariants as code
 
--- it lives, and is at a channel that it declared
+-- the process with the number i lives, and waits at a channel that it declared
 pub record MeetsAlone {S : Type 0} (o : Ops S) (v : TableView S) (i : ℕ) : Type 0 where
   pub first : ℕ
   pub process : S
@@ -26,7 +26,7 @@ pub record MeetsAlone {S : Type 0} (o : Ops S) (v : TableView S) (i : ℕ) : Typ
   pub stop_is : o.stop process ≡ AtNext chan
   pub declared : o.path process ≡ chan.channel.home
 
--- it declared the channel of its pair in this place, and by the pair's counts it is ready on that
+-- The process with the number i has forked, and declared the channel of its pair at the place q. By the counts of that pair it is ready on the channel.
 pub record IsReadyToMeet {S : Type 0} (o : Ops S) (v : TableView S) (i q : ℕ) : Type 0 where
   pub first : ℕ
   pub many : ℕ
@@ -36,7 +36,7 @@ pub record IsReadyToMeet {S : Type 0} (o : Ops S) (v : TableView S) (i q : ℕ) 
   pub declared : o.path process ≡ pair_is.chan.channel.home
   pub all : tally_ready (tally pair_is) ≡ true
 
--- by its pair in this place a death below dooms its child with the number j, which is ready
+-- The process with the number i has forked. The label of its pair at the place q is below the number of exception places in force at it (`handlers`). Its child with the number j is ready on the channel of that pair.
 pub record IsDoomed {S : Type 0} (o : Ops S) (v : TableView S) (i q j : ℕ) : Type 0 where
   pub first : ℕ
   pub many : ℕ
@@ -73,16 +73,16 @@ abbrev pub ready_record : {S : Type 0} → Ops S → Channel → Option S → Op
 ready_record o c (Some s) (Some (used f k)) y = ready_by o c s k y
 ready_record o c _ _ y = false
 
--- whether the process with this number is ready on it
+-- whether the process with this number is ready on the channel
 abbrev pub ready_at : {S : Type 0} → Ops S → Channel → List S → List Record → ℕ → Bool
 ready_at o c states rs i = ready_record o c (slice_get states i) (slice_get (map record_view rs) i) (counts_in c rs i)
 
--- one of so many from a number on that is ready, or that none is
+-- Some: j is one of the n numbers from g on, and its process is ready on the channel. None: none of these n processes is ready on it.
 abbrev pub ReadyAmong : {S : Type 0} → Ops S → Channel → List S → List Record → ℕ → ℕ → Option ℕ → Type 0
 ReadyAmong o c states rs g n None = (b : ℕ) → b < n → ready_at o c states rs (g + b) ≡ false
 ReadyAmong o c states rs g n (Some j) = (b : ℕ) × (b < n) × (j ≡ g + b) × (ready_at o c states rs j ≡ true)
 
--- the child that the pair's label dooms at the fork of a process with this state, whose n children have the numbers from g on; or that there is none
+-- A fork of a process with the state l has n children with the numbers from g on. Some: the label of the pair y dooms the child j, which is ready on the pair's channel. None: that label dooms no ready child.
 abbrev pub DoomedAmong : {S : Type 0} → Ops S → List S → List Record → S → ℕ → ℕ → Pair → Option ℕ → Type 0
 DoomedAmong o states rs l g n y None = is_below y.min_dead_label (o.handlers l) ≡ true → ReadyAmong o y.chan.channel states rs g n None
 DoomedAmong o states rs l g n y (Some j) = (is_below y.min_dead_label (o.handlers l) ≡ true) × ReadyAmong o y.chan.channel states rs g n (Some j)

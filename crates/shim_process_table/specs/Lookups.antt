@@ -15,15 +15,15 @@ IsInUse {S} v i = (f : ℕ) × (s : S) × (k : ProcessStatus) × HasProcessState
 abbrev pub IsForAll : {S A : Type 0} → TableView S → List A → Type 0
 IsForAll {S} v xs = (i : ℕ) → IsInUse v i → i < length xs
 
--- there is one, and it has forked
+-- there is a process with this number, and it has forked
 abbrev pub HasForkedAt : {S : Type 0} → TableView S → ℕ → Type 0
 HasForkedAt {S} v i = (first : ℕ) × (n : ℕ) × (l : S) × HasProcessState v i first l (forks n)
 
--- the first number is that of the first child, and there are so many
+-- the first number of c is that of the first child, the second is how many children there are
 abbrev pub ChildrenAre : ℕ × ℕ → ℕ → ℕ → Type 0
 ChildrenAre c first n = (c.0 ≡ first) × (c.1 ≡ n)
 
--- there is one with each of these numbers
+-- there is a process with each of these numbers
 abbrev pub AreInUse : {S : Type 0} → TableView S → List ℕ → Type 0
 AreInUse v numbers = (i : ℕ) → IsAmong i numbers → IsInUse v i
 
@@ -34,7 +34,7 @@ pub record HasPair {S : Type 0} (v : TableView S) (i first n : ℕ) (l : S) (q :
   pub there : slice_get v.records i ≡ Some said
   pub pair : slice_get said.pairs.items q ≡ Some y
 
--- it has a pair in this place
+-- the process with this number has forked, and its record has a pair at the place q
 abbrev pub HasPairAt : {S : Type 0} → TableView S → ℕ → ℕ → Type 0
 HasPairAt {S} v i q = (first : ℕ) × (n : ℕ) × (l : S) × (y : Pair) × HasPair v i first n l q y
 

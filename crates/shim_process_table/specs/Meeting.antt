@@ -22,21 +22,21 @@ WaitsAt {S} o c i v false = (f : ℕ) (l : S) → HasProcessState v i f l lives 
 
 -- a live process is at the channel no more: the counts above the record x were updated for it, through at most n forks
 abbrev pub LeavesChannel : Channel → ℕ → ℕ → List Record → List Record → Type 0
-LeavesChannel c n x before behind = (was : ChildStatus) × (is : ChildStatus) × (child_status_of was ≡ live_child_status true) × (child_status_of is ≡ live_child_status false) × IsUpdatedAbove c n x was is before behind
+LeavesChannel c n x before after = (was : ChildStatus) × (is : ChildStatus) × (child_status_of was ≡ live_child_status true) × (child_status_of is ≡ live_child_status false) × IsUpdatedAbove c n x was is before after
 
--- The process with this number lived, was at the channel and received the value there; no other process has changed, and no record in use is readier than before but its own and those of the first so many forks above it. It belongs in that queue now.
-pub record HasReceived {S : Type 0} (o : Ops S) (c : Channel) (x : ℤ) (number : ℕ) (to_requeue : Requeue) (before behind : TableView S) : Type 0 where
+-- The process with this number lived, was at the channel and received the value there. No other process has changed. No record in use is readier than before but its own and those of the first forks above it, as many as `to_requeue` says. It belongs in the queue of `to_requeue` now.
+pub record HasReceived {S : Type 0} (o : Ops S) (c : Channel) (x : ℤ) (number : ℕ) (to_requeue : Requeue) (before after : TableView S) : Type 0 where
   pub first : ℕ
   pub process : S
   pub chan : NamedChannel
   pub has : HasProcessState before number first process lives
   pub stop_was : o.stop process ≡ AtNext chan
   pub is_channel : chan.channel ≡ c
-  pub becomes : HasBecome number (o.receive process x) lives before behind
-  pub newly_ready : ReadiesAbove o to_requeue.forks number before behind
-  pub queue : QueueIs o behind number to_requeue.queue
+  pub becomes : HasBecome number (o.receive process x) lives before after
+  pub newly_ready : ReadiesAbove o to_requeue.forks number before after
+  pub queue : QueueIs o after number to_requeue.queue
 
 -- Some: the process received the value and is to be put in this queue; None: it doesn't wait at the channel, and nothing has changed
 abbrev pub ReceivesHere : {S : Type 0} → Ops S → Channel → ℤ → ℕ → Option Requeue → TableView S → TableView S → Type 0
-ReceivesHere o c x number None before behind = (behind ≡ before) × WaitsAt o c number before false
-ReceivesHere o c x number (Some to_requeue) before behind = HasReceived o c x number to_requeue before behind
+ReceivesHere o c x number None before after = (after ≡ before) × WaitsAt o c number before false
+ReceivesHere o c x number (Some to_requeue) before after = HasReceived o c x number to_requeue before after

@@ -12,6 +12,6 @@ abbrev pub NamesIt : {S : Type 0} → Ops S → Channel → ℕ → TableView S 
 NamesIt {S} o c i v None = (f : ℕ) (l : S) → HasProcessState v i f l lives → is_next (o.stop l) c ≡ false
 NamesIt {S} o c i v (Some n) = (f : ℕ) × (l : S) × (d : NamedChannel) × HasProcessState v i f l lives × (o.stop l ≡ AtNext d) × (d.channel ≡ c) × (n ≡ d.name)
 
--- it is the first name among those of these numbers, or there is none and it is 0
+-- Of the processes with these numbers, the first that lives and is at the channel has the name n for it. If none is, n is 0.
 abbrev pub IsChannelName : {S : Type 0} → Ops S → TableView S → Channel → List ℕ → ℕ → Type 0
 IsChannelName o v c numbers n = (x : Option ℕ) × IsFirstName o v c numbers x × (n ≡ unwrap_or x 0)

@@ -22,11 +22,11 @@ abbrev pub KnowledgeAt : {S : Type 0} → TableView S → Channel → ℕ → Op
 KnowledgeAt {S} v c i None = (f n : ℕ) (s : S) → HasProcessState v i f s (forks n) → known_in c v.records i ≡ None
 KnowledgeAt {S} v c i (Some w) = (s : S) × HasProcessState v i w.first s (forks w.count) × (known_in c v.records i ≡ Some w.sharing)
 
--- it is the number of the child that is the source; or none of them is
+-- Some: j is the number of the child that took the channel's own variable, as the fork knows. None: as the fork knows, no child took it.
 abbrev pub IsSourceOf : Knowledge → Option ℕ → Type 0
 IsSourceOf w None = w.count ≤ w.sharing.source
 IsSourceOf w (Some j) = (w.sharing.source < w.count) × (j ≡ w.first + w.sharing.source)
 
--- a step of such a walk: whatever is found from the numbers still ahead, behind what is found so far, is what is found from the numbers that were ahead
+-- A step of the walk leads from `ahead` and `found` to `ahead'` and `found'`. If a walk from `ahead'` finds `more`, a walk from `ahead` finds some `all`. Then `found` with `all` behind it is `found'` with `more` behind it.
 abbrev pub PlansOn : {S : Type 0} → TableView S → Channel → List ℕ → List ℕ → List ℕ → List ℕ → Type 0
 PlansOn v c ahead found ahead' found' = (more : List ℕ) → Plans v c ahead' more → (all : List ℕ) × Plans v c ahead all × (found ++ all ≡ found' ++ more)

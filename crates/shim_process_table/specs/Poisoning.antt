@@ -14,7 +14,7 @@ abbrev pub IsKilledBy : {S : Type 0} → Ops S → ℕ → ℕ → TableView S �
 IsKilledBy {S} o label i v true = (f : ℕ) × (l : S) × HasProcessState v i f l lives × (label < o.base l)
 IsKilledBy {S} o label i v false = (f : ℕ) (l : S) → HasProcessState v i f l lives → label < o.base l → ⊥
 
--- the process with this number is a child whose poison on the channel is enabled, and the label is the innermost one in force at its fork
+-- the process with this number is a child whose poison on the channel is enabled, and the label is the innermost one in force at the fork that made it
 pub record CanPoison {S : Type 0} (o : Ops S) (c : Channel) (label i : ℕ) (v : TableView S) : Type 0 where
   pub child : S
   pub parent : S
@@ -24,4 +24,4 @@ pub record CanPoison {S : Type 0} (o : Ops S) (c : Channel) (label i : ℕ) (v :
 
 -- the tree moved by the poison of the process with this number
 abbrev pub PoisonsAt : {S : Type 0} → Ops S → Channel → ℕ → TableView S → TableView S → Type 0
-PoisonsAt {S} o c i before behind = (f : ℕ) (k : S) (x : ProcessStatus) → HasProcessState before i f k x → Performs o (Poison (o.path k) c) before behind
+PoisonsAt {S} o c i before after = (f : ℕ) (k : S) (x : ProcessStatus) → HasProcessState before i f k x → Performs o (Poison (o.path k) c) before after

@@ -11,7 +11,7 @@ use Rattle.shim_laws_table_events.specs.keeping.Moves.{PerformsQuiet}
 
 -- the process with this number has this state and status now, and no other process has changed
 abbrev pub HasBecome : {S : Type 0} → ℕ → S → ProcessStatus → TableView S → TableView S → Type 0
-HasBecome number s k before behind = HasChanged before.states behind.states (views before) (views behind) number s k
+HasBecome number s k before after = HasChanged before.states after.states (views before) (views after) number s k
 
 -- the process with this number lives, and is at this stop
 abbrev pub LivesAt : {S : Type 0} → Ops S → TableView S → ℕ → StopView → Type 0
@@ -28,15 +28,15 @@ IsBeforeQuiet {S} o i v true = LivesAt o v i AtQuiet
 IsBeforeQuiet {S} o i v false = (f : ℕ) (l : S) → HasProcessState v i f l lives → o.stop l ≢ AtQuiet
 
 -- The process with this number lived and was before a quiet step, it did so many, no other process has changed, and the tree moves by these.
-pub record StepsAt {S : Type 0} (o : Ops S) (number taken : ℕ) (before behind : TableView S) : Type 0 where
+pub record StepsAt {S : Type 0} (o : Ops S) (number taken : ℕ) (before after : TableView S) : Type 0 where
   pub first : ℕ
   pub process : S
   pub last : S
   pub has : HasProcessState before number first process lives
   pub stop_was : o.stop process ≡ AtQuiet
   pub chain : QuietSteps o taken process last
-  pub becomes : HasBecome number last lives before behind
-  pub advances : PerformsQuiet o (o.path process) taken before behind
+  pub becomes : HasBecome number last lives before after
+  pub advances : PerformsQuiet o (o.path process) taken before after
 
 -- The process with this number lives, is before a quiet step, and comes to this state by so many.
 pub record QuietlyReaches {S : Type 0} (o : Ops S) (v : TableView S) (number taken : ℕ) (last : S) : Type 0 where

@@ -23,9 +23,9 @@ use shim_records::Status;
 pub enum Thrown {
     /// The process caught it: the number of the exception's name, and the line of the `try`.
     Caught(u32, u32),
-    /// No handler of its own is in force, and the process died so.
+    /// No handler of its own is in force for the label, and the process died this death.
     Died(Death),
-    /// Its expression traps, and the process is trapped.
+    /// The throw's expression trapped, and the process is trapped.
     Trapped,
 }
 
@@ -48,8 +48,8 @@ fn throw_own<L: Local>(process: &mut L, label: u32) -> Thrown
 }
 
 impl<L: Local> ProcessTable<L> {
-    /// The process with this number, which lives and is at a `put`, does it. The answer is the byte, or
-    /// `None` where the expression traps; it then is trapped. It says where the process has come, too.
+    /// The process with this number, which lives and is at a `put`, does it. The answer is the byte, or `None` where
+    /// the expression traps and the process is trapped; and what is to be queued again.
     pub fn put(&mut self, number: u32) -> (Option<u8>, Requeue)
         requires { LivesAt L.ops self.old number AtPut }
         ensures acts { ActsAlone L.ops result.1.forks number AtPut lives (putting result.0) self.old self.new }
@@ -61,9 +61,9 @@ impl<L: Local> ProcessTable<L> {
         (byte, to_requeue)
     }
 
-    /// The process with this number, which lives and is at a throw of the exception of this label, throws
-    /// it: a handler of its own catches it, or the process dies, or is trapped. The answer says where it
-    /// has come, too.
+    /// The process with this number, which lives and is at a throw of the exception of this label, throws it: a
+    /// handler of its own catches it, or the process dies, or is trapped. The answer says which, and what is to be
+    /// queued again.
     pub fn throw(&mut self, number: u32, label: u32) -> (Thrown, Requeue)
         requires { LivesAt L.ops self.old number (AtThrow label) }
         ensures acts { ActsAlone L.ops result.1.forks number (AtThrow label) (status_by_throw result.0) (throw_effects result.0) self.old self.new }
@@ -75,7 +75,7 @@ impl<L: Local> ProcessTable<L> {
             let forks = terminate(&self.states[at], Status::Dead(death), &mut self.records, at);
             let gone = Requeue {
                 queue: Queue::Neither,
-                // the next fork further up may read these otherwise
+                // a child of the next fork up may have another record than before
                 forks: forks as u64 + 1,
             };
             return (thrown, gone);

@@ -26,11 +26,11 @@ use shim_records::{
 pub enum CloseOutcome {
     /// All children had ended, and it is behind the fork.
     GoesOn,
-    /// A child had died, and the exception was thrown in it.
+    /// A child had died, and the exception of the prevailing death was thrown in the process.
     Threw(Thrown),
 }
 
-// The prevailing one of a death and another one, if there are any.
+// The prevailing one of two deaths: that of a record with this status, if it is dead, and another, if there is one.
 fn prevailing(status: Status, rest: Option<Death>) -> Option<Death>
     ensures { (f : ℕ) → result ≡ prevailing_with (status_view f status) rest }
 {
@@ -58,7 +58,7 @@ fn prevailing_death(records: &[Record], first: usize, count: usize) -> Option<De
 }
 
 // The process takes back the values of its children, whose states are behind its own.
-fn join_behind<L: Local>(states: &mut [L], parent: usize, first: usize, count: usize, goes_on: bool)
+fn join_after<L: Local>(states: &mut [L], parent: usize, first: usize, count: usize, goes_on: bool)
     requires order { parent < first }
     requires inside { first + count ≤ length states.old }
     requires born { (l : L) → slice_get states.old parent ≡ Some l → L.ops.born l (segment first count states.old) }
@@ -95,7 +95,7 @@ fn join_children<L: Local>(
     ensures { HasJoined L.ops parent first count goes_on states.old.items states.new.items }
 {
     if parent < first {
-        join_behind(states.as_mut_slice(), parent, first, count, goes_on);
+        join_after(states.as_mut_slice(), parent, first, count, goes_on);
     } else {
         join_before(states.as_mut_slice(), parent, first, count, goes_on);
     }
@@ -114,7 +114,8 @@ pub(crate) fn throw_in<L: Local>(process: &mut L, death: Death) -> Thrown
     Thrown::Caught(name, line)
 }
 
-// The process takes back its children's values. Where any died, the exception of the prevailing death is thrown in it.
+// The process takes back its children's values. If any child died, the exception of the prevailing death is thrown in
+// the process.
 fn join_and_throw<L: Local>(
     states: &mut Vec<L>,
     parent: usize,
@@ -155,7 +156,7 @@ fn come_to(parent: &mut Record, status: Status)
     parent.pairs.clear();
 }
 
-// A process that has ended or died goes on no more.
+// If this status is an end or a death, the record's parent counts one child less that goes on.
 fn count_off_if_over(records: &mut Vec<Record>, at: usize, status: Status)
     ensures { CountsOffIfOver (process_status_of status) at records.old.items records.new.items }
 {
@@ -184,8 +185,8 @@ fn recompute_all<L: Local>(states: &[L], records: &mut Vec<Record>, at: usize, f
     }
 }
 
-// Reads the labels above a process off again where a child died so; where none did there is no label
-// to take away. It answers how many forks that concerns, at most.
+// If a child died, reads the labels above a process off again; else no label can have gone. The answer bounds how
+// many forks above have changed records.
 fn recompute_if<L: Local>(
     states: &[L],
     records: &mut Vec<Record>,
@@ -206,8 +207,8 @@ fn recompute_if<L: Local>(
     }
 }
 
-// This came of a process whose fork has closed, and a child of which died so, if any did: its
-// record says so, and all above is brought up to date. It answers how many forks that concerns, at most.
+// Of a process whose fork has closed: its record takes this status, and all above is brought up to date. `death` is
+// the prevailing one of its children, if any died. The answer bounds how many forks above have changed records.
 fn close_record<L: Local>(
     states: &[L],
     records: &mut Vec<Record>,
@@ -226,7 +227,7 @@ fn close_record<L: Local>(
     count_off_if_over(records, at, status);
     let counted = update_all_counts(&states[at], status, records, at, u32::MAX);
     let labelled = recompute_if(states, records, at, death);
-    // if the process has ended or died, its fork has one child less that goes on, though no child may have died
+    // if the process has ended or died, its parent counts one child less that goes on, though no child may have died
     labelled.max(counted).max(1)
 }
 

@@ -42,7 +42,7 @@ impl Model for Sharers {
 }
 
 impl Sharers {
-    /// None yet.
+    /// Holds no numbers yet.
     pub fn new(alloc: Global) -> Sharers
         ensures { result ≡ [] }
     {
@@ -52,7 +52,7 @@ impl Sharers {
         }
     }
 
-    /// Lends them.
+    /// Lends the numbers.
     pub fn numbers(&self) -> &[u32]
         ensures { result.now ≡ self.now }
     {
@@ -60,7 +60,7 @@ impl Sharers {
     }
 }
 
-// How many children a process has whose record has this status; none where the record is free.
+// How many children a process has whose record has this status; `None` where the record is free.
 fn children_of(status: Status) -> Option<u32>
     ensures { result ≡ children_by status }
 {
@@ -71,7 +71,8 @@ fn children_of(status: Status) -> Option<u32>
     }
 }
 
-// What a fork knows of who of its children shares a channel: the number of the first one, and how many they are.
+// What a fork knows of a channel: who of its children shares it. `first` is the first child's number, `count` how
+// many children there are.
 #[derive(Clone, Copy)]
 struct Knowledge {
     first: u32,
@@ -275,8 +276,8 @@ impl<L: Local> ProcessTable<L> {
         }
     }
 
-    // Looks at the first process of a block: its children come next if it shares the channel, and then the
-    // rest of the block.
+    // Looks at the first process of a block. If it shares the channel, it is found, and its children come next; and
+    // then the rest of the block.
     fn look(
         &self,
         block: Block,

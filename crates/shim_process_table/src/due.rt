@@ -46,7 +46,7 @@ pub(crate) fn declares<L: Local>(process: &L, chan: &Chan) -> bool
     *process.path() == *chan.home()
 }
 
-// What a live process can do, wherever it is.
+// What can happen at a live process other than a quiet step, whatever its number is.
 fn due_alone<L: Local>(process: &L) -> Due
     ensures { (v : TableView L) (i f : ℕ) → HasProcessState v i f process.now lives → DueIs L.ops v i result }
 {
@@ -67,7 +67,7 @@ fn due_alone<L: Local>(process: &L) -> Due
     }
 }
 
-// Whether all are there who share the channel of a pair of this process's fork, which declared it.
+// Whether the process declared the channel of this pair of its fork, and is ready on it by the pair's counts.
 fn can_meet<L: Local>(process: &L, pair: &Pair) -> bool
     ensures met { result ≡ true → (L.ops.path process.now ≡ pair.now.chan.channel.home) × (tally_ready (tally pair.now) ≡ true) }
     ensures not_met { result ≡ false → L.ops.path process.now ≡ pair.now.chan.channel.home → tally_ready (tally pair.now) ≡ false }
@@ -106,7 +106,7 @@ fn due_below<L: Local>(
 }
 
 impl<L: Local> ProcessTable<L> {
-    /// What can happen at the process with this number, which is looked for at its record. It takes no memory.
+    /// What can happen at the process with this number other than a quiet step, by its record. It takes no memory.
     pub fn due(&self, number: u32) -> Due
         ensures { DueIs L.ops self.now number result }
     {

@@ -31,8 +31,8 @@ pub enum ForkOutcome {
     Trapped,
 }
 
-/// What the fork of a process comes to: the number of the process, how it is behind the fork, and its
-/// children or a trap.
+/// What the fork of a process comes to: the number of the process, its state after the fork, and its children or a
+/// trap.
 #[derive(Drop)]
 pub struct Fork<L> {
     number: u32,
@@ -41,7 +41,7 @@ pub struct Fork<L> {
 }
 
 impl<L> Fork<L> {
-    /// How many children the process has behind it.
+    /// How many children the fork makes; 0 if it traps.
     pub fn count(&self) -> usize
         ensures { result ≡ forked_count self.now.came }
     {
@@ -60,7 +60,7 @@ struct PutChildren {
     forks: u32,
 }
 
-// A fork whose children have to be put: the number of the process, how it stands then, and its children.
+// A fork whose children have to be put: the number of the process, its state after the fork, and its children.
 struct Parted<L> {
     number: u32,
     parent: L,
@@ -248,8 +248,8 @@ fn put_fork<L: Local>(
 }
 
 impl<L: Local> ProcessTable<L> {
-    /// What the fork comes to of the process with this number, which lives and is at one. Nothing changes
-    /// before it is put.
+    /// What the fork comes to of the process with this number, which lives and is at a fork. Only `put_fork` changes
+    /// the table.
     pub fn fork_of(&self, number: u32) -> Result<Fork<L>, NoMemory>
         requires { LivesAt L.ops self.now number AtFork }
         ensures number { IfOk result (λ fork. fork.number ≡ number) }
@@ -265,8 +265,8 @@ impl<L: Local> ProcessTable<L> {
         })
     }
 
-    /// The process forks so, in place. The answer says how many forks above it have other counts, at most.
-    /// Running out of memory changes nothing.
+    /// The process forks in place, or its fork traps, as `fork` says. The answer says how many forks above it have
+    /// other counts, at most. Running out of memory changes nothing.
     pub fn put_fork(&mut self, alloc: Global, fork: Fork<L>) -> Result<(ForkOutcome, u32), NoMemory>
         requires { ForkComesTo L.ops self.old fork.number fork.parent fork.came }
         ensures ok { IfOk result (λ put. ForksHere L.ops put.1 fork.number self.old self.new put.0) }
@@ -292,7 +292,7 @@ impl<L: Local> ProcessTable<L> {
         }
     }
 
-    // The process with this number has forked so.
+    // The process with this number forks. Its state becomes `parent`, and it has these children.
     fn fork_into(
         &mut self,
         alloc: Global,

@@ -8,7 +8,7 @@ use shim_base::Chan;
 use shim_local::Local;
 use shim_records::{Pair, Record, Status, is_at_channel, place_in, tally_ready};
 
-// Whether all are there by the counts that a fork has for the channel.
+// Whether a fork is ready on the channel by the counts that it has for that.
 fn counts_all(fork: &Record, c: &Chan) -> bool
     ensures { result ≡ counts_ready (tally_for c.now.channel fork.now.pairs.items) }
 {
@@ -54,7 +54,7 @@ fn first_ready<L: Local>(
     None
 }
 
-// Whether a label is one of the process's handlers'.
+// Whether there is a label, and it is below the number of exception places in force at the process.
 fn is_low<L: Local>(label: Option<u32>, process: &L) -> bool
     ensures { result ≡ is_below label (L.ops.handlers process.now) }
 {

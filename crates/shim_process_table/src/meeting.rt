@@ -34,8 +34,8 @@ fn leave_channel(c: &Chan, records: &mut Vec<Record>, at: usize)
     );
 }
 
-// Brings the counts above a process up to date that was at the channel and has received there. It answers
-// where the process has come.
+// Brings the counts above a process up to date that was at the channel and has received there. The answer says what
+// is to be queued again.
 fn move_on<L: Local>(process: &L, c: &Chan, records: &mut Vec<Record>, at: usize) -> Requeue
     ensures moves { MovesOn L.ops process.now c.now.channel most_forks at records.old.items records.new.items }
     ensures newly_ready { MoveReadies L.ops process.now c.now.channel result.forks at records.old.items records.new.items }
@@ -69,8 +69,8 @@ fn move_on<L: Local>(process: &L, c: &Chan, records: &mut Vec<Record>, at: usize
 }
 
 impl<L: Local> ProcessTable<L> {
-    /// The process with this number receives the value of a rendezvous of the channel, if it lives and waits
-    /// at it, and the answer says where it has come; `None` where it doesn't, and then nothing changes. It
+    /// The process with this number receives the value of a rendezvous of the channel, if it lives and waits at it.
+    /// The answer then says what is to be queued again. `None` where it doesn't wait there, and nothing changes. It
     /// takes no memory.
     pub fn receive(&mut self, number: u32, c: &Chan, v: i64) -> Option<Requeue>
         ensures receives { ReceivesOne L.ops c.now.channel v number self.old self.new }

@@ -12,9 +12,9 @@ use shim_local::{Death, Local};
 use shim_records::{Status, count_off, kill_all, lower_all_labels};
 
 impl<L: Local> ProcessTable<L> {
-    /// The child with this number is poisoned on the channel: all that live there or below and share it die of
-    /// the innermost label in force at its fork. That poison has to be enabled, `label` has to be that label, and
-    /// `sharers` those which `sharers` finds from the child on. It takes no memory.
+    /// The child with this number is poisoned on the channel: all that live there or below and share it die of the
+    /// innermost label in force at the fork that made the child. That poison has to be enabled, `label` has to be
+    /// that label, and `sharers` those which `sharers` finds from the child on. It takes no memory.
     pub fn poison(&mut self, number: u32, c: &Chan, label: u32, sharers: &Sharers)
         requires can { CanPoison L.ops c.now.channel label number self.old }
         requires sharers { ListsSharers L.ops self.old c.now.channel number sharers.now }

@@ -19,8 +19,8 @@ pub struct Requeue {
     pub forks: u64,
 }
 
-/// Brings the counts above a live process up to date that has changed, where it waits at a channel now and waited
-/// at none before. It answers where the process has come.
+/// Brings the counts above a live process up to date that has changed, if it waits at a channel now and waited at
+/// none before. The answer says what is to be queued again.
 pub(crate) fn propagate_stop<L: Local>(process: &L, records: &mut Vec<Record>, at: usize) -> Requeue
     ensures propagates { PropagatesStop L.ops process.now most_forks at records.old.items records.new.items }
     ensures newly_ready { StopReadies L.ops process.now result.forks at records.old.items records.new.items }

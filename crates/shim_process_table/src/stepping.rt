@@ -37,9 +37,9 @@ fn lives_on(status: Status) -> bool
 }
 
 impl<L: Local> ProcessTable<L> {
-    /// The process with this number, which lives and is before a quiet step, does up to `most` of them in
-    /// place, and fewer only where it comes to another stop, or memory is wanted. The answer says where it has
-    /// come, too.
+    /// The process with this number, which lives and is before a quiet step, does up to `most` of them in place, and
+    /// fewer only where it comes to another stop, or memory is wanted. The answer says how many, and what is to be
+    /// queued again.
     pub fn step(&mut self, number: u32, most: u64) -> (Quiet, Requeue)
         requires { LivesAt L.ops self.old number AtQuiet }
         ensures steps { StepsAt L.ops number result.0.taken self.old self.new }
@@ -54,8 +54,8 @@ impl<L: Local> ProcessTable<L> {
         (quiet, to_requeue)
     }
 
-    /// The process with this number, which lives and is before a quiet step, did so many of them
-    /// elsewhere as lead to this state. The answer says where it has come. It takes no memory.
+    /// The process with this number, which lives and is before a quiet step, did so many of them elsewhere as lead to
+    /// this state. The answer says what is to be queued again. It takes no memory.
     pub fn advance(&mut self, number: u32, last: L) -> Requeue
         requires comes { (taken : ℕ) × QuietlyReaches L.ops self.old number taken last }
         ensures steps { (taken : ℕ) → QuietlyReaches L.ops self.old number taken last → StepsAt L.ops number taken self.old self.new }

@@ -7,8 +7,8 @@ ghost use Rattle.shim_process_table.specs.Touching.{ChangesOnlyRecords};
 use shim_local::Local;
 use shim_records::{Record, Status, count_off, lower_all_labels, update_all_counts};
 
-// Takes in the label of a death above the process's record, for each channel that it was given and shares. It
-// answers how many forks took it, at most.
+// If the status is a death, takes its label in above the process's record, for each channel that the process was
+// given and shares. The answer bounds how many forks above took it.
 fn take_label<L: Local>(process: &L, status: Status, records: &mut Vec<Record>, at: usize) -> u32
     requires few { length (L.ops.given process.now) ≤ 18446744073709551615 }
     ensures takes { TakesIn L.ops process.now status most_forks at records.old.items records.new.items }
@@ -40,6 +40,6 @@ pub(crate) fn terminate<L: Local>(
     let labelled = take_label(process, status, records, at);
     let counted = update_all_counts(process, status, records, at, u32::MAX);
     count_off(records, at);
-    // its fork has one less that goes on
+    // the process's parent, if it has one, counts one child less that goes on
     labelled.max(counted).max(1)
 }

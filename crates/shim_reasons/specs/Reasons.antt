@@ -5,7 +5,7 @@ use Rattle.shim_report.specs.Report.{channel_text, path_text}
 use Rattle.shim_waits.specs.declared.explained.Explained.{Explained}
 use Rattle.shim_waits.specs.declared.explained.Wait.{Wait}
 
--- a path behind a space
+-- a space, and then the path
 unfoldable pub spaced_path : Path → List ℕ
 spaced_path p = codes " " ++ path_text p
 
@@ -17,6 +17,6 @@ because_line w = codes "because" ++ (spaced_path w.path ++ (spaced_path w.holder
 unfoldable pub cycle_line : List Path → List ℕ
 cycle_line ps = codes "cycle" ++ (flat_map spaced_path ps ++ codes "\n")
 
--- each line ends with a line feed
+-- The line of each wait, and then the line of the cycle. Each line ends with a line feed.
 unfoldable pub reasons : Explained → List ℕ
 reasons e = flat_map because_line e.waits ++ cycle_line e.cycle

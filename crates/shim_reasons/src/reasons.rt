@@ -48,7 +48,7 @@ fn push_cycle(text: &mut List<u8>, cycle: &[Path]) -> Result<(), NoMemory>
     text.extend_from_slice(b"\n")
 }
 
-// Adds a path behind a space.
+// Adds a space and then the path.
 #[tactic(auto, unfolding(crate::specs::Reasons::spaced_path))]
 fn push_spaced_path(text: &mut List<u8>, path: &Path) -> Result<(), NoMemory>
     ensures { OnOk result (text.new ≡ text.old ++ spaced_path path.now) }

@@ -18,7 +18,7 @@ use Rattle.shim_local.specs.Laws.{AnyOf, IsGiven}
 use Rattle.shim_laws_table.specs.Counts.{Tally, fresh_tally}
 use Rattle.shim_records.specs.Members.{IsAmong}
 use Rattle.shim_records.specs.Pairs.{tally, chans_of, IsOrdered, pair_of, tally_for, min_label_of}
-use Rattle.shim_records.specs.Fresh.{shared_of, shared_given, channels, RisesFrom, Rises, is_behind, comes_after, IsOneMore, skipped, added, IsPaired, FreshPairs, FreshSharing}
+use Rattle.shim_records.specs.Fresh.{shared_of, shared_given, channels, RisesFrom, Rises, is_after, comes_after, IsOneMore, skipped, added, IsPaired, FreshPairs, FreshSharing}
 use Rattle.shim_records.specs.declared.pair.Pair.{Pair}
 use Rattle.shim_records.proofs.SharingFound.{known_pair}
 
@@ -248,7 +248,7 @@ module _ {S : Type 0} (o : Ops S) (ks : List S) (whole : List Channel) where
                 there_is (x ∷ ps) zero h f = cc
                 there_is (x ∷ ps) (suc k) h f = there_is ps k (omega (arith, h)) f
         on (Some p) w =
-            let last_less : channel_order p.chan.channel d ≡ Less = less_is (channel_order p.chan.channel d) (ap (λ z. is_behind z d) (sym w) ∙ after) in
+            let last_less : channel_order p.chan.channel d ≡ Less = less_is (channel_order p.chan.channel d) (ap (λ z. is_after z d) (sym w) ∙ after) in
             let at_last = chan_at pairs (length pairs - 1) p w in
             elim (same_or_not i (length pairs - 1)) [
               | inl z ↦ ap (λ v. channel_order v d) (some_same a p.chan.channel (sym e ∙ (ap (slice_get (chans_of pairs)) z ∙ at_last))) ∙ last_less
@@ -316,12 +316,12 @@ module _ {S : Type 0} (o : Ops S) (ks : List S) (whole : List Channel) where
         later c (suc i, e) there = inr (i, e)
 
         on : (x : Option Pair) → last_pair pairs ≡ x → LastRises x (d ∷ rest) → SoFar pairs rest
-        on None w h = absurd (never (sym (ap (λ z. is_behind z d) w) ∙ after))
+        on None w h = absurd (never (sym (ap (λ z. is_after z d) w) ∙ after))
           where
             never : true ≡ false → ⊥
             never z = cc
         on (Some p) w h =
-            let behind_not : is_lt (channel_order p.chan.channel d) ≡ false = ap (λ z. is_behind z d) (sym w) ∙ after in
+            let behind_not : is_lt (channel_order p.chan.channel d) ≡ false = ap (λ z. is_after z d) (sym w) ∙ after in
             let equal = equal_is (channel_order d p.chan.channel) (channel_order p.chan.channel d) (channel_order_total.antisymm d p.chan.channel) h.0 behind_not in
             let same : p.chan.channel ≡ d = same_channel_is p.chan.channel d (channel_ties p.chan.channel d ∙ ap is_eq equal) in
             let there = chan_at pairs (length pairs - 1) p w in

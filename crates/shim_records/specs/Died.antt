@@ -11,17 +11,17 @@ use Rattle.shim_records.specs.declared.record.Record.{Record}
 -- For each of these channels, none of which is there twice, the label y was taken in from the record x on, through at most n forks.
 pub data AllLoweredAbove (y n x : ℕ) : List Channel → List Record → List Record → Type 0 where
   none_left : (rs : List Record) → AllLoweredAbove y n x [] rs rs
-  one_more : (c : Channel) (cs : List Channel) (before between behind : List Record) → (IsAmong c cs → ⊥) → IsLoweredAbove c y n x before between → AllLoweredAbove y n x cs between behind → AllLoweredAbove y n x (c ∷ cs) before behind
+  one_more : (c : Channel) (cs : List Channel) (before between after : List Record) → (IsAmong c cs → ⊥) → IsLoweredAbove c y n x before between → AllLoweredAbove y n x cs between after → AllLoweredAbove y n x (c ∷ cs) before after
 
--- for one channel it was taken in, unless the process doesn't share it or it was before
-pub data LowersForOne {S : Type 0} (o : Ops S) (s : S) (y n x : ℕ) (c : Channel) (place : ℕ) (before behind : List Record) : Type 0 where
-  unshared : o.shares s c ≡ false → behind ≡ before → LowersForOne o s y n x c place before behind
-  again : Earlier o s c place → behind ≡ before → LowersForOne o s y n x c place before behind
-  is_lowered : o.shares s c ≡ true → (Earlier o s c place → ⊥) → IsLoweredAbove c y n x before behind → LowersForOne o s y n x c place before behind
+-- For the channel c the label y was taken in above the record x. No record has changed if the process doesn't share c, or if c is at a place before this one.
+pub data LowersForOne {S : Type 0} (o : Ops S) (s : S) (y n x : ℕ) (c : Channel) (place : ℕ) (before after : List Record) : Type 0 where
+  unshared : o.shares s c ≡ false → after ≡ before → LowersForOne o s y n x c place before after
+  again : Earlier o s c place → after ≡ before → LowersForOne o s y n x c place before after
+  is_lowered : o.shares s c ≡ true → (Earlier o s c place → ⊥) → IsLoweredAbove c y n x before after → LowersForOne o s y n x c place before after
 
--- for all that the process was given and shares
-pub record IsTaken {S : Type 0} (o : Ops S) (s : S) (y n x : ℕ) (before behind : List Record) : Type 0 where
+-- The label y was taken in above the record x for each channel of `chans`. The process shares each of these, and all that it was given and shares are among them.
+pub record IsTaken {S : Type 0} (o : Ops S) (s : S) (y n x : ℕ) (before after : List Record) : Type 0 where
   pub chans : List Channel
-  pub is_lowered : AllLoweredAbove y n x chans before behind
+  pub is_lowered : AllLoweredAbove y n x chans before after
   pub all : (c : Channel) → IsGiven o s c → o.shares s c ≡ true → IsAmong c chans
   pub shared : (c : Channel) → IsAmong c chans → o.shares s c ≡ true

@@ -15,7 +15,7 @@ abbrev pub shared_of : {S : Type 0} → Ops S → S → List NamedChannel → Li
 shared_of o p [] = []
 shared_of o p (d ∷ ds) = cond (o.shares p d.channel) (d ∷ shared_of o p ds) (shared_of o p ds)
 
--- those that it gave to these children
+-- the channels that these children were given and the process shares, child after child
 abbrev pub shared_given : {S : Type 0} → Ops S → S → List S → List NamedChannel
 shared_given o p [] = []
 shared_given o p (k ∷ ks) = shared_of o p (o.given k) ++ shared_given o p ks
@@ -34,16 +34,16 @@ abbrev pub Rises : List Channel → Type 0
 Rises [] = Unit {0}
 Rises (c ∷ cs) = RisesFrom c cs
 
--- there is no such pair, or the channel comes behind that of the pair
-abbrev pub is_behind : Option Pair → Channel → Bool
-is_behind None c = true
-is_behind (Some p) c = is_lt (channel_order p.chan.channel c)
+-- there is no pair, or the channel comes behind that of the pair
+abbrev pub is_after : Option Pair → Channel → Bool
+is_after None c = true
+is_after (Some p) c = is_lt (channel_order p.chan.channel c)
 
--- the channel comes behind that of the last pair
+-- there is no pair, or the channel comes behind that of the last one
 abbrev pub comes_after : List Pair → Channel → Bool
-comes_after ps c = is_behind (slice_get ps (length ps - 1)) c
+comes_after ps c = is_after (slice_get ps (length ps - 1)) c
 
--- Of new children: each that shares the channel has a branch from `first` to `last`. If one that shares it carries it, `source` is one that carries it; if none carries it, `source` is no child's.
+-- Of new children: if there is any, `last` is a child's branch. Each that shares the channel has a branch from `first` to `last`. If one shares and carries it, `source` is the branch of one that carries it. If none carries it, `source` is no child's branch.
 pub record FreshSharing {S : Type 0} (o : Ops S) (c : Channel) (ks : List S) (k : Sharing) : Type 0 where
   pub within : (b : ℕ) (s : S) → slice_get ks b ≡ Some s → k.last < length ks
   pub between : (b : ℕ) (s : S) → slice_get ks b ≡ Some s → o.shares s c ≡ true → (k.first ≤ b) × (b ≤ k.last)
@@ -58,15 +58,15 @@ pub record SharingSoFar {S : Type 0} (o : Ops S) (c : Channel) (ks : List S) (i 
   pub nobody : ((b : ℕ) (s : S) → slice_get ks b ≡ Some s → o.carries s c ≡ false) → 4294967295 ≤ k.source
 
 -- How a look at the child of the branch b changes what is known of the sharing. The child doesn't share the channel, or shares it without carrying it, or carries it.
-pub data LooksAt {S : Type 0} (o : Ops S) (c : Channel) (b : ℕ) (s : S) (before behind : Sharing) : Type 0 where
-  unshared : o.shares s c ≡ false → behind ≡ before → LooksAt o c b s before behind
-  shares : behind.first ≤ b → behind.first ≤ before.first → behind.last ≡ b → o.carries s c ≡ false → behind.source ≡ before.source → LooksAt o c b s before behind
-  takes : behind.first ≤ b → behind.first ≤ before.first → behind.last ≡ b → o.carries s c ≡ true → behind.source ≡ b → LooksAt o c b s before behind
+pub data LooksAt {S : Type 0} (o : Ops S) (c : Channel) (b : ℕ) (s : S) (before after : Sharing) : Type 0 where
+  unshared : o.shares s c ≡ false → after ≡ before → LooksAt o c b s before after
+  shares : after.first ≤ b → after.first ≤ before.first → after.last ≡ b → o.carries s c ≡ false → after.source ≡ before.source → LooksAt o c b s before after
+  takes : after.first ≤ b → after.first ≤ before.first → after.last ≡ b → o.carries s c ≡ true → after.source ≡ b → LooksAt o c b s before after
 
 -- a pair of the channel is added behind the others, unless the channel doesn't come after that of the last pair
-pub data IsOneMore {S : Type 0} (o : Ops S) (ks : List S) (c : Channel) (before behind : List Pair) : Type 0 where
-  skipped : comes_after before c ≡ false → behind ≡ before → IsOneMore o ks c before behind
-  added : (p : Pair) → comes_after before c ≡ true → behind ≡ before ++ p ∷ [] → p.chan.channel ≡ c → tally p ≡ fresh_tally o c ks → p.min_dead_label ≡ None → FreshSharing o c ks p.sharing → IsOneMore o ks c before behind
+pub data IsOneMore {S : Type 0} (o : Ops S) (ks : List S) (c : Channel) (before after : List Pair) : Type 0 where
+  skipped : comes_after before c ≡ false → after ≡ before → IsOneMore o ks c before after
+  added : (p : Pair) → comes_after before c ≡ true → after ≡ before ++ p ∷ [] → p.chan.channel ≡ c → tally p ≡ fresh_tally o c ks → p.min_dead_label ≡ None → FreshSharing o c ks p.sharing → IsOneMore o ks c before after
 
 -- one pair for each of these channels, in order, with the counts of new children
 pub record IsPaired {S : Type 0} (o : Ops S) (ks : List S) (cs : List Channel) (pairs : List Pair) : Type 0 where

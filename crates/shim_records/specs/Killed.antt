@@ -15,23 +15,23 @@ use Rattle.shim_records.specs.Acted.{Earlier}
 use Rattle.shim_records.specs.declared.pair.ChildStatus.{ChildStatus}
 use Rattle.shim_records.specs.declared.record.Record.{Record}
 
--- what was read of it while it lived
+-- what a fork read of the process while it lived
 abbrev pub living : {S : Type 0} → Ops S → S → Channel → Read
 living o s c = leaf_status o c s lives
 
--- what is read of it when it has died; of which label isn't read
+-- what a fork reads of the process when it has died; the label of the death isn't read
 abbrev pub as_dead : {S : Type 0} → Ops S → S → Channel → Read
 as_dead o s c = leaf_status o c s (dies (death 0))
 
 -- for one channel the counts above were updated, unless the process doesn't share it or it came before in the list
-pub data KillsOne {S : Type 0} (o : Ops S) (s : S) (n x : ℕ) (c : Channel) (place : ℕ) (before behind : List Record) : Type 0 where
-  unshared : o.shares s c ≡ false → behind ≡ before → KillsOne o s n x c place before behind
-  again : Earlier o s c place → behind ≡ before → KillsOne o s n x c place before behind
-  walked : o.shares s c ≡ true → (Earlier o s c place → ⊥) → (read reads : ChildStatus) → child_status_of read ≡ living o s c → child_status_of reads ≡ as_dead o s c → IsUpdatedAbove c n x read reads before behind → KillsOne o s n x c place before behind
+pub data KillsOne {S : Type 0} (o : Ops S) (s : S) (n x : ℕ) (c : Channel) (place : ℕ) (before after : List Record) : Type 0 where
+  unshared : o.shares s c ≡ false → after ≡ before → KillsOne o s n x c place before after
+  again : Earlier o s c place → after ≡ before → KillsOne o s n x c place before after
+  walked : o.shares s c ≡ true → (Earlier o s c place → ⊥) → (read reads : ChildStatus) → child_status_of read ≡ living o s c → child_status_of reads ≡ as_dead o s c → IsUpdatedAbove c n x read reads before after → KillsOne o s n x c place before after
 
--- for all channels that it was given and shares
-pub record IsKilled {S : Type 0} (o : Ops S) (s : S) (n x : ℕ) (before behind : List Record) : Type 0 where
+-- The counts above the record x were updated for each channel of `chans`. The process shares each of these, and all that it was given and shares are among them.
+pub record IsKilled {S : Type 0} (o : Ops S) (s : S) (n x : ℕ) (before after : List Record) : Type 0 where
   pub chans : List Channel
-  pub updated : AllUpdatedAbove (living o s) (as_dead o s) n x chans before behind
+  pub updated : AllUpdatedAbove (living o s) (as_dead o s) n x chans before after
   pub all : (c : Channel) → IsGiven o s c → o.shares s c ≡ true → IsAmong c chans
   pub shared : (c : Channel) → IsAmong c chans → o.shares s c ≡ true

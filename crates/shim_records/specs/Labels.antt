@@ -6,20 +6,20 @@ use Rattle.shim_records.specs.Pairs.{counts_in, min_labels_in, up_in, rest_of}
 use Rattle.shim_records.specs.declared.record.Record.{Record}
 
 -- the labels for the channel alone have changed, of whatever records
-pub record OnlyLabels (c : Channel) (before behind : List Record) : Type 0 where
-  pub rest : map rest_of behind ≡ map rest_of before
-  pub counts : (d : Channel) (i : ℕ) → counts_in d behind i ≡ counts_in d before i
-  pub elsewhere : (d : Channel) → same_channel c d ≡ false → (i : ℕ) → min_labels_in d behind i ≡ min_labels_in d before i
+pub record OnlyLabels (c : Channel) (before after : List Record) : Type 0 where
+  pub rest : map rest_of after ≡ map rest_of before
+  pub counts : (d : Channel) (i : ℕ) → counts_in d after i ≡ counts_in d before i
+  pub elsewhere : (d : Channel) → same_channel c d ≡ false → (i : ℕ) → min_labels_in d after i ≡ min_labels_in d before i
 
--- the walk ends here, however far it might have led; or it goes on from the parent
+-- None: the walk up from the record x ends with this step, whatever its bound. Some: if a walk from j of at most n forks leads on to `end`, a walk from x of at most n + 1 forks leads there.
 abbrev pub IsWalkStep : Channel → ℕ → List Record → ℕ → Option ℕ → List Record → Type 0
-IsWalkStep c y before x None behind = (n : ℕ) → LoweredAbove (up_in before) (counts_in c before) (Some y) n (min_labels_in c before) x (min_labels_in c behind)
-IsWalkStep c y before x (Some j) behind = (n : ℕ) (end : ℕ → Option ℕ) → LoweredAbove (up_in before) (counts_in c before) (Some y) n (min_labels_in c behind) j end → LoweredAbove (up_in before) (counts_in c before) (Some y) (suc n) (min_labels_in c before) x end
+IsWalkStep c y before x None after = (n : ℕ) → LoweredAbove (up_in before) (counts_in c before) (Some y) n (min_labels_in c before) x (min_labels_in c after)
+IsWalkStep c y before x (Some j) after = (n : ℕ) (end : ℕ → Option ℕ) → LoweredAbove (up_in before) (counts_in c before) (Some y) n (min_labels_in c after) j end → LoweredAbove (up_in before) (counts_in c before) (Some y) (suc n) (min_labels_in c before) x end
 
--- the label is taken into the one record above, and nothing else has changed
+-- one step of a walk up from the record x takes the label y in, and nothing but labels for the channel has changed
 abbrev pub LowersOne : Channel → ℕ → List Record → ℕ → Option ℕ → List Record → Type 0
-LowersOne c y before x next behind = IsWalkStep c y before x next behind × OnlyLabels c before behind
+LowersOne c y before x next after = IsWalkStep c y before x next after × OnlyLabels c before after
 
 -- the label y was taken in for the channel above the record x, through at most n forks, and nothing else has changed
 abbrev pub IsLoweredAbove : Channel → ℕ → ℕ → ℕ → List Record → List Record → Type 0
-IsLoweredAbove c y n x before behind = LoweredAbove (up_in before) (counts_in c before) (Some y) n (min_labels_in c before) x (min_labels_in c behind) × OnlyLabels c before behind
+IsLoweredAbove c y n x before after = LoweredAbove (up_in before) (counts_in c before) (Some y) n (min_labels_in c before) x (min_labels_in c after) × OnlyLabels c before after

@@ -17,7 +17,7 @@ use Rattle.shim_records.specs.declared.record.Status.TheVariants as code
 abbrev pub tally : Pair → Tally
 tally p = record { live = p.live; not_ready = p.not_ready; dead = p.dead }
 
--- a reading of the code, as the laws have it
+-- a child's status of the code, as the laws have it
 abbrev pub child_status_of : ChildStatus → Read
 child_status_of r = record { alive = r.alive; ready_on = r.ready_on; dead_on = r.dead_on }
 
@@ -25,16 +25,16 @@ child_status_of r = record { alive = r.alive; ready_on = r.ready_on; dead_on = r
 abbrev pub chans_of : List Pair → List Channel
 chans_of ps = map (λ p. p.chan.channel) ps
 
--- they are in order, each once
+-- these channels are in order, each once
 pub record IsOrdered (cs : List Channel) : Type 0 where
   pub order : (i j : ℕ) (a b : Channel) → i < j → slice_get cs i ≡ Some a → slice_get cs j ≡ Some b → channel_order a b ≡ Less
 
--- where the pair of the channel stands
+-- the place of the first pair of the channel, if there is one
 abbrev pub pair_index : Channel → List Pair → Option ℕ
 pair_index c [] = None
 pair_index c (p ∷ ps) = cond (same_channel p.chan.channel c) (Some 0) (option_map suc (pair_index c ps))
 
--- the pair of the channel
+-- the first pair of the channel, if there is one
 abbrev pub pair_of : Channel → List Pair → Option Pair
 pair_of c [] = None
 pair_of c (p ∷ ps) = cond (same_channel p.chan.channel c) (Some p) (pair_of c ps)
@@ -52,7 +52,7 @@ counts_at c (Some r) = tally_for c r.pairs.items
 abbrev pub counts_in : Channel → List Record → ℕ → Option Tally
 counts_in c rs i = counts_at c (slice_get rs i)
 
--- there are counts, and by them all are there
+-- there are counts, and a fork with these counts is ready
 abbrev pub counts_ready : Option Tally → Bool
 counts_ready None = false
 counts_ready (Some y) = tally_ready y
@@ -67,7 +67,7 @@ abbrev pub min_label_at : Channel → Option Record → Option ℕ
 min_label_at c None = None
 min_label_at c (Some r) = min_label_of (pair_of c r.pairs.items)
 
--- the least labels that they have for it
+-- the least labels that the records have for the channel
 abbrev pub min_labels_in : Channel → List Record → ℕ → Option ℕ
 min_labels_in c rs i = min_label_at c (slice_get rs i)
 
@@ -76,11 +76,11 @@ abbrev pub up_at : Option Record → Option ℕ
 up_at None = None
 up_at (Some r) = r.parent
 
--- whose fork made whom
+-- the number of the process whose fork made that of the record i, if there is the record
 abbrev pub up_in : List Record → ℕ → Option ℕ
 up_in rs i = up_at (slice_get rs i)
 
--- what came of a process
+-- what a record with this status says, where f is the number of the first child
 abbrev pub status_view : ℕ → Status → RecordView
 status_view f code.Free = free
 status_view f code.Live = used f lives
@@ -88,7 +88,7 @@ status_view f (code.Forked n) = used f (forks n)
 status_view f code.Ended = used f ends
 status_view f (code.Dead d) = used f (dies d)
 
--- into how many a process has forked
+-- into how many a process has forked whose record has this status; 0 if it hasn't
 abbrev pub fork_size : Status → ℕ
 fork_size code.Free = 0
 fork_size code.Live = 0
@@ -113,21 +113,21 @@ known_by p = record { chan = p.chan.channel; sharing = p.sharing }
 abbrev pub known_of : List Pair → List KnownPair
 known_of ps = map known_by ps
 
--- what is known of who shares the channel
+-- what the first of these that is of the channel knows of who shares it, if there is one
 abbrev pub known_for : Channel → List KnownPair → Option Sharing
 known_for c [] = None
 known_for c (p ∷ ps) = cond (same_channel p.chan c) (Some p.sharing) (known_for c ps)
 
--- what a record knows of it, if there is the record
+-- what a record knows of the channel, if there is the record
 abbrev pub known_at : Channel → Option Record → Option Sharing
 known_at c None = None
 known_at c (Some r) = known_for c (known_of r.pairs.items)
 
--- what the records know of it
+-- what the records know of the channel
 abbrev pub known_in : Channel → List Record → ℕ → Option Sharing
 known_in c rs i = known_at c (slice_get rs i)
 
--- a record without what is counted
+-- a record without the counts and the labels of its pairs
 pub record UncountedRecord : Type 0 where
   pub status : Status
   pub first : ℕ
@@ -137,7 +137,7 @@ pub record UncountedRecord : Type 0 where
   pub chans : List Channel
   pub known : List KnownPair
 
--- what the record says without what is counted
+-- what the record says without the counts and the labels of its pairs
 abbrev pub rest_of : Record → UncountedRecord
 rest_of r = record { status = r.status; first = r.first; parent = r.parent; path = r.path; running_children = r.running_children; chans = chans_of r.pairs.items; known = known_of r.pairs.items }
 

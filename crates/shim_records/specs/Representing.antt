@@ -29,6 +29,6 @@ pub record BlocksAreEvents {S : Type 0} (o : Ops S) : Type 0 where
       → Has states (map record_view rs) i g l (forks n) → IsFreed g n rs ss → record_view r ≡ used f k
       → HasClosed states (slice_set states i s) (map record_view rs) (map record_view (slice_set ss i r)) i g n s k
 
--- The pairs of a new fork are the counts with which it begins, and none of its children has died.
+-- The pairs of a new fork have the counts with which it begins. Their labels are those of children that all live.
 abbrev pub ForkInitialCounts : {S : Type 0} → Ops S → Type 0
 ForkInitialCounts {S} o = (p : S) (ks : List S) (pairs : List Pair) → FreshPairs o p ks pairs → (c : Channel) → AreOf o c p (all_live ks) (tally_for c pairs) × (min_label_of (pair_of c pairs) ≡ min_dead_label_among o c (all_live ks))

@@ -21,16 +21,16 @@ use Rattle.shim_records.specs.declared.record.Record.{Record}
 -- The counts above the record x were updated for each of these channels, one after the other. None of them occurs twice. The status of x for a channel was `was` and is `is`.
 pub data AllUpdatedAbove (was is : Channel → Read) (n x : ℕ) : List Channel → List Record → List Record → Type 0 where
   none_left : (rs : List Record) → AllUpdatedAbove was is n x [] rs rs
-  one_more : (c : Channel) (cs : List Channel) (read reads : ChildStatus) (before between behind : List Record) → (IsAmong c cs → ⊥) → child_status_of read ≡ was c → child_status_of reads ≡ is c
-      → IsUpdatedAbove c n x read reads before between → AllUpdatedAbove was is n x cs between behind → AllUpdatedAbove was is n x (c ∷ cs) before behind
+  one_more : (c : Channel) (cs : List Channel) (read reads : ChildStatus) (before between after : List Record) → (IsAmong c cs → ⊥) → child_status_of read ≡ was c → child_status_of reads ≡ is c
+      → IsUpdatedAbove c n x read reads before between → AllUpdatedAbove was is n x cs between after → AllUpdatedAbove was is n x (c ∷ cs) before after
 
--- The node of a process that did something by itself is in its place, and the counts above are still those of the tree before. Updated for each channel that the process was given and shares, all counts are those of the tree now, and nothing else in the records has changed.
+-- The node of a process that did something by itself is in its place. The counts above are still those of the tree before. Once they are updated for each channel that the process was given and shares, all counts are those of the tree now. What else the records say (`rest_of`) is as before.
 abbrev pub UpdatesGiveCounts : {S : Type 0} → Ops S → Type 0
-UpdatesGiveCounts {S} o = (rp : Path) (states : List S) (rs behind : List Record) (old new m : Node S) (a : Acted S) (n x f : ℕ) (s : S) (k : ProcessStatus) (cs : List Channel)
+UpdatesGiveCounts {S} o = (rp : Path) (states : List S) (rs after : List Record) (old new m : Node S) (a : Acted S) (n x f : ℕ) (s : S) (k : ProcessStatus) (cs : List Channel)
     → IsSound o old → Represents o rp states (map record_view rs) new → AreLinked states (map record_view rs) (up_in rs) → AreAtMost 4294967295 states (map record_view rs)
     → Has states (map record_view rs) x f s k → IsReplaced (place o rp s) m a.node old new → act_here o m ≡ Some a → length (place o rp s) ≤ n
     → ((c : Channel) → IsGiven o s c → o.shares s c ≡ true → IsAmong c cs) → ((c : Channel) → IsAmong c cs → o.shares s c ≡ true)
     → ((c : Channel) → HaveCounts o rp states (map record_view rs) c (counts_in c rs) new) → ((c : Channel) → OnTheWay o rp states (map record_view rs) c (counts_in c rs) old new (place o rp s))
-    → AllUpdatedAbove (λ c. child_status o c m) (λ c. child_status o c a.node) n x cs rs behind
-    → (map rest_of behind ≡ map rest_of rs)
-    × ((c : Channel) → Tallied o rp states (map record_view behind) c (counts_in c behind) new × HaveCounts o rp states (map record_view behind) c (counts_in c behind) new)
+    → AllUpdatedAbove (λ c. child_status o c m) (λ c. child_status o c a.node) n x cs rs after
+    → (map rest_of after ≡ map rest_of rs)
+    × ((c : Channel) → Tallied o rp states (map record_view after) c (counts_in c after) new × HaveCounts o rp states (map record_view after) c (counts_in c after) new)

@@ -3,7 +3,7 @@ ghost use Rattle.shim_records.specs.CountingOff.{HasCountedOff};
 
 use crate::record::Record;
 
-/// Of the record's fork one child less goes on.
+/// The process of the record goes on no more: its parent's record, if there is one, counts one child less.
 pub fn count_off(records: &mut Vec<Record>, at: usize)
     ensures { HasCountedOff at records.old.items records.new.items }
 {

@@ -8,7 +8,7 @@ use crate::record::Record;
 use shim_base::Chan;
 use shim_local::Local;
 
-// Takes the label in for the channel, if the process shares it and it is at no place before.
+// Takes the label in above for the channel, if the process shares it and it is at no place before this one.
 fn lower_for_one<L: Local>(
     process: &L,
     records: &mut Vec<Record>,

@@ -20,15 +20,15 @@ fn more(count: u32, test: bool) -> u32
     if test { count + 1 } else { count }
 }
 
-// Whether the process shares the channel, as it does or not, and isn't at it.
+// Whether the process shares the channel, which `shares` says, and isn't at it.
 fn isnt_ready<L: Local>(process: &L, chan: &Chan, shares: bool) -> bool
     ensures { result ≡ shares && not (is_next (L.ops.stop process.now) chan.now.channel) }
 {
     shares && !is_at_channel(process, chan)
 }
 
-// Who shares the channel, where the child with this branch comes behind those of which this was known, and shares
-// it or doesn't.
+// What is known of who shares the channel after a look at the child with this branch. `before` was known before the
+// look.
 fn with_child<L: Local>(
     before: Sharing,
     branch: u32,
@@ -87,7 +87,7 @@ fn counted<L: Local>(chan: Chan, children: &[L]) -> Pair
     }
 }
 
-// The channel behind others, if the process shares it.
+// Puts the channel behind the others, if the process shares it.
 fn gather_one<L: Local>(process: &L, chan: &Chan, chans: &mut Vec<Chan>) -> Result<(), NoMemory>
     ensures { OnOk result (chans.new.items ≡ chans.old.items ++ cond (L.ops.shares process.now chan.now.channel) (chan.now ∷ []) []) }
 {
@@ -97,7 +97,7 @@ fn gather_one<L: Local>(process: &L, chan: &Chan, chans: &mut Vec<Chan>) -> Resu
     Ok(())
 }
 
-// The channels that a child was given and its parent shares, behind others.
+// Puts the channels that a child was given and its parent shares behind the others.
 fn gather<L: Local>(parent: &L, child: &L, chans: &mut Vec<Chan>) -> Result<(), NoMemory>
     ensures { OnOk result (chans.new.items ≡ chans.old.items ++ shared_of L.ops parent.now (L.ops.given child.now)) }
 {
@@ -110,7 +110,7 @@ fn gather<L: Local>(parent: &L, child: &L, chans: &mut Vec<Chan>) -> Result<(), 
     Err(NoMemory)
 }
 
-// Those of all children.
+// The channels that the children were given and their parent shares, child after child.
 fn gather_all<L: Local>(alloc: Global, parent: &L, children: &[L]) -> Result<Vec<Chan>, NoMemory>
     ensures { IfOk result (λ chans. chans.items ≡ shared_given L.ops parent.now children.now) }
 {
@@ -121,7 +121,7 @@ fn gather_all<L: Local>(alloc: Global, parent: &L, children: &[L]) -> Result<Vec
     Ok(chans)
 }
 
-// Whether the channel comes behind those of all pairs.
+// Whether the channel comes behind that of the last pair, or there is no pair.
 fn follows(pairs: &[Pair], chan: &Chan) -> bool
     ensures { result ≡ comes_after pairs.now chan.now.channel }
 {
@@ -134,7 +134,7 @@ fn follows(pairs: &[Pair], chan: &Chan) -> bool
     }
 }
 
-// The pair of a channel behind others, if it isn't that of the last one.
+// Adds the pair of a channel behind the others, if there are none or the channel comes behind that of the last.
 fn pair_one<L: Local>(pairs: &mut Vec<Pair>, chan: Chan, children: &[L]) -> Result<(), NoMemory>
     requires few { length children.now ≤ 4294967295 }
     ensures { OnOk result (IsOneMore L.ops children.now chan.channel pairs.old.items pairs.new.items) }

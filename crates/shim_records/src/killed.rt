@@ -22,7 +22,7 @@ fn status_alive<L: Local>(process: &L, c: &Chan) -> ChildStatus
     }
 }
 
-// What a fork reads of it when it has died.
+// What a fork reads of the process when it has died.
 fn status_dead<L: Local>(process: &L, c: &Chan) -> ChildStatus
     ensures { child_status_of result ≡ as_dead L.ops process.now c.now.channel }
 {

@@ -8,7 +8,7 @@ use crate::pair::{Pair, place_in};
 use crate::record::Record;
 use shim_base::Chan;
 
-// Takes a label into those of a pair, and answers whether it was lower.
+// Takes a label into that of a pair. The answer is whether the pair's label changed: it had none, or a greater one.
 fn lower_label(pair: &mut Pair, label: u32) -> bool
     ensures taken { pair.new.min_dead_label ≡ lesser pair.old.min_dead_label (Some label) }
     ensures stays { result ≡ false → pair.new.min_dead_label ≡ pair.old.min_dead_label }
@@ -32,8 +32,8 @@ fn lower_label(pair: &mut Pair, label: u32) -> bool
     }
 }
 
-// Takes the label into those of the record's parent, if it has counts for the channel; the parent, where
-// the label was lower than before.
+// Takes the label into that of the record's parent, if the parent has counts for the channel. The answer is the
+// parent, if its label changed.
 fn lower_one(records: &mut Vec<Record>, at: usize, c: &Chan, label: u32) -> Option<usize>
     ensures { LowersOne c.now.channel label records.old.items at result records.new.items }
 {

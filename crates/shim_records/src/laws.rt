@@ -12,7 +12,7 @@ pub fn blocks_are_events<L: Local>()
     ensures { BlocksAreEvents L.ops }
 {}
 
-/// The pairs of a new fork are the counts of its children.
+/// The counts and the labels of the pairs of a new fork are those of its children.
 pub fn fork_initial_counts<L: Local>()
     ensures { ForkInitialCounts L.ops }
 {}

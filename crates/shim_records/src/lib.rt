@@ -7,12 +7,12 @@
 
 mod acted;
 mod blocks;
+mod counting_off;
 mod died;
 mod fresh;
 mod killed;
 mod labels;
 /// What the calls do to records, and what records show.
-mod counting_off;
 pub mod laws;
 mod pair;
 mod receiving;

@@ -30,12 +30,12 @@ pub struct Pair {
     pub dead: u32,
     /// The least label of those at and below the children that share it and are dead.
     pub min_dead_label: Option<u32>,
-    /// Who they are. Three numbers say it, however many they are.
+    /// The branches between which all sharers of the channel lie, and that of the child that took its own variable.
     pub sharing: Sharing,
 }
 
-/// What a fork reads of a child on a channel: that it shares it and goes on, is ready, or shares it and is
-/// dead.
+/// What a fork reads of a child on a channel: whether it shares it and goes on, whether it is ready, and whether it
+/// shares it and is dead.
 #[derive(Clone, Copy)]
 pub struct ChildStatus {
     pub alive: bool,
@@ -54,7 +54,7 @@ pub fn live_child_status(ready_on: bool) -> ChildStatus
     }
 }
 
-// The count where a child that was counted or not is counted now or not.
+// The count after a change of one child, which was counted before if `was` and is counted now if `is`.
 fn moved(count: u32, was: bool, is: bool) -> u32
     ensures one { was ≡ false → is ≡ true → 1 ≤ result }
     ensures moved { bit was ≤ count → count + bit is ≤ 4294967295 + bit was → result + bit was ≡ count + bit is }

@@ -33,7 +33,7 @@ fn kept(fork: &Record, c: &Chan) -> Option<u32>
     }
 }
 
-// The label that its fork reads of the record with this number.
+// The label that its parent reads of the record with this number.
 fn label_of_child<L: Local>(states: &[L], records: &[Record], at: usize, c: &Chan) -> Option<u32>
     ensures { result ≡ label_at L.ops c.now.channel states.now (map record_view records.now) (min_labels_in c.now.channel records.now) at }
 {
@@ -54,7 +54,7 @@ fn label_of_child<L: Local>(states: &[L], records: &[Record], at: usize, c: &Cha
     }
 }
 
-// The least one of so many from a number on.
+// The least label that a fork reads of so many records from a number on.
 fn label_of_children<L: Local>(
     states: &[L],
     records: &[Record],

@@ -89,16 +89,16 @@ pub fn update_counts_above(
     forks
 }
 
-// How many forks are to be looked at again, where so many were and one more was updated.
+// How many forks are to be looked at again: `walked` and one more, if `due`, and else as many as before.
 fn looked_at(before: u64, walked: u32, due: bool) -> u64
     ensures { result ≡ (if due then walked + 1 else before) }
 {
     if due { walked as u64 + 1 } else { before }
 }
 
-/// Updates the counts for a channel above the record of a live process that has come to it and was at none
-/// before. The answer is how many forks above it are to be looked at again: at those further up all
-/// are there no more than before, and none of them has a label where a child has become ready.
+/// Updates the counts for a channel above the record of a live process that has come to it and was at none before.
+/// The answer is how many forks above it are to be looked at again. None further up became ready by its counts, and
+/// none has a label for the channel if a child of it became ready.
 pub fn propagate_stop_above(records: &mut Vec<Record>, at: usize, c: &Chan) -> u64
     ensures counts { BecomesReady c.now.channel most_forks at records.old.items records.new.items }
     ensures readies { ReadiesWithin c.now.channel result at records.old.items records.new.items }

@@ -53,7 +53,8 @@ impl Worklist {
         Ok(())
     }
 
-    /// All numbers below this one may be listed, and no further ones. Running out of memory leaves all that is listed.
+    /// All numbers below this one may be listed; a higher bound stays. Running out of memory leaves all that is
+    /// listed.
     pub fn grow_to(&mut self, end: usize) -> Result<(), NoMemory>
         ensures raised { AreGrown self.old self.new }
         ensures ok { OnOk result (end ≤ length self.new) }

@@ -31,9 +31,9 @@ pub fn meaning_of(
     run(alloc, main, budget)
 }
 
-/// What a program means on an input: what is read off that tree, with the name of an exception that nobody
-/// caught, which is one of those behind the `throws` of `main`. By `ran` either no event
-/// is enabled in that tree, or the tree has `budget` steps and an event is enabled.
+/// What a program means on an input: what is read off the tree of `meaning_of`. An exception that nobody caught has
+/// the number of its name, which is one of those after the `throws` of `main`, in place of its label. By `ran` either
+/// no event is enabled in that tree, or the tree has `budget` steps and an event is enabled.
 pub fn reference(
     alloc: Global,
     program: Shared<Accepted>,

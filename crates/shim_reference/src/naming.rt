@@ -5,7 +5,7 @@ ghost use Rattle.shim_reference.specs.Naming as naming;
 use shim_local::{Ended, Outcome};
 
 /// What is read off a run, where an exception that nobody caught has the number of its name and no longer its
-/// label. `throws` are the names behind the `throws` of `main`, in order.
+/// label. `throws` are the names that stand after `throws` in the head of `main`, in order.
 pub fn named(ended: Ended, throws: &[u32]) -> Ended
     ensures { result ≡ naming.named throws.now ended }
 {

@@ -7,11 +7,11 @@ use Rattle.std.proofs.lemmas.List.Concat.{flat_map-append}
 use Rattle.shim_laws_replay.specs.Journals.{Entry}
 use Rattle.shim_laws_journals.specs.Ranges.{steps_in, steps_in_all}
 use Rattle.shim_replay.specs.JournalTexts.{FitsEntry, IsJournalText, IsFaultyLine, entry_words, first_words, stop_words, line, joined_lines, entry_lines, journal_of, line_feeds, first_line}
-use Rattle.shim_replay.specs.Scanning.{scan_entry, scan_budget, scan_steps_line, ends_at, with_front, behind_entry, scan_lines, with_budget, behind_budget, scan_journal}
+use Rattle.shim_replay.specs.Scanning.{scan_entry, scan_budget, scan_steps_line, ends_at, with_front, after_entry, scan_lines, with_budget, after_budget, scan_journal}
 use Rattle.shim_replay.proofs.Lines.{last_line}
 use Rattle.shim_replay.proofs.NumbersRead.{some_is, begins, begins_is}
 use Rattle.shim_replay.proofs.EntriesRead.{entry_takes, entry_again, stop_entry, budget_takes, budget_again, steps_line_takes, steps_line_again}
-use Rattle.shim_replay.proofs.LineFeeds.{line_feeds-append, Plain, words_plain, one_line_feed, first_line_of, line_behind, first_line_some, decimal_plain}
+use Rattle.shim_replay.proofs.LineFeeds.{line_feeds-append, Plain, words_plain, one_line_feed, first_line_of, line_after, first_line_some, decimal_plain}
 use Rattle.shim_replay.proofs.JournalLaws.{AllFit, fronts, lines_again, other_line, stop_plain, text_is, fits_few}
 
 -- ---- where reading of lines ends early
@@ -78,8 +78,8 @@ lines_early (suc n) number sum bytes k few e = by_stop (lines_early n) (starts_w
           );
         }
 
-    by_entry : ((number sum : ℕ) (bytes : List ℕ) (k : ℕ) → line_feeds bytes < n → scan_lines n number sum bytes ≡ Err k → Early number sum bytes k) → starts_with eqb bytes (codes "stop ") ≡ false → (o : Option (Entry × List ℕ)) → scan_entry bytes ≡ o → behind_entry (scan_lines n (number + 1)) number sum o ≡ Err k → Early number sum bytes k
-    by_entry again other None is f = record { es = []; rest = bytes; whole = refl; fits = tt; cause = inl (sym (err_is number k (behind_entry (scan_lines n (number + 1)) number sum None) refl f) ∙ start, subst (λ (s : ℕ). Ending s bytes) none (no_entry other is)) }
+    by_entry : ((number sum : ℕ) (bytes : List ℕ) (k : ℕ) → line_feeds bytes < n → scan_lines n number sum bytes ≡ Err k → Early number sum bytes k) → starts_with eqb bytes (codes "stop ") ≡ false → (o : Option (Entry × List ℕ)) → scan_entry bytes ≡ o → after_entry (scan_lines n (number + 1)) number sum o ≡ Err k → Early number sum bytes k
+    by_entry again other None is f = record { es = []; rest = bytes; whole = refl; fits = tt; cause = inl (sym (err_is number k (after_entry (scan_lines n (number + 1)) number sum None) refl f) ∙ start, subst (λ (s : ℕ). Ending s bytes) none (no_entry other is)) }
     by_entry again other (Some x) is f =
         let t = entry_takes bytes x is in
         let a = ap line_feeds t.0 in
@@ -149,7 +149,7 @@ same_start b c es fs other least most fits j =
 
 rest_is : (words rest other after : List ℕ) → Plain words → first_line other ≡ first_line rest → other ≡ line words ++ after → (behind : List ℕ) × (rest ≡ line words ++ behind)
 rest_is words rest other after p same is =
-    let r = line_behind rest in
+    let r = line_after rest in
     let l : first_line rest ≡ line words = sym same ∙ ap first_line is ∙ first_line_of words after p in
     (r.0, r.1 ∙ ap (λ (t : List ℕ). t ++ r.0) l)
 
@@ -274,8 +274,8 @@ pub journal_faulty : (text : List ℕ) (k : ℕ) → line_feeds text < 429496729
 unfolding scan_journal
 journal_faulty text k few e = by_budget (scan_budget text) refl e
   where
-    by_budget : (o : Option (ℕ × List ℕ)) → scan_budget text ≡ o → behind_budget o ≡ Err k → IsFaultyLine text k
-    by_budget None is f = subst (IsFaultyLine text) (err_is 1 k (behind_budget None) refl f) (faulty_first text is)
+    by_budget : (o : Option (ℕ × List ℕ)) → scan_budget text ≡ o → after_budget o ≡ Err k → IsFaultyLine text k
+    by_budget None is f = subst (IsFaultyLine text) (err_is 1 k (after_budget None) refl f) (faulty_first text is)
     by_budget (Some x) is f =
         let t = budget_takes text x is in
         let a = ap line_feeds t.0 in
@@ -299,7 +299,7 @@ journal_again text b es few j =
     let short : length es < 4294967295 = omega (arith, few, a, c, d, f) in
     let sum : 0 + steps_in_all es ≡ steps_in_all es = omega arith in
     let lines : scan_lines 4294967295 2 0 (joined_lines (entry_lines es) ++ stop) ≡ Ok es = ap (λ (s : ℕ). scan_lines 4294967295 2 0 (joined_lines (entry_lines es) ++ line (stop_words s))) (sym sum) ∙ lines_again es 4294967295 2 0 short j.fits in
-    ap (λ (t : List ℕ). behind_budget (scan_budget t)) whole ∙ ap behind_budget (budget_again b (joined_lines (entry_lines es) ++ stop) j.least j.most) ∙ ap (with_budget b) lines
+    ap (λ (t : List ℕ). after_budget (scan_budget t)) whole ∙ ap after_budget (budget_again b (joined_lines (entry_lines es) ++ stop) j.least j.most) ∙ ap (with_budget b) lines
 
 joined_plain : (ls : List (List ℕ)) → AllByRecursion Plain ls → line_feeds (joined_lines ls) ≡ length ls
 joined_plain [] p = refl

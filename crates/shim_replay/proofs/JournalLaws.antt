@@ -6,7 +6,7 @@ use Rattle.std.proofs.lemmas.List.{append-nil}
 use Rattle.shim_laws_replay.specs.Journals.{Entry, Quiet, Did}
 use Rattle.shim_laws_journals.specs.Ranges.{steps_in, steps_in_all}
 use Rattle.shim_replay.specs.JournalTexts.{FitsEntry, IsJournalText, entry_words, first_words, stop_words, line, joined_lines, entry_lines, journal_of}
-use Rattle.shim_replay.specs.Scanning.{scan_entry, scan_budget, scan_steps_line, scan_stop, ends_at, with_front, behind_entry, scan_lines, with_budget, behind_budget, scan_journal}
+use Rattle.shim_replay.specs.Scanning.{scan_entry, scan_budget, scan_steps_line, scan_stop, ends_at, with_front, after_entry, scan_lines, with_budget, after_budget, scan_journal}
 use Rattle.shim_replay.proofs.Lines.{one_line, last_line}
 use Rattle.shim_replay.proofs.NumbersRead.{some_is, begins, begins_is}
 use Rattle.shim_replay.proofs.EntriesRead.{entry_takes, entry_again, stop_entry, budget_takes, steps_line_takes, steps_line_again}
@@ -48,7 +48,7 @@ stop_again number s = ap (λ (r : List ℕ). scan_stop number s r) (sym (append-
 
 -- ---- lines that were read
 
-pub other_line : (n number sum : ℕ) (bytes : List ℕ) → starts_with eqb bytes (codes "stop ") ≡ false → scan_lines (suc n) number sum bytes ≡ behind_entry (scan_lines n (number + 1)) number sum (scan_entry bytes)
+pub other_line : (n number sum : ℕ) (bytes : List ℕ) → starts_with eqb bytes (codes "stop ") ≡ false → scan_lines (suc n) number sum bytes ≡ after_entry (scan_lines n (number + 1)) number sum (scan_entry bytes)
 unfolding scan_lines
 other_line n number sum bytes is = rw is refl
 
@@ -57,7 +57,7 @@ unfolding scan_lines
 lines_takes zero number sum bytes es e = absurd cc
 lines_takes (suc n) number sum bytes es e = by_stop (lines_takes n) (starts_with eqb bytes (codes "stop ")) refl
   where
-    by_entry : ((number sum : ℕ) (bytes : List ℕ) (es : List Entry) → scan_lines n number sum bytes ≡ Ok es → (bytes ≡ joined_lines (entry_lines es) ++ line (stop_words (sum + steps_in_all es))) × AllFit es) → (o : Option (Entry × List ℕ)) → scan_entry bytes ≡ o → behind_entry (scan_lines n (number + 1)) number sum o ≡ Ok es → (bytes ≡ joined_lines (entry_lines es) ++ line (stop_words (sum + steps_in_all es))) × AllFit es
+    by_entry : ((number sum : ℕ) (bytes : List ℕ) (es : List Entry) → scan_lines n number sum bytes ≡ Ok es → (bytes ≡ joined_lines (entry_lines es) ++ line (stop_words (sum + steps_in_all es))) × AllFit es) → (o : Option (Entry × List ℕ)) → scan_entry bytes ≡ o → after_entry (scan_lines n (number + 1)) number sum o ≡ Ok es → (bytes ≡ joined_lines (entry_lines es) ++ line (stop_words (sum + steps_in_all es))) × AllFit es
     by_entry again None is e = absurd cc
     by_entry again (Some x) is e = by_more (scan_lines n (number + 1) (sum + steps_in x.0) x.1) refl e
       where
@@ -146,7 +146,7 @@ pub journal_takes : (text : List ℕ) (b : ℕ) (es : List Entry) → scan_journ
 unfolding scan_journal
 journal_takes text b es e = by_budget (scan_budget text) refl e
   where
-    by_budget : (o : Option (ℕ × List ℕ)) → scan_budget text ≡ o → behind_budget o ≡ Ok (b, es) → IsJournalText text b es
+    by_budget : (o : Option (ℕ × List ℕ)) → scan_budget text ≡ o → after_budget o ≡ Ok (b, es) → IsJournalText text b es
     by_budget None is e = absurd cc
     by_budget (Some x) is e = by_lines (scan_lines 4294967295 2 0 x.1) refl e
       where

@@ -69,9 +69,9 @@ first_line_of [] rest p = refl
 first_line_of (c ∷ cs) rest p = let h = plain_head c cs p in rw h.0 (ap (λ (r : List ℕ). c ∷ r) (first_line_of cs rest h.1))
 
 -- a text is its first line and what is behind it
-pub line_behind : (bytes : List ℕ) → (after : List ℕ) × (bytes ≡ first_line bytes ++ after)
-line_behind [] = ([], refl)
-line_behind (c ∷ cs) = by_test (eqb c 10) (line_behind cs)
+pub line_after : (bytes : List ℕ) → (after : List ℕ) × (bytes ≡ first_line bytes ++ after)
+line_after [] = ([], refl)
+line_after (c ∷ cs) = by_test (eqb c 10) (line_after cs)
   where
     by_test : (b : Bool) → ((after : List ℕ) × (cs ≡ first_line cs ++ after)) → (after : List ℕ) × (c ∷ cs ≡ cond b (c ∷ []) (c ∷ first_line cs) ++ after)
     by_test true rest = (cs, refl)

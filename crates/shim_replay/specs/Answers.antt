@@ -7,7 +7,7 @@ use Rattle.shim_replay.specs.declared.journal.Journal.{Journal}
 use Rattle.shim_replay.specs.declared.fault.JournalFault.{JournalFault}
 use Rattle.shim_replay.specs.declared.fault.JournalFault.TheVariants as faults
 
--- the text is that of the journal and of no other; or a line of it is the first faulty one, and it is the text of none
+-- The text is that of the answered journal and of no other. Or the line of the fault is the first faulty one, and the text is that of no journal. `NoMemory` says nothing of the text.
 abbrev pub ReadAnswers : List ℕ → Result Journal JournalFault → Type 0
 ReadAnswers text (Ok j) = IsJournalText text j.budget (entries_of j.entries) × ((b : ℕ) (es : List Entry) → IsJournalText text b es → (b ≡ j.budget) × (es ≡ entries_of j.entries))
 ReadAnswers text (Err (faults.Malformed line)) = IsFaultyLine text line × ((b : ℕ) (es : List Entry) → IsJournalText text b es → ⊥)

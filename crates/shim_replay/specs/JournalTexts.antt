@@ -56,12 +56,12 @@ FitsEvent (Poison p c) = FitsPath p × FitsChannel c
 FitsEvent (Close p) = FitsPath p
 FitsEvent (End p) = FitsPath p
 
--- what an entry of a text has: 1 to 4,000,000 quiet steps, or an event
+-- the numbers of the entry's path and channel are below 2^32, and an entry of quiet steps has 1 to 4,000,000 steps
 abbrev pub FitsEntry : Entry → Type 0
 FitsEntry (Quiet p n) = FitsPath p × (1 ≤ n) × (n ≤ 4000000)
 FitsEntry (Did e) = FitsEvent e
 
--- the text is that of this budget and these entries
+-- the text is that of this budget and these entries, whose numbers are in range
 pub record IsJournalText (text : List ℕ) (b : ℕ) (es : List Entry) : Type 0 where
   pub least : 1 ≤ b
   pub most : b ≤ 4000000
@@ -78,7 +78,7 @@ abbrev pub first_line : List ℕ → List ℕ
 first_line [] = []
 first_line (c ∷ cs) = if nat_eq c 10 then c ∷ [] else c ∷ first_line cs
 
--- The line of this number, counted from 1, is the first one that no journal's text has behind the lines before it. Where the text ends there, no journal's text does.
+-- The line of this number, counted from 1, is the first one that no journal's text has after the lines before it. Where the text ends after these lines, no journal's text does.
 pub record IsFaultyLine (text : List ℕ) (number : ℕ) : Type 0 where
   pub before : List (List ℕ)
   pub rest : List ℕ

@@ -9,11 +9,11 @@ use Rattle.shim_replay.specs.declared.journal.Journal.{Journal}
 use Rattle.shim_replay.specs.declared.fault.JournalFault.{JournalFault}
 use Rattle.shim_replay.specs.declared.fault.JournalFault.TheVariants as faults
 
--- a text is read as an entry exactly where it begins with the line of that entry
+-- a text is read as an entry exactly where it begins with the line of that entry and the entry's numbers are in range
 abbrev pub EntryLines : Type 0
 EntryLines = (bytes : List ℕ) (e : Entry) (rest : List ℕ) → (scan_entry bytes ≡ Some (e, rest)) ↔ ((bytes ≡ line (entry_words e) ++ rest) × FitsEntry e)
 
--- a text, of which the lines can be counted, is that of one budget and one list of entries at most
+-- a text with fewer than 2^32 - 1 line feeds is that of one budget and one list of entries at most
 abbrev pub OneJournal : Type 0
 OneJournal = (text : List ℕ) (b c : ℕ) (es fs : List Entry) → line_feeds text < 4294967295 → IsJournalText text b es → IsJournalText text c fs → (b ≡ c) × (es ≡ fs)
 

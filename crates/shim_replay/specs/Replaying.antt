@@ -7,7 +7,7 @@ use Rattle.shim_laws_journals.specs.Accepting.{IsAcceptedJournal, IsRefusedJourn
 use Rattle.shim_replay.specs.declared.fault.ReplayFault.{ReplayFault}
 use Rattle.shim_replay.specs.declared.fault.ReplayFault.TheVariants as faults
 
--- the journal is accepted with this tree, or refused at this line for this cause
+-- the journal is accepted with this tree, or refused at this line for this cause; `NoMemory` says nothing of it
 abbrev pub ReplayAnswers : {S : Type 0} → Ops S → S → ℕ → List Entry → Result (Tree S) ReplayFault → Type 0
 ReplayAnswers o root b es (Ok t) = IsAcceptedJournal o root b es t
 ReplayAnswers o root b es (Err (faults.OverBudget line)) = IsRefusedJournal o root b es (OverBudget line)
@@ -20,7 +20,7 @@ abbrev pub DoesEntry : {S : Type 0} → Ops S → Entry → Tree S → Tree S �
 DoesEntry o e before after true = entry_after o e before ≡ Some after
 DoesEntry o e before after false = entry_after o e before ≡ None
 
--- The answer once all entries are done. It is the tree where no event is enabled in it or the budget is spent. Else it is `Unfinished` with this line, the last one.
+-- The answer once all entries are done. It is the tree where no event is enabled in it or the budget is spent. Else it is `Unfinished` with this line, the last one. `NoMemory` may come in place of both.
 abbrev pub AnswersEnd : {S : Type 0} → Ops S → Tree S → Bool → ℕ → Result (Tree S) ReplayFault → Type 0
 AnswersEnd o t spent line (Ok u) = (u ≡ t) × (IsQuiescent o t ⊎ ((spent ≡ true) × (IsQuiescent o t → ⊥)))
 AnswersEnd o t spent line (Err (faults.OverBudget l)) = ⊥

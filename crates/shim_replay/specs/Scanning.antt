@@ -61,8 +61,8 @@ step_limit = 4000001
 unfoldable pub scan_pair : List ℕ → Option ((ℕ × ℕ) × List ℕ)
 scan_pair bytes = do
   fork ← scan_number number_limit bytes
-  behind ← scan_word (codes ".") fork.1
-  branch ← scan_number number_limit behind
+  after ← scan_word (codes ".") fork.1
+  branch ← scan_number number_limit after
   Some ((fork.0, branch.0), branch.1)
 
 -- at most so many pairs, each after a `/`, and the bytes after them
@@ -75,23 +75,23 @@ scan_pairs (suc n) bytes = if starts_with eqb bytes (codes "/") then
 -- `main` with its pairs, and the bytes after it
 unfoldable pub scan_path : List ℕ → Option (Path × List ℕ)
 scan_path bytes = do
-  behind ← scan_word (codes "main") bytes
-  scan_pairs (length behind) behind
+  after ← scan_word (codes "main") bytes
+  scan_pairs (length after) after
 
 -- `HOME#SERIAL`, and the bytes after it
 unfoldable pub scan_channel : List ℕ → Option (Channel × List ℕ)
 scan_channel bytes = do
   home ← scan_path bytes
-  behind ← scan_word (codes "#") home.1
-  serial ← scan_number number_limit behind
+  after ← scan_word (codes "#") home.1
+  serial ← scan_number number_limit after
   Some (record { home = home.0; serial = serial.0 }, serial.1)
 
 -- `PATH STEPS` with a line feed as quiet steps of the process, and the bytes after it
 unfoldable pub scan_quiet : List ℕ → Option (Entry × List ℕ)
 scan_quiet bytes = do
   path ← scan_path bytes
-  behind ← scan_word (codes " ") path.1
-  steps ← scan_count step_limit behind
+  after ← scan_word (codes " ") path.1
+  steps ← scan_count step_limit after
   rest ← scan_word (codes "\n") steps.1
   Some (Quiet path.0 steps.0, rest)
 
@@ -119,8 +119,8 @@ scan_meet bytes = do
 unfoldable pub scan_poison : List ℕ → Option (Entry × List ℕ)
 scan_poison bytes = do
   path ← scan_path bytes
-  behind ← scan_word (codes " ") path.1
-  chan ← scan_channel behind
+  after ← scan_word (codes " ") path.1
+  chan ← scan_channel after
   rest ← scan_word (codes "\n") chan.1
   Some (Did (Poison path.0 chan.0), rest)
 
@@ -137,8 +137,8 @@ scan_entry bytes =
 -- `journal B` with a line feed, and the bytes after it
 unfoldable pub scan_budget : List ℕ → Option (ℕ × List ℕ)
 scan_budget bytes = do
-  behind ← scan_word (codes "journal ") bytes
-  budget ← scan_count step_limit behind
+  after ← scan_word (codes "journal ") bytes
+  budget ← scan_count step_limit after
   rest ← scan_word (codes "\n") budget.1
   Some (budget.0, rest)
 
@@ -150,9 +150,9 @@ ends_at line (Some (c ∷ cs)) = Err (line + 1)
 
 -- the bytes after the sum of steps and a line feed
 abbrev pub scan_steps_line : ℕ → List ℕ → Option (List ℕ)
-scan_steps_line sum bytes = scan_word (decimal sum) bytes >>= λ behind. scan_word (codes "\n") behind
+scan_steps_line sum bytes = scan_word (decimal sum) bytes >>= λ after. scan_word (codes "\n") after
 
--- the rest of the line `stop S`, which has this number, and what is behind it
+-- the end of a journal's text, from the sum in the line `stop S` on; that line has this number
 abbrev pub scan_stop : ℕ → ℕ → List ℕ → Result (List Entry) ℕ
 scan_stop line sum bytes = ends_at line (scan_steps_line sum bytes)
 
@@ -167,16 +167,16 @@ with_front front (Ok es) = Ok (front ++ es)
 with_front front (Err line) = Err line
 
 -- The entry before those that `on` reads after it, to which the sum with its steps is given. Where there is no entry, the number of its line.
-abbrev pub behind_entry : (ℕ → List ℕ → Result (List Entry) ℕ) → ℕ → ℕ → Option (Entry × List ℕ) → Result (List Entry) ℕ
-behind_entry on line sum None = Err line
-behind_entry on line sum (Some e) = with_front (e.0 ∷ []) (on (sum + steps_in e.0) e.1)
+abbrev pub after_entry : (ℕ → List ℕ → Result (List Entry) ℕ) → ℕ → ℕ → Option (Entry × List ℕ) → Result (List Entry) ℕ
+after_entry on line sum None = Err line
+after_entry on line sum (Some e) = with_front (e.0 ∷ []) (on (sum + steps_in e.0) e.1)
 
 -- The entries of at most so many lines, the last of which is `stop S`. The first of the lines has this number, and the entries before it have `sum` steps.
 unfoldable pub scan_lines : ℕ → ℕ → ℕ → List ℕ → Result (List Entry) ℕ
 scan_lines zero line sum bytes = Err line
 scan_lines (suc n) line sum bytes =
     if starts_with eqb bytes (codes "stop ") then scan_stop line sum (drop 5 bytes)
-    else behind_entry (scan_lines n (line + 1)) line sum (scan_entry bytes)
+    else after_entry (scan_lines n (line + 1)) line sum (scan_entry bytes)
 
 -- the budget with the entries, or the number of a faulty line
 abbrev pub with_budget : ℕ → Result (List Entry) ℕ → Result (ℕ × List Entry) ℕ
@@ -184,13 +184,13 @@ with_budget b (Ok es) = Ok (b, es)
 with_budget b (Err line) = Err line
 
 -- The budget with the entries of the lines after it. Where there is no budget, the faulty line is 1.
-abbrev pub behind_budget : Option (ℕ × List ℕ) → Result (ℕ × List Entry) ℕ
-behind_budget None = Err 1
-behind_budget (Some b) = with_budget b.0 (scan_lines 4294967295 2 0 b.1)
+abbrev pub after_budget : Option (ℕ × List ℕ) → Result (ℕ × List Entry) ℕ
+after_budget None = Err 1
+after_budget (Some b) = with_budget b.0 (scan_lines 4294967295 2 0 b.1)
 
 -- the budget and the entries of a journal's text, or the number of the line at which the scan ends without them
 unfoldable pub scan_journal : List ℕ → Result (ℕ × List Entry) ℕ
-scan_journal bytes = behind_budget (scan_budget bytes)
+scan_journal bytes = after_budget (scan_budget bytes)
 
 -- The code's fault fits what the definition reads. `Malformed` has the line of the definition's fault, and `NoMemory` may come at any text.
 abbrev pub FailsTextAs : {Y : Type 0} → TextFault → Result Y ℕ → Type 0

@@ -4,7 +4,7 @@ use shim_base::NoMemory;
 /// Why there is no journal.
 #[derive(Clone, Copy, Debug, PartialEq, Eq)]
 pub enum JournalFault {
-    /// The first line that no journal has behind the lines before it, counted from 1. The end of the
+    /// The first line that no journal has after the lines before it, counted from 1. The end of the
     /// text counts as the line that is missing.
     Malformed { line: u32 },
     NoMemory,

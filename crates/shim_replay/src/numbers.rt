@@ -68,7 +68,7 @@ pub(crate) fn scan_number(limit: u64, bytes: &[u8]) -> Result<(u64, &[u8]), Read
     scan_digits(limit, bytes)
 }
 
-/// A number from 1 on.
+/// A number from 1 on, without leading zeros and below the limit.
 #[tactic(auto, unfolding(crate::specs::Scanning::scan_count))]
 pub(crate) fn scan_count(limit: u64, bytes: &[u8]) -> Result<(u64, &[u8]), ReadFault>
     requires { (1 ≤ limit) × (limit ≤ 4294967296) }

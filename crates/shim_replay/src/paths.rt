@@ -27,7 +27,7 @@ fn scan_pair(bytes: &[u8]) -> Result<((u32, u32), &[u8]), ReadFault>
     Ok(((fork, branch), rest))
 }
 
-// The pairs at the front, each behind a slash.
+// The pairs at the front, each after a slash.
 #[tactic(auto, using(crate::proofs::Pairs::goes_on, crate::proofs::Pairs::fails, crate::proofs::Pairs::stops, crate::proofs::Pairs::done))]
 fn scan_pairs(alloc: Global, bytes: &[u8]) -> Result<(List<(u32, u32)>, &[u8]), ReadFault>
     ensures { ReadsAs (λ x. (x.0, x.1.now)) result (lists.scan_pairs (length bytes.now) bytes.now) }

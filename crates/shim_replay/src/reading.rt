@@ -28,7 +28,7 @@ fn scan_budget(bytes: &[u8]) -> Result<(u64, &[u8]), ReadFault>
     Ok((budget, rest))
 }
 
-// What is behind the steps and the end of the last line.
+// The bytes after the sum of steps and the line feed of the last line.
 fn scan_steps_line(sum: u64, bytes: &[u8]) -> Result<&[u8], ReadFault>
     ensures { ReadsAs (λ x. x.now) result (lists.scan_steps_line sum bytes.now) }
 {
@@ -37,7 +37,7 @@ fn scan_steps_line(sum: u64, bytes: &[u8]) -> Result<&[u8], ReadFault>
     scan_word(b"\n", behind)
 }
 
-// Whether the last line is right, and nothing is behind it.
+// Whether the last line is right, and nothing follows it; else the fault, with its line.
 fn scan_stop(line: u64, sum: u64, bytes: &[u8]) -> Result<(), TextFault>
     requires { line < 4294967298 }
     ensures { ReadsTextAs (λ u. []) result (lists.scan_stop line sum bytes.now) }
@@ -67,7 +67,7 @@ fn scan_line<'a>(
     }
 }
 
-// The entries and the last line.
+// The entries of the lines from line 2 on, the last of which is `stop S`.
 #[tactic(auto, using(crate::proofs::Lines::goes_on, crate::proofs::Lines::fails, crate::proofs::Lines::stops, crate::proofs::Lines::stop_fails, crate::proofs::Lines::done))]
 fn scan_lines(alloc: Global, bytes: &[u8]) -> Result<List<Entry>, TextFault>
     ensures is { ReadsTextAs entries_of result (lists.scan_lines 4294967295 2 0 bytes.now) }
@@ -107,7 +107,7 @@ fn scan_journal(alloc: Global, bytes: &[u8]) -> Result<Journal, TextFault>
     }
 }
 
-/// Reads the text of a journal, which has fewer than 2^32 - 1 line feeds. The channels that come out have the name
+/// Reads the text of a journal, which has fewer than 2^32 - 1 line feeds. The channels of its entries have the name
 /// number 0.
 #[tactic(auto, using(crate::proofs::Answered::is_found, crate::proofs::Answered::is_in_range, crate::proofs::Answered::is_faulty, crate::proofs::Answered::is_small))]
 pub fn read_journal(alloc: Global, text: &[u8]) -> Result<Journal, JournalFault>

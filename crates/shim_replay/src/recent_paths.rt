@@ -10,8 +10,8 @@ const PLACES: usize = 256;
 // Odd, with its bits spread about, so that a product with it carries the lower bits of a word to its upper ones.
 const SPREAD: u64 = 0x9E37_79B9_7F4A_7C15;
 
-/// Paths that were read last, one in each place. Most lines of a journal are of a process that has other lines close by,
-/// and a path that is found here shares its memory with the one that was read before.
+/// Paths that were read last, one in each place. Most lines of a journal are of a process that has other lines close
+/// by, and a path that is found here shares its memory with the one that was read before.
 #[derive(Drop)]
 pub(crate) struct RecentPaths {
     alloc: Global,

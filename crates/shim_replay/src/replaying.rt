@@ -14,7 +14,7 @@ use shim_run_log::Entry;
 use shim_tree::Tree;
 use std::alloc::Global;
 
-// Does an entry. False where a step of it isn't enabled in its turn, or is no quiet step in an entry of these.
+// Does an entry. False where a step of it isn't enabled in its turn, or isn't quiet in an entry of quiet steps.
 fn do_entry<L: Local>(tree: &mut Tree<L>, entry: &Entry) -> Result<bool, NoMemory>
     requires few { trees.steps tree.old + steps_in (entry_of entry.now) ≤ 4000000 }
     ensures { IfOk result (λ done. DoesEntry L.ops (entry_of entry.now) tree.old tree.new done) }
@@ -31,7 +31,7 @@ fn do_entry<L: Local>(tree: &mut Tree<L>, entry: &Entry) -> Result<bool, NoMemor
     }
 }
 
-// What the tree comes to when all entries are done.
+// The answer when all entries are done: the tree, or `Unfinished` where an event is enabled and budget is left.
 fn end_of<L: Local>(tree: Tree<L>, spent: bool, line: u32) -> Result<Tree<L>, ReplayFault>
     ensures { AnswersEnd L.ops tree spent line result }
 {
@@ -71,10 +71,9 @@ fn replay_entries<L: Local>(
     end_of(tree, done == budget, line)
 }
 
-/// Replays a journal from the process that runs alone at the start, which has the path of a root and shares channels of
-/// its own alone. It answers the tree to which the entries lead, where no event is enabled in it or the budget is
-/// spent. Else it answers the first entry that isn't done, with the number of its line and why; or, where all are done,
-/// the last line.
+/// Replays a journal from the process that runs alone at the start, and shares only channels that it declared. It
+/// answers the tree to which the entries lead, where no event is enabled in it or the budget is spent. Else it
+/// answers the line of the first entry that isn't done, and why; or, where all are done, the last line.
 #[tactic(auto, using(crate::proofs::InRange::few_entries))]
 pub fn replay<L: Local>(alloc: Global, root: L, journal: &Journal) -> Result<Tree<L>, ReplayFault>
     requires own { SharesItsOwn L.ops root }

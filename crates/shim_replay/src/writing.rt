@@ -47,7 +47,7 @@ fn push_channel(text: &mut List<u8>, chan: &Chan) -> Result<(), NoMemory>
     push_decimal(text, chan.serial() as u64)
 }
 
-// A word, and a path behind it.
+// A word, and a path after it.
 fn push_word(text: &mut List<u8>, word: &[u8], path: &Path) -> Result<(), NoMemory>
     ensures { OnOk result (text.new ≡ text.old ++ (word.now ++ path_text path.now)) }
 {
@@ -137,8 +137,8 @@ fn push_journal(text: &mut List<u8>, budget: u64, entries: &[Entry]) -> Result<(
     text.extend_from_slice(b"\n")
 }
 
-/// The text of a journal: the budget of a run, what was done in it, and how many steps that were, a line
-/// each. Running out of memory is the one refusal.
+/// The text of a journal: a line for the budget of a run, one for each entry, and one for the sum of their steps.
+/// Running out of memory is the one refusal.
 #[tactic(auto, using(crate::proofs::InRange::few_entries))]
 pub fn journal_text(alloc: Global, budget: u64, entries: &[Entry]) -> Result<List<u8>, NoMemory>
     requires range { IsInRange budget (entries_of entries.now) }

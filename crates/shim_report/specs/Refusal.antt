@@ -54,7 +54,7 @@ many_words Operators = codes "too many operators"
 abbrev pub refusal_of_cutting : LexFault → List ℕ
 refusal_of_cutting fault = refusal_with_place fault.line (cause_of fault.kind) fault.at
 
--- `NoMemory` has no line
+-- the line that reports a fault of reading; `NoMemory` has none
 abbrev pub refusal_of : ParseFault → List ℕ
 refusal_of (Lex fault) = refusal_of_cutting fault
 refusal_of (Unexpected at line) = refusal_with_place line (codes "unexpected") at
@@ -73,18 +73,18 @@ refusal_of_binding line WrongKind name = refusal_with_name line (codes "wrong ki
 refusal_of_binding line NoMain name = refusal_without_place line (codes "no main")
 refusal_of_binding line MainParameters name = refusal_without_place line (codes "main parameters")
 
--- `NoMemory` has no line
+-- the line that reports a fault of binding; `NoMemory` has none
 abbrev pub refusal_of_scope : ScopeFault → List ℕ
 refusal_of_scope (Refused line kind name) = refusal_of_binding line kind name
 refusal_of_scope NoScopeMemory = []
 
--- `NoMemory` has no line
+-- the line that reports a fault of the sharing rule; `NoMemory` has none
 abbrev pub refusal_of_sharing : ShareFault → List ℕ
 refusal_of_sharing (TwoWriters line name first second) = refusal_with_branches line name first second
 refusal_of_sharing (Alias line name) = refusal_with_name line (codes "alias") name
 refusal_of_sharing NoShareMemory = []
 
--- the line that reports a fault, with its line feed
+-- the line that reports a fault, with its line feed; nothing for a `NoMemory`
 abbrev pub refusal_text : SourceFault → List ℕ
 refusal_text (Parse fault) = refusal_of fault
 refusal_text (Scope fault) = refusal_of_scope fault

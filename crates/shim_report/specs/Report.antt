@@ -26,7 +26,7 @@ hex_digit n = if nat_lt n 10 then 48 + n else 87 + n
 abbrev pub hex_byte : ℕ → List ℕ
 hex_byte b = hex_digit (b / 16) ∷ hex_digit (b % 16) ∷ []
 
--- the bytes as hexadecimal digits behind a space, or nothing where there are none
+-- a space and then the bytes as hexadecimal digits, or nothing where there are no bytes
 abbrev pub hex_part : List ℕ → List ℕ
 hex_part [] = []
 hex_part (b ∷ bytes) = 32 ∷ flat_map hex_byte (b ∷ bytes)
@@ -91,12 +91,12 @@ own_line s = codes "steps " ++ (path_text s.path ++ (codes " " ++ (decimal s.cou
 unfoldable pub events_line : ℕ → List ℕ
 events_line n = codes "events " ++ (decimal n ++ codes "\n")
 
--- of a run that was stopped, and of no other: how many steps each process did, and how many events were no step of one
+-- of a run that was stopped, and of no other: how many steps of its own each process did, and how many events were no process's own
 unfoldable pub spent_part : Outcome → List OwnSteps → ℕ → List ℕ
 spent_part Spent own events = flat_map own_line own ++ events_line events
 spent_part _ own events = []
 
--- the word of an outcome, and the name of an uncaught exception
+-- the word of an outcome, and the name of an uncaught exception, with a space after each
 abbrev pub outcome_text : Names → Outcome → List ℕ
 outcome_text names Done = codes "done "
 outcome_text names (Uncaught i) = codes "uncaught " ++ (name_text names i ++ codes " ")
@@ -108,7 +108,7 @@ outcome_text names Spent = codes "spent "
 unfoldable pub end_line : Names → Outcome → ℕ → List ℕ
 end_line names outcome steps = codes "end " ++ (outcome_text names outcome ++ (decimal steps ++ codes "\n"))
 
--- each line ends with a line feed
+-- The report of a run: output, histories, logs, waits, the counts of a run that was stopped, and how it ended, in this order. Each line ends with a line feed.
 unfoldable pub report : Names → Ended → List ℕ
 report names e =
     output_line e.output ++ (flat_map (history_line names) e.histories ++ (flat_map (log_line names) e.logs

@@ -11,7 +11,7 @@ use Rattle.shim_local.specs.declared.ended.Outcome.{Outcome}
 use Rattle.shim_local.specs.declared.ended.Outcome.TheVariants.{Spent}
 use Rattle.shim_report.specs.Report.{Names, end_line}
 
--- the values that all channels have been given
+-- the values that the rendezvous on all channels gave, channel by channel
 abbrev pub all_values : List History → List ℤ
 all_values hs = flat_map (λ (h : History). h.values) hs
 
@@ -41,7 +41,7 @@ made_line kind size = codes "gen " ++ (kind ++ (codes " " ++ (decimal size ++ co
 unfoldable pub count_line : List ℕ → ℕ → List ℕ
 count_line word n = word ++ (codes " " ++ (decimal n ++ codes "\n"))
 
--- `values V M`: how many values these gave, and their sum modulo 1,000,000
+-- `values V M`: how many values the channels' rendezvous gave, and the sum of the values modulo 1,000,000
 unfoldable pub values_line : ℕ → ℕ → List ℕ
 values_line n sum = codes "values " ++ (decimal n ++ (codes " " ++ (decimal sum ++ codes "\n")))
 

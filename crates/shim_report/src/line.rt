@@ -6,7 +6,7 @@ use shim_base::{List, Name, NoMemory, push_decimal};
 use shim_parser::Many;
 use std::alloc::Global;
 
-// How each line begins: up to its cause.
+// How a line begins, up to its cause and with that.
 fn begun(alloc: Global, line: u32, cause: &str) -> Result<List<u8>, NoMemory>
     ensures { IfOk result (λ text. text ≡ codes "refused " ++ (decimal line ++ (codes " " ++ cause.now))) }
 {

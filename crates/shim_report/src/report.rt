@@ -13,9 +13,9 @@ use std::alloc::Global;
 pub use sums::summary;
 pub use words::{push_channel, push_path};
 
-/// The report of a run, whose names are numbered by their places in the list: what was put, what each
-/// channel's rendezvous gave, what was caught and what trapped, who waits, of a run that was stopped how
-/// many steps each process did, and last how it ended.
+/// The report of a run: what was put, what each channel's rendezvous gave, what was caught and what trapped, who
+/// waits, and last how it ended. Before the end a run that was stopped has how many steps of its own each process
+/// did, and how many events were no process's own. The number of a name is its place in `names`.
 #[tactic(auto, unfolding(crate::specs::Report::report))]
 pub fn text(alloc: Global, ended: &Ended, names: &[Name]) -> Result<List<u8>, NoMemory>
     ensures { IfOk result (λ text. text ≡ report names.now ended.now) }
@@ -70,7 +70,8 @@ fn push_owns(text: &mut List<u8>, owns: &[OwnSteps]) -> Result<(), NoMemory>
     Ok(())
 }
 
-// Adds who did how many steps, of a run that was stopped alone.
+// Adds the counts of a run that was stopped: how many steps of its own each process did, and how many events
+// were no process's own. For any other run it adds nothing.
 #[tactic(auto, unfolding(crate::specs::Report::spent_part))]
 fn push_spent_part(
     text: &mut List<u8>,

@@ -62,7 +62,7 @@ AnswersDescription relation program source answer = (answer.status ≡ 0) × rel
 abbrev pub AnswersRecord : Execution → Answer → Type 0
 AnswersRecord x answer = (t : Tree LocalState) × IsRecordOf x t answer.text × (answer.status ≡ status_of_outcome (read_off x t).outcome)
 
--- Entries of a journal are answered with the report of the tree to which they lead, where they are a run of the execution that ends there, and else with the line of the first that isn't done.
+-- Entries of a journal are answered with the report of the tree to which they lead, where they are a run of the execution that ends there. Else they are answered with the cause and the line: of the first entry that isn't done, or, of a run that hasn't ended, the line after the last entry.
 abbrev pub AnswersEntries : Execution → List Entry → Answer → Type 0
 AnswersEntries x es answer =
     ((t : Tree LocalState) × IsRunTo x es t × (answer ≡ reported x.source (read_off x t)))
@@ -80,7 +80,7 @@ AnswersEach names x inputs answer =
     (length inputs ≡ length names) × (es : List Ended) × AllZip (IsEnd InSomeOrder) (on_each x inputs) es
     × (answer ≡ record { status = greatest (statuses_of es); text = reports_of x.source names es })
 
--- an accepted program is answered with what is done with it: with what is read off its run, with a description of it, with the journal of its run, as a journal is, or with what is read off its runs on each input
+-- An accepted program is answered by what is done with it: by its run, by a description of it, by the journal of its run, by the replay of a journal, or by its runs on each input.
 abbrev pub AnswersProgram : SourceAction → Program → Execution → Answer → Type 0
 AnswersProgram (runs course shown) program x answer = AnswersRun course shown x answer
 AnswersProgram (describes relation) program x answer = AnswersDescription relation program x.source answer

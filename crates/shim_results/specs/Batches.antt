@@ -21,7 +21,7 @@ statuses_of es = map (λ e. status_of_outcome e.outcome) es
 unfoldable pub input_line : List ℕ → List ℕ
 input_line name = codes "input " ++ (name ++ codes "\n")
 
--- the reports of a source's runs in order, each behind the line of its input
+-- the reports of a source's runs in order, each after the line of its input, as far as both lists go
 abbrev pub reports_of : Source → List (List ℕ) → List Ended → List ℕ
 reports_of source [] es = []
 reports_of source (name ∷ names) [] = []

@@ -10,7 +10,7 @@ use Rattle.shim_waits.specs.Waits.{explained}
 use Rattle.shim_reasons.specs.Reasons.{reasons}
 use Rattle.shim_results.specs.RunEnds.{Execution, report_of, tree_of}
 
--- the lines behind the report of a run that came to this tree: there are some where it is blocked, and nowhere else
+-- the lines after the report of a run with this outcome that came to this tree: of a blocked one the reasons, of any other none
 unfoldable pub reasons_of : Outcome → Tree LocalState → List ℕ
 reasons_of Done t = []
 reasons_of (Uncaught i) t = []
@@ -18,6 +18,6 @@ reasons_of Trapped t = []
 reasons_of Blocked t = reasons (explained process_ops t.root)
 reasons_of Spent t = []
 
--- the report, and behind it the reasons why the meaning is blocked
+-- the report, and after it the reasons why the meaning is blocked, where that is the outcome
 unfoldable pub report_with_reasons : Execution → Ended → List ℕ
 report_with_reasons x e = report_of x.source e ++ reasons_of e.outcome (tree_of x)

@@ -15,11 +15,11 @@ use Rattle.shim_results.specs.RunEnds.{Execution}
 abbrev pub IsRunTo : Execution → List Entry → Tree LocalState → Type 0
 IsRunTo x es t = IsAcceptedJournal process_ops (root x.source x.input) x.budget es t
 
--- the text is the journal of such a run
+-- the text is the journal, with the budget of x, of a run of x that ends at the tree
 abbrev pub IsJournalOf : Execution → Tree LocalState → List ℕ → Type 0
 IsJournalOf x t text = (es : List Entry) × IsJournalText text x.budget es × IsRunTo x es t
 
--- The text is such a journal, in which no entry of one event is a quiet step: quiet steps stand in entries with a count.
+-- The text is the journal, with the budget of x, of a run of x that ends at the tree. No entry of one event is a quiet step: quiet steps stand in entries with a count.
 abbrev pub IsRecordOf : Execution → Tree LocalState → List ℕ → Type 0
 IsRecordOf x t text = (es : List Entry) × IsJournalText text x.budget es × IsRunTo x es t × NamesNoQuietStep process_ops (root x.source x.input) es
 

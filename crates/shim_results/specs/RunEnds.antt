@@ -80,7 +80,7 @@ IsSpent x = IsQuiescent process_ops (tree_of x) → ⊥
 abbrev pub LeadsTo : ℕ → Execution → Tree LocalState → Type 0
 LeadsTo n x t = (es : List Event) × (run (after process_ops) es (start (root x.source x.input)) ≡ Some t) × (length es ≡ n)
 
--- such a run leads to the tree to which the meaning comes
+-- a run of n events leads to the tree to which the meaning comes
 abbrev pub IsReachedIn : ℕ → Execution → Type 0
 IsReachedIn n x = LeadsTo n x (tree_of x)
 

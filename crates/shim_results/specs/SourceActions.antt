@@ -17,7 +17,7 @@ use Rattle.shim_results.specs.RunEnds.{Execution, report_of}
 abbrev pub executed : Job → List ℕ → Source → Execution
 executed job input source = record { source = source; input = input; budget = job.budget }
 
--- How many of these units are units of functions, where the first unit has the number `n`. The units of the functions come first, each at the number of its function. The units after them were lifted out of functions, and none of these is at the number of its function.
+-- How many units of functions there are, where `n` of them stand before these units. The units of the functions come first, each at the number of its function. The units after them were lifted out of functions, and none of these is at the number of its function.
 abbrev pub functions_from : ℕ → List UnitOf → ℕ
 functions_from n [] = n
 functions_from n (u ∷ us) = if nat_eq u.function n then functions_from (n + 1) us else n
@@ -52,6 +52,6 @@ abbrev pub showing_of : Showing → Job → Source → Ended → List ℕ
 showing_of Report job = report_of
 showing_of Summary job = summary_of job
 
--- the same of an execution, of which the source is enough
+-- what is printed of a run of an execution for a job; of the execution only the source is read
 abbrev pub shown_of : Showing → Job → Execution → Ended → List ℕ
 shown_of showing job x e = showing_of showing job x.source e

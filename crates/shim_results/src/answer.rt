@@ -20,7 +20,7 @@ pub struct Answer {
     pub text: List<u8>,
 }
 
-/// The answer to a source that has this fault; `NoMemory` for a fault that is none of the source but memory.
+/// The answer to a source that has this fault; `NoMemory` where the fault is that memory ran out.
 pub fn refused(alloc: Global, fault: SourceFault) -> Result<Answer, NoMemory>
     ensures { IfOk result (λ a. (fault ≢ faults.Parse parse_faults.NoMemory) × (fault ≢ faults.Scope scope_faults.NoMemory)
         × (fault ≢ faults.Share share_faults.NoMemory) × (answer_view a ≡ answers.refused fault)) }

@@ -45,7 +45,7 @@ fn push_reasons_of(
     }
 }
 
-// The report of what was read off a tree, and behind it why the run is blocked.
+// The report of what was read off a tree and, where the run is blocked, the reasons after it.
 fn text_with_reasons(
     alloc: Global,
     end: &Ended,

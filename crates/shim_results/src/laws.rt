@@ -15,10 +15,10 @@ pub fn functions_are_counted()
     ensures { (program : Program) (source : Source) → checked program ≡ Ok source → functions_from 0 source.units ≡ length program.functions }
 {}
 
-/// Of the outputs of two stopped runs of one source on one input, within whatever budgets, one is a prefix
-/// of the other, and so are the histories of each channel, which have one name: all are prefixes of what the
-/// meaning gives in as many rounds as the larger budget has events. Which of the two is the longer may
-/// differ from channel to channel.
+/// Of two trees of one source on one input, let output and histories be prefixes of what as many rounds give as the
+/// tree's budget has events. Then one of their outputs is a prefix of the other. Of each channel with a history in
+/// both, one history is a prefix of the other, and both have one name. Which of the two is the longer may differ from
+/// channel to channel.
 pub fn stopped_runs_begin_alike()
     ensures { (x y : Execution) (t u : Tree LocalState) → x.source ≡ y.source → x.input ≡ y.input → IsBeginning x t → IsBeginning y u → BeginAlike t u }
 {}

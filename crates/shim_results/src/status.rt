@@ -5,7 +5,7 @@ ghost use Rattle.shim_results.specs.RunEnds.{status_of_outcome};
 
 use shim_local::Outcome;
 
-/// How a call ended, which is what the program says by its status.
+/// How a call of the program ended, which the program says by its status.
 #[derive(Clone, Copy, Debug, PartialEq, Eq)]
 pub enum ExitStatus {
     Done,

@@ -18,7 +18,7 @@ counted (e ∷ es) = steps_taken (counted es) e.path e.count
 pub record StepCountsFollow : Type 0 where
   -- a process that an entry names does so many steps more
   pub more : (es : List StepCount) (i : ℕ) (p : Path) (c n : ℕ) → slice_get es i ≡ Some (record { path = p; count = c }) → counted (slice_set es i (record { path = p; count = c + n })) ≡ steps_taken (counted es) p n
-  -- the order of the entries is free
+  -- which of two parts of the entries comes first is free
   pub swapped : (es fs : List StepCount) → counted (es ++ fs) ≡ counted (fs ++ es)
   -- an entry without steps counts nothing
   pub none : (es fs : List StepCount) (p : Path) → counted (es ++ record { path = p; count = 0 } ∷ fs) ≡ counted (es ++ fs)

@@ -12,15 +12,15 @@ use Rattle.shim_semantics.specs.Trees.{Met}
 abbrev pub logs_in : BTreeMap Path (List LogWhat) → finite.FinMap path_order (List LogWhat)
 logs_in m = finite.from_entries m.entries
 
--- what is kept of a channel, with the name and the values that it has
+-- what is kept of the channel of a history: the name by which it is printed, and the values
 abbrev pub met_of : History → Met
 met_of h = record { name = h.chan.name; values = h.values }
 
--- the same, of the history of this number
+-- the same of the history of this number; name 0 and no values if there is none
 abbrev pub met_at : List History → ℕ → Met
 met_at kept i = unwrap_or (option_map met_of (slice_get kept i)) (record { name = 0; values = [] })
 
--- the channel of the history of this number
+-- the channel of the history of this number, if there is one
 abbrev pub history_channel : List History → ℕ → Option Channel
 history_channel kept i = option_map (λ h. h.chan.channel) (slice_get kept i)
 
@@ -40,7 +40,7 @@ IsNumbered numbers kept = (c : Channel) (i : ℕ) → (number_in numbers c ≡ S
 abbrev pub AllHaveValues : finite.FinMap channel_order Met → Type 0
 AllHaveValues m = (c : Channel) (h : Met) → finite.get m c ≡ Some h → h.values ≢ []
 
--- what is true of histories and their numbers
+-- the number at each channel is that of its history, and no channel has a history without values
 pub record IsHistoryIndex (numbers : BTreeMap NamedChannel ℕ) (kept : List History) : Type 0 where
   pub numbered : IsNumbered numbers kept
   pub filled : AllHaveValues (histories_of numbers kept)
@@ -53,6 +53,6 @@ waits_in m = finite.from_entries m.entries
 abbrev pub counts_of : BTreeMap Path ℕ → finite.FinMap path_order ℕ
 counts_of m = finite.from_entries m.entries
 
--- it did a step of its own
+-- the count beside this path isn't 0: its process did a step of its own
 abbrev pub has_stepped : Path × ℕ → Bool
 has_stepped e = not (eqb e.1 0)

@@ -17,7 +17,7 @@ HasCount m p = finite.contains_key m p ≡ true
 abbrev pub KeepsCounts : finite.FinMap path_order ℕ → finite.FinMap path_order ℕ → Type 0
 KeepsCounts m n = (p : Path) → HasCount m p → HasCount n p
 
--- the map with a count for the process of this path
+-- the map with a count for the process of this path: 0 if it had none, else the count that it had
 abbrev pub with_count : finite.FinMap path_order ℕ → Path → finite.FinMap path_order ℕ
 with_count m p = cond (finite.contains_key m p) m (finite.insert m p 0)
 

@@ -3,7 +3,7 @@ use Rattle.std.specs.Prelude.{List, [], ◌∷◌, cond}
 use Rattle.std.specs.FinMap as finite
 use Rattle.shim_base.specs.Paths.{Path, NamedChannel, path_order}
 
--- of one path the first wait stays
+-- the map with a wait of the process of this path at this channel; if the path has one, that stays
 abbrev pub with_wait : finite.FinMap path_order NamedChannel → Path → NamedChannel → finite.FinMap path_order NamedChannel
 with_wait m p c = cond (finite.contains_key m p) m (finite.insert m p c)
 

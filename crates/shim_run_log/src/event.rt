@@ -8,9 +8,9 @@ pub enum Event {
     Own(Path),
     /// The processes that share this channel meet.
     Meet(Chan),
-    /// The child of this path waits for this channel with all whom it concerns there, and a process at
-    /// or below another child of its fork, which shares the channel, died of an exception whose handler
-    /// is outside the fork. Each live process at the child or below it that shares the channel dies.
+    /// The child of this path is ready on this channel and doomed on it: at or below another child of its fork, a
+    /// process that shares the channel died of a label in force at the fork. Each live process at the child or
+    /// below it that shares the channel dies.
     Poison(Path, Chan),
     /// The fork of the process of this path closes: its children have ended or died.
     Close(Path),

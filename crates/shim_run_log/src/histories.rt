@@ -43,7 +43,7 @@ impl Model for Histories {
 }
 
 impl Histories {
-    /// None, which takes no memory.
+    /// No histories, which takes no memory.
     pub fn new(alloc: Global) -> Histories
         ensures { result ≡ finite.empty }
     {
@@ -55,7 +55,7 @@ impl Histories {
         }
     }
 
-    /// Adds a value behind those of the channel. The first one brings the printed name.
+    /// Adds a value after those of the channel. The name is used only with the first value of the channel.
     pub fn record(&mut self, chan: &Chan, name: u32, value: i64) -> Result<(), NoMemory>
         ensures ok { OnOk result (self.new ≡ recorded self.old chan.now.channel name value) }
         ensures err { OnErr result (self.new ≡ self.old) }
@@ -72,8 +72,8 @@ impl Histories {
         }
     }
 
-    /// Adds a value behind those of a channel that had a rendezvous. `false`, and nothing is added, where it had
-    /// none: that one needs a name first.
+    /// Adds a value after those of a channel that had a rendezvous. Where the channel had none, nothing is added and
+    /// the answer is `false`: a first value needs a name, which `record` takes.
     pub fn record_value(&mut self, chan: &Chan, value: i64) -> Result<bool, NoMemory>
         ensures known { IfOk result (λ known. known ≡ true → (name : ℕ) → self.new ≡ recorded self.old chan.now.channel name value) }
         ensures first { IfOk result (λ known. known ≡ false → (self.new ≡ self.old) × (finite.get self.old chan.now.channel ≡ None)) }
@@ -116,8 +116,8 @@ impl Histories {
     }
 }
 
-// The number of the channel's history. Of a channel that has none the next number is noted, since it is
-// about to have that one.
+// The number of the channel's history, if it has one. A number that the table of recent channels doesn't give is
+// noted there. For a channel without a history that is the number that the next history gets.
 fn number_of(
     kept: &[History],
     numbers: &BTreeMap<Chan, usize, Global>,

@@ -34,7 +34,7 @@ impl Model for Logs {
 }
 
 impl Logs {
-    /// None, which takes no memory.
+    /// No logs, which takes no memory.
     pub(crate) fn new(alloc: Global) -> Logs
         ensures { result ≡ finite.empty }
     {
@@ -44,7 +44,7 @@ impl Logs {
         }
     }
 
-    /// Logs this of the process of the path, behind what was logged of it.
+    /// Logs this of the process of the path, after what was logged of that process before.
     pub(crate) fn add(&mut self, path: &Path, what: LogWhat) -> Result<(), NoMemory>
         ensures ok { OnOk result (self.new ≡ with_logs self.old path.now (what ∷ [])) }
         ensures err { OnErr result (self.new ≡ self.old) }
@@ -83,7 +83,7 @@ fn add_logs(path: &Path, logged: &[LogWhat], list: &mut List<Log>) -> Result<(),
     Ok(())
 }
 
-/// What was logged in the order of the events, by path, and for one path in that order.
+/// These logs by path. The logs of one path keep the order that they have among the given ones.
 pub fn logs_by_path(alloc: Global, logs: &[Log]) -> Result<List<Log>, NoMemory>
     ensures { IfOk result (λ list. list ≡ all_logs (finite.entries (logged logs.now))) }
 {

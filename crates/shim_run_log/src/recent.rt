@@ -12,8 +12,8 @@ const FEWEST_PLACES: usize = 16;
 const SPREAD: u64 = 0x9E37_79B9_7F4A_7C15;
 
 /// A table that has in each place the numbers that were noted last for channels with that place, the newest
-/// first. A new one drives out the oldest, and a larger table begins with nothing noted. So numbers say where
-/// to look first and no more: whoever takes one tests it.
+/// first. A new number drives out the oldest, and a larger table begins with nothing noted. A number says where to
+/// look first and no more: whoever takes one tests it.
 #[derive(Drop)]
 pub(crate) struct Recent {
     places: Vec<[usize; NUMBERS]>,
@@ -43,8 +43,8 @@ impl Recent {
         }
     }
 
-    /// Makes a table of twice the size, with nothing noted, if there are fewer places than so many channels. Channels
-    /// may share a place, but hardly ever more of them than the place has numbers.
+    /// Makes a table of twice the size, or the first one, with nothing noted, if there are fewer places than
+    /// `channels`. Channels may share a place, but hardly ever more of them than the place has numbers.
     pub(crate) fn make_room(&mut self, alloc: Global, channels: usize) -> Result<(), NoMemory> {
         if channels > self.places.len() {
             let wanted = self.places.len().saturating_mul(2).max(FEWEST_PLACES);
@@ -53,10 +53,11 @@ impl Recent {
         Ok(())
     }
 
-    // Channels of one home have places one behind the other, and homes are spread over the table.
+    // Channels of one home with serial numbers one after the other have places one after the other, the
+    // first place after the last. Homes are spread over the table.
     fn place(&self, chan: &Chan) -> usize {
         let spread = spread(chan.home().pairs()).wrapping_add(u64::from(chan.serial()));
-        // the lower bits, as many as the count of places leaves
+        // the lower bits, as many as distinguish the places; all bits while there are none, which finds no place
         spread as usize & self.places.len().wrapping_sub(1)
     }
 }

@@ -14,8 +14,8 @@ use std::alloc::Global;
 use std::collections::BTreeMap;
 use std::marker::Model;
 
-/// For each process that has a count, how many steps of its own it did. Who has to count without memory gives a process
-/// its count before its first step; else `try_add` does.
+/// For each process that has a count, how many steps of its own it did. Who has to count without memory gives a
+/// process its count before its first step; else `try_add` does.
 #[derive(Drop)]
 pub struct StepCounts {
     kept: BTreeMap<Path, u64, Global>,
@@ -36,7 +36,7 @@ impl Model for StepCounts {
 }
 
 impl StepCounts {
-    /// None, which takes no memory.
+    /// No counts, which takes no memory.
     pub fn new(alloc: Global) -> StepCounts
         ensures { result ≡ finite.empty }
     {
@@ -45,7 +45,7 @@ impl StepCounts {
         }
     }
 
-    /// Gives the process of this path its count.
+    /// Gives the process of this path a count of 0, if it has none yet. A refusal changes nothing.
     pub fn reserve(&mut self, path: &Path) -> Result<(), NoMemory>
         ensures ok { OnOk result (self.new ≡ with_count self.old path.now) }
         ensures err { OnErr result (self.new ≡ self.old) }
@@ -57,7 +57,7 @@ impl StepCounts {
         Ok(())
     }
 
-    /// Gives each of these processes its count. Running out of memory may leave some of them without.
+    /// Gives each of these processes its count. Running out of memory may leave some of them without one.
     pub fn reserve_all<L: Local>(&mut self, processes: &[L]) -> Result<(), NoMemory>
         ensures ok { OnOk result (AllOf (λ (l : L). HasCount self.new (L.ops.path l)) processes.now) }
         ensures keeps { KeepsCounts self.old self.new }
@@ -80,8 +80,8 @@ impl StepCounts {
         }
     }
 
-    /// The process of this path, whether it has its count or not, did so many steps more. No steps add nothing, and take
-    /// no memory.
+    /// The process of this path, whether it has its count or not, did so many steps more. Adding 0 steps changes
+    /// nothing and takes no memory. A refusal changes nothing.
     pub fn try_add(&mut self, path: &Path, steps: u64) -> Result<(), NoMemory>
         requires few { count_of self.old path.now + steps < 2 ^ 64 }
         ensures ok { OnOk result (self.new ≡ steps_taken self.old path.now steps) }

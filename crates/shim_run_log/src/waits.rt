@@ -30,7 +30,7 @@ impl Model for Waits {
 }
 
 impl Waits {
-    /// None, which takes no memory.
+    /// No waits, which takes no memory.
     pub fn new(alloc: Global) -> Waits
         ensures { result ≡ finite.empty }
     {

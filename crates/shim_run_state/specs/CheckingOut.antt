@@ -24,7 +24,7 @@ pub record IsHomeAt {S : Type 0} (o : Ops S) (v : RunStateView S) (i : ℕ) (l :
   pub at_quiet : IsQuietAt o v.table i l
   pub free : is_listed v.process_lists.checked_out i ≡ false
 
--- nothing but a queue has changed: the tree is the same, the same processes have the same numbers, and the same ones are checked out
+-- nothing but queues has changed: the tree, the states and records, and the checked out flags are the same
 pub record SameTree {S : Type 0} (o : Ops S) (before after : RunStateView S) : Type 0 where
   pub tree : tree_in o after ≡ tree_in o before
   pub table : after.table ≡ before.table
@@ -46,7 +46,7 @@ pub record CheckedOutReaches {S : Type 0} (o : Ops S) (v : RunStateView S) (numb
   pub checked_out : IsCheckedOut o v number process
   pub chain : QuietSteps o steps process last
 
--- the process with this number, which was checked out, did so many quiet steps that led to this state, and is checked out no more
+-- The process with this number, which was checked out, did so many quiet steps that led to this state. It is checked out no more. Of the others those are checked out that were.
 pub record ChecksIn {S : Type 0} (o : Ops S) (before after : RunStateView S) (number steps : ℕ) (process last : S) : Type 0 where
   pub was : IsCheckedOut o before number process
   pub chain : QuietSteps o steps process last
@@ -54,7 +54,7 @@ pub record ChecksIn {S : Type 0} (o : Ops S) (before after : RunStateView S) (nu
   pub is_not : (s : S) → IsCheckedOut o after number s → ⊥
   pub others : (i : ℕ) (s : S) → i ≢ number → IsCheckedOut o before i s ↔ IsCheckedOut o after i s
 
--- the process in this state did up to so many quiet steps, and the same processes are checked out
+-- The process in this state did up to `most` quiet steps, and fewer only where `FewerWithCause` says. The same processes are checked out.
 pub record StepsIn {S : Type 0} (o : Ops S) (before after : RunStateView S) (number most : ℕ) (did : Quiet) (process : S) : Type 0 where
   pub last : S
   pub chain : QuietSteps o did.taken process last

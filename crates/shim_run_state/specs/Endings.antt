@@ -9,7 +9,7 @@ use Rattle.shim_records.specs.declared.record.Status.{Status}
 use Rattle.shim_records.specs.declared.record.Status.TheVariants as code
 use Rattle.shim_laws_table_events.specs.keeping.Tables.{TableView, views}
 
--- this is the node of the process 0, computed through so many forks
+-- this is the node of the process 0, computed by so many levels, of which the root is the first
 pub record IsRoot {S : Type 0} (v : TableView S) (levels : ℕ) (root : Node S) : Type 0 where
   pub is : node_of v.states (views v) levels 0 ≡ Some root
 

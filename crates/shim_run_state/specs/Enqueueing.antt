@@ -18,7 +18,7 @@ IsPutIn code.Neither number event_queue ready_queue event_queues ready_queues = 
 IsPutIn code.Ready number event_queue ready_queue event_queues ready_queues = (event_queues ≡ event_queue) × Enqueues number ready_queue ready_queues
 IsPutIn code.Event number event_queue ready_queue event_queues ready_queues = Enqueues number event_queue event_queues × (ready_queues ≡ ready_queue)
 
--- What was listed is, so are the first n forks above this number, and so is the number itself unless nothing but a quiet step can happen there. Nothing else is.
+-- What was listed is, and so are the first n forks above this number. The number itself is, unless nothing but a quiet step can happen there; it may be even then. Nothing else is.
 pub record ListsInEventQueue {S : Type 0} (o : Ops S) (v : TableView S) (n number : ℕ) (old new : List Bool) : Type 0 where
   pub kept : (i : ℕ) → is_listed old i ≡ true → is_listed new i ≡ true
   pub mine : (is_listed new number ≡ true) ⊎ HasNothingDue o v number
@@ -26,7 +26,7 @@ pub record ListsInEventQueue {S : Type 0} (o : Ops S) (v : TableView S) (n numbe
   pub only : (i : ℕ) → is_listed new i ≡ true → (is_listed old i ≡ true) ⊎ ((i ≡ number) ⊎ IsAbove (up_in v.records) n number i)
   pub as_many : length new ≡ length old
 
--- what was listed is, and so is this number, if its process is before a quiet step, and nothing else
+-- What was listed is, and so is this number, if its process is before a quiet step; it may be even if not. Nothing else is.
 pub record ListsInReadyQueue {S : Type 0} (o : Ops S) (v : TableView S) (number : ℕ) (old new : List Bool) : Type 0 where
   pub kept : (i : ℕ) → is_listed old i ≡ true → is_listed new i ≡ true
   pub mine : (l : S) → IsQuietAt o v number l → is_listed new number ≡ true
@@ -52,21 +52,21 @@ IsListedHome {S} o v checked_out ready_queue (Some number) = (l : S) × IsQuietA
 -- ---- both queues together
 
 -- The process with this number has changed, and more may be due at the first n forks above it: these are put into the event queue, and the process into the queue in which it belongs. Who is checked out stays so.
-pub record Requeues {S : Type 0} (o : Ops S) (v : TableView S) (n number : ℕ) (before behind : ProcessListsView) : Type 0 where
-  pub event_queue : ListsInEventQueue o v n number before.event_queue behind.event_queue
-  pub ready_queue : ListsInReadyQueue o v number before.ready_queue behind.ready_queue
-  pub checked_out : behind.checked_out ≡ before.checked_out
-  pub within : number < length behind.event_queue
+pub record Requeues {S : Type 0} (o : Ops S) (v : TableView S) (n number : ℕ) (before after : ProcessListsView) : Type 0 where
+  pub event_queue : ListsInEventQueue o v n number before.event_queue after.event_queue
+  pub ready_queue : ListsInReadyQueue o v number before.ready_queue after.ready_queue
+  pub checked_out : after.checked_out ≡ before.checked_out
+  pub within : number < length after.event_queue
 
 -- the flag that says whether the process with this number is checked out is this one, and nothing else has changed
-pub record SetsCheckedOut (number : ℕ) (flag : Bool) (before behind : ProcessListsView) : Type 0 where
-  pub is : behind ≡ record { own = before.own; event_queue = before.event_queue; ready_queue = before.ready_queue; checked_out = slice_set before.checked_out number flag }
+pub record SetsCheckedOut (number : ℕ) (flag : Bool) (before after : ProcessListsView) : Type 0 where
+  pub is : after ≡ record { own = before.own; event_queue = before.event_queue; ready_queue = before.ready_queue; checked_out = slice_set before.checked_out number flag }
   pub within : number < length before.checked_out
 
 -- nothing but the event queue has changed
 abbrev pub IsButEventQueue : ProcessListsView → ProcessListsView → Type 0
-IsButEventQueue before behind = behind ≡ record { own = before.own; event_queue = behind.event_queue; ready_queue = before.ready_queue; checked_out = before.checked_out }
+IsButEventQueue before after = after ≡ record { own = before.own; event_queue = after.event_queue; ready_queue = before.ready_queue; checked_out = before.checked_out }
 
 -- nothing but the ready queue has changed
 abbrev pub IsButReadyQueue : ProcessListsView → ProcessListsView → Type 0
-IsButReadyQueue before behind = behind ≡ record { own = before.own; event_queue = before.event_queue; ready_queue = behind.ready_queue; checked_out = before.checked_out }
+IsButReadyQueue before after = after ≡ record { own = before.own; event_queue = before.event_queue; ready_queue = after.ready_queue; checked_out = before.checked_out }

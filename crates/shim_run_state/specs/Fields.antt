@@ -10,7 +10,7 @@ use Rattle.shim_run_state.specs.ProcessLists.{ProcessListsView}
 use Rattle.shim_run_state.specs.RunStates.{RunStateView}
 use Rattle.shim_run_state.specs.declared.run_state.PastSteps.{PastSteps}
 
--- the own steps that are kept, as a count of the tree
+-- the own steps of a process that is gone, as a count of the tree
 abbrev pub count_in : PastSteps → StepCount
 count_in p = record { path = p.path; count = p.count }
 

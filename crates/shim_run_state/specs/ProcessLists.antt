@@ -18,6 +18,6 @@ pub record FlagsReachAll (s : ProcessListsView) : Type 0 where
   pub ready_queue : length s.own ≤ length s.ready_queue
   pub checked_out : length s.own ≤ length s.checked_out
 
--- each process has its place in it
+-- each process has its count in the lists
 abbrev pub Serves : {S : Type 0} → TableView S → ProcessListsView → Type 0
 Serves v s = IsForAll v s.own

@@ -34,7 +34,7 @@ abbrev pub path_by : {S : Type 0} → Ops S → Option S → Option RecordView �
 path_by o (Some s) (Some (used f k)) = Some (o.path s)
 path_by o _ _ = None
 
--- that of the record with a number
+-- the path of the process of the record with this number, if that is in use
 abbrev pub path_at : {S : Type 0} → Ops S → TableView S → ℕ → Option Path
 path_at o v i = path_by o (slice_get v.states i) (slice_get (views v) i)
 
@@ -63,7 +63,7 @@ pub record IsQuietAt {S : Type 0} (o : Ops S) (v : TableView S) (i : ℕ) (l : S
   pub has : HasProcessState v i first l lives
   pub stop_is : o.stop l ≡ AtQuiet
 
--- that process is checked out
+-- the process with this number is before a quiet step, and is checked out
 pub record IsCheckedOut {S : Type 0} (o : Ops S) (v : RunStateView S) (i : ℕ) (l : S) : Type 0 where
   pub at_quiet : IsQuietAt o v.table i l
   pub flag : is_listed v.process_lists.checked_out i ≡ true

@@ -1,4 +1,4 @@
--- What calls put into the queues of several numbers.
+-- What calls put into the queues for several numbers.
 use Rattle.std.specs.Prelude.{◌≡◌, ◌<◌, ◌⊎◌, ℕ, ◌+◌, Bool, true, List, length}
 use Rattle.shim_local.specs.Process.{Ops}
 use Rattle.shim_records.specs.Members.{IsAmong}
@@ -30,9 +30,9 @@ pub record ListsEachQuiet {S : Type 0} (o : Ops S) (v : TableView S) (numbers : 
   pub as_many : length new ≡ length old
 
 -- For these numbers both queues have changed as `ListsEach` and `ListsEachQuiet` define. Counts and checked out flags are as before.
-pub record RequeuesEach {S : Type 0} (o : Ops S) (v : TableView S) (numbers : List ℕ) (before behind : ProcessListsView) : Type 0 where
-  pub own : behind.own ≡ before.own
-  pub event_queue : ListsEach o v numbers before.event_queue behind.event_queue
-  pub ready_queue : ListsEachQuiet o v numbers before.ready_queue behind.ready_queue
-  pub checked_out : behind.checked_out ≡ before.checked_out
-  pub within : (m : ℕ) → IsAmong m numbers → m < length behind.event_queue
+pub record RequeuesEach {S : Type 0} (o : Ops S) (v : TableView S) (numbers : List ℕ) (before after : ProcessListsView) : Type 0 where
+  pub own : after.own ≡ before.own
+  pub event_queue : ListsEach o v numbers before.event_queue after.event_queue
+  pub ready_queue : ListsEachQuiet o v numbers before.ready_queue after.ready_queue
+  pub checked_out : after.checked_out ≡ before.checked_out
+  pub within : (m : ℕ) → IsAmong m numbers → m < length after.event_queue

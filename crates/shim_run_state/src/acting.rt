@@ -112,7 +112,7 @@ impl<L: Local> RunState<L> {
         let forks = self.table.end_process(number);
         let gone = Requeue {
             queue: Queue::Neither,
-            // the next fork further up may read these otherwise
+            // a child of the next fork up may have another record than before
             forks: forks as u64 + 1,
         };
         self.process_lists.requeue(&self.table, number, gone);

@@ -64,7 +64,7 @@ impl<L: Local> RunState<L> {
         self.table.process(number)
     }
 
-    /// Its path.
+    /// The path of the process with this number, which is in use.
     pub fn path(&self, number: u32) -> &Path
         requires { IsInUse self.now.table number }
         ensures { (f : ℕ) (l : L) (k : ProcessStatus) → HasProcessState self.now.table number f l k → result.now ≡ L.ops.path l }
@@ -81,8 +81,8 @@ impl<L: Local> RunState<L> {
         self.process_lists.set_out(&self.table, number, true);
     }
 
-    /// The checked out process did so many quiet steps elsewhere, which led to this state, and is checked out no more.
-    /// With these the tree has at most 4,000,000 steps. It takes no memory.
+    /// The checked out process with this number did so many quiet steps elsewhere, which led to this state. It is
+    /// checked out no more. With these steps the tree has at most 4,000,000. It takes no memory.
     pub fn check_in(&mut self, number: u32, last: L, taken: u64)
         requires did { (l : L) × CheckedOutReaches L.ops self.old number taken l last }
         requires few { steps (tree_in L.ops self.old) + taken ≤ 4000000 }

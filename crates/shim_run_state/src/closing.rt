@@ -73,7 +73,7 @@ impl<L: Local> RunState<L> {
         log_close(&mut self.logs, path, outcome);
         let to_requeue = Requeue {
             queue: self.table.queue(number),
-            // the next fork further up may read these otherwise
+            // a child of the next fork up may have another record than before
             forks: forks as u64 + 1,
         };
         self.process_lists.requeue(&self.table, number, to_requeue);

@@ -24,7 +24,7 @@ use shim_records::Status;
 use shim_run_log::{StepCounts, Waits, logs_by_path};
 use std::alloc::Global;
 
-// Through how many forks the tree is read: no process is further from the root than 4294967295.
+// How many levels of the tree are read, the root's with them: no process has more than 4294967295 forks above it.
 const LEVELS: u64 = 4294967296;
 
 // What came of a process that died of an exception with this label; 0 is a trap's.
@@ -38,7 +38,7 @@ fn outcome_of_label(label: u32) -> Outcome
     }
 }
 
-// What came of a root that stands so, where nothing can happen.
+// What came of a root whose record has this status, where nothing can happen.
 fn outcome_of_root(status: Status) -> Outcome
     ensures { result ≡ outcome_by status }
 {
@@ -135,7 +135,7 @@ fn add_in_use<L: Local>(
     Ok(())
 }
 
-// Adds the own steps of the processes whose fork has closed.
+// Adds the own steps of the processes that are gone, since the fork that made them has closed.
 fn add_past(past: &[PastSteps], sums: &mut StepCounts) -> Result<(), NoMemory>
     requires few { (p : PathOf) → count_of (with_counts sums.old (map count_in past.now)) p ≤ 4000000 }
     ensures { OnOk result (sums.new ≡ with_counts sums.old (map count_in past.now)) }

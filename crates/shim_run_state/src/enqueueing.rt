@@ -21,8 +21,8 @@ fn put_in(number: u32, queue: Queue, event_queue: &mut Worklist, ready_queue: &m
     }
 }
 
-/// The process with this number has come there: it is put in the queue in which it belongs, if in any, and the
-/// forks above it at which more may be due are listed. It takes no memory.
+/// The process with this number has changed: it is put in the queue of `to_requeue`, if in any. The forks above it at
+/// which more may be due are put in the event queue. It takes no memory.
 pub(crate) fn enqueue_as<L: Local>(
     table: &ProcessTable<L>,
     number: u32,

@@ -65,7 +65,7 @@ pub(crate) fn list_block(list: &mut Worklist, first: u32, count: u32)
     }
 }
 
-// The number of the first child, and how many there are; none where the fork trapped.
+// The number of the first child, and how many there are; both are 0 where the fork trapped.
 fn children_of(outcome: ForkOutcome) -> (u32, u32)
     ensures { result ≡ block_of outcome }
 {
@@ -101,8 +101,8 @@ impl<L: Local> RunState<L> {
         Ok(())
     }
 
-    // The process forks so. Its children's counts begin at 0, and they are listed, as it is with the forks
-    // above that have other counts.
+    // The process forks, or its fork traps, as `fork` says. Its children are put in both queues, with counts of 0.
+    // The process and the forks above that may have other counts are queued again.
     fn put_fork(&mut self, number: u32, fork: Fork<L>) -> Result<(), NoMemory>
         requires few { steps (tree_in L.ops self.old) < 4000000 }
         requires its { fork.number ≡ number }
@@ -117,7 +117,7 @@ impl<L: Local> RunState<L> {
         self.process_lists.add_children(first, count);
         let to_requeue = Requeue {
             queue: self.table.queue(number),
-            // the next fork further up may read these otherwise
+            // a child of the next fork up may have another record than before
             forks: forks as u64 + 1,
         };
         self.process_lists.acted(&self.table, number, 1, to_requeue);

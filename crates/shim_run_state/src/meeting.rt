@@ -78,7 +78,7 @@ fn receive_each<L: Local>(
     }
 }
 
-// The process with this number receives so, if it lives and is at the channel.
+// The process with this number receives the value, if it lives and is at the channel.
 fn receive_one<L: Local>(
     table: &mut ProcessTable<L>,
     c: &Chan,

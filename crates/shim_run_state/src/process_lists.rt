@@ -45,7 +45,7 @@ impl Model for ProcessLists {
 }
 
 impl ProcessLists {
-    /// That of one process, which did nothing yet and may do anything.
+    /// The lists of one process, which did nothing yet and may do anything.
     pub(crate) fn first(alloc: Global) -> Result<ProcessLists, NoMemory>
         ensures { IfOk result (λ s. s ≡ record { own = 0 ∷ []; event_queue = true ∷ []; ready_queue = true ∷ []; checked_out = false ∷ [] }) }
     {
@@ -91,8 +91,8 @@ impl ProcessLists {
         list_block(&mut self.ready_queue, first, count);
     }
 
-    /// The process did so many steps of its own, and has come there: it is put in the queue in which it belongs,
-    /// if in any, and the forks above it at which more may be due are listed. It takes no memory.
+    /// The process did so many steps of its own, which are counted: it is put in the queue of `to_requeue`, if in
+    /// any. The forks above it at which more may be due are put in the event queue. It takes no memory.
     pub(crate) fn acted<L: Local>(
         &mut self,
         table: &ProcessTable<L>,

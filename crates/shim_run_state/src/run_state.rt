@@ -16,7 +16,7 @@ use std::alloc::Global;
 use std::marker::Model;
 use std::snapshot::Snapshot;
 
-/// How many steps of its own a process did whose fork has closed.
+/// How many steps of its own a process did that is gone, since the fork that made it has closed.
 #[derive(Drop)]
 pub(crate) struct PastSteps {
     pub(crate) path: Path,
@@ -38,7 +38,7 @@ pub struct RunState<L: Local> {
     pub(crate) past: Vec<PastSteps>,
     pub(crate) events: u64,
     pub(crate) taken: u64,
-    /// Who shares a channel that meets, or on which a child is poisoned. Its room is used again.
+    /// The numbers of processes that a rendezvous or a poison may concern. Their room is used again.
     pub(crate) sharers: Sharers,
 }
 

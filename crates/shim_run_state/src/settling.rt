@@ -43,9 +43,9 @@ pub(crate) fn first_due<L: Local>(
 }
 
 impl<L: Local> RunState<L> {
-    /// Does an enabled event that is no quiet step, and answers which; `None` exactly where there is none.
-    /// Which of several it does is free. Who is checked out stays so. Running out of memory leaves the tree as it was.
-    /// The tree has to have fewer than 4,000,000 steps.
+    /// Does an enabled event that is no quiet step, and answers which; `None` exactly where there is none. Which of
+    /// several it does is free. Who is checked out stays so. Running out of memory leaves the tree as it was. The
+    /// tree has to have fewer than 4,000,000 steps.
     pub fn settle_one(&mut self) -> Result<Option<Event>, NoMemory>
         requires few { steps (tree_in L.ops self.old) < 4000000 }
         ensures ok { IfOk result (λ event. MatchOption event (RestsIn L.ops self.old self.new) (λ e. HappensIn L.ops self.old self.new (event_of e))) }

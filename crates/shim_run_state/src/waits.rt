@@ -26,8 +26,8 @@ fn gather_live<L: Local>(process: &L, waits: &mut Waits) -> Result<(), NoMemory>
     }
 }
 
-/// Adds each live process at and below this number that waits at a channel, in the order of the tree,
-/// through so many forks.
+/// Adds each live process at and below this number that waits at a channel, in the order of the tree, on so many
+/// levels, of which that of the number itself is the first.
 pub(crate) fn gather<L: Local>(
     table: &ProcessTable<L>,
     levels: u64,

@@ -117,9 +117,9 @@ behind_try names x s t made n tried r =
     omega (arith, throws, slots, tries, length-append s.tries (name_index names x ∷ []), r)
 
 -- and its handler's variable one slot
-pub behind_variable : (names : Texts) (y : Option (List ℕ)) (start : ℕ) (s t : Scope) (made : Option ℕ) (n : ℕ) → IsBegun names y (before_of start s) made (before_of start t) → Kept start s t
+pub after_variable : (names : Texts) (y : Option (List ℕ)) (start : ℕ) (s t : Scope) (made : Option ℕ) (n : ℕ) → IsBegun names y (before_of start s) made (before_of start t) → Kept start s t
     → HasRoom (variable_size y + n) s → HasRoom n t
-behind_variable names y start s t made n begun k r =
+after_variable names y start s t made n begun k r =
     room_behind (variable_size y) n start s t (omega (arith, ap (λ (b : Before). given b) begun.after, variable_added names y (before_of start s))) k.throws r
 
 -- which exceptions are in scope takes no room

@@ -1,4 +1,4 @@
--- What the names of an expression are bound to, by the declarations that stand around it.
+-- What the name of a variable or of an exception is bound to at a place, and expressions with slots in place of names.
 use Rattle.std.specs.Prelude.{ℕ, List, [], ◌∷◌, Option, Some, None, reverse, map}
 use Rattle.std.specs.List.{find}
 use Rattle.std.specs.Option.{option_map, option_or}
@@ -11,11 +11,11 @@ use Rattle.shim_scopes.specs.declared.scope.Bound.{Bound}
 use Rattle.shim_scopes.specs.declared.scope.LocalDeclaration.{LocalDeclaration}
 use Rattle.shim_scopes.specs.declared.scope.Handled.{Handled}
 
--- the innermost of the declarations that enclose a place, given in textual order: the last that has the name
+-- What a name is bound to: the slot and the sort of the last declaration that has the name. The declarations that enclose the place are given in textual order. `None` if none has the name.
 abbrev pub binding_of : List ℕ → List LocalDeclaration → Option Bound
 binding_of x around = option_map (λ (l : LocalDeclaration). l.bound) (find (λ (l : LocalDeclaration). bytes_eq l.name x) (reverse around))
 
--- the number of the innermost of the exceptions in force at a place, given in textual order: the last that has the name
+-- The number of the last exception that has the name. The exceptions in force at the place are given in textual order. `None` if none has the name.
 abbrev pub exception_of : List ℕ → List Handled → Option ℕ
 exception_of x around = option_map (λ (l : Handled). l.number) (find (λ (l : Handled). bytes_eq l.name x) (reverse around))
 
@@ -39,7 +39,7 @@ unknown_step around (Expr-F.Binary op a b) = option_or a b
 unfoldable pub unknown_in : List LocalDeclaration → Expr → Option (List ℕ)
 unknown_in around = fold-Expr (Option (List ℕ)) (unknown_step around)
 
--- the name, where it is bound to another thing than is wanted there: a number, the stream that comes in, the one that goes out
+-- The name, where its sort isn't the one that is wanted. `if_stream` wants a number, `unless_input` an input stream, `unless_output` an output stream.
 abbrev pub if_stream : List ℕ → Sort → Option (List ℕ)
 if_stream x (Value ty) = None
 if_stream x Input = Some x

@@ -16,7 +16,7 @@ use Rattle.shim_scopes.specs.Refusals.{and_then}
 use Rattle.shim_scopes.specs.Statements.{Whole, Bind, local_of, bind_declare, bind_assign, bind_next_assign, bind_next, bind_assign_next, bind_get, bind_put, bind_throw, bind_block, on_tree, bind_if, bind_while, bind_try, bind_for}
 use Rattle.shim_scopes.specs.Calls.{bind_called}
 
--- what a statement of a line means, and what it declares in its own block, given the next slot
+-- what a statement means, given its line, and what it declares in its own block, given the next slot
 pub record WhatMeans : Type 0 where
   pub bind : ℕ → Bind RWhat
   pub declares : ℕ → List LocalDeclaration

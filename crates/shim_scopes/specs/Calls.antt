@@ -51,7 +51,7 @@ same_sort Input Input = true
 same_sort Output Output = true
 same_sort _ _ = false
 
--- whether the argument's variable has the sort of the parameter; true without a declaration, which is refused for itself
+-- Whether the variable to which a name is bound has the sort. True of a name that is bound to nothing, which `bind_call` refuses as unknown before.
 abbrev pub sort_fits : Sort → Option Bound → Bool
 sort_fits s None = true
 sort_fits s (Some b) = same_sort s b.sort
@@ -61,7 +61,7 @@ abbrev pub if_false : List ℕ → Bool → Option (List ℕ)
 if_false x true = None
 if_false x false = Some x
 
--- what is given for a reference is a name by itself, and bound to what the parameter takes
+-- The name for which an argument by reference is refused. It is the parameter's if the argument isn't bare, and the argument's if that is bound to another sort than the parameter's.
 abbrev pub wrong_ref : List LocalDeclaration → Param → Option (List ℕ) → Option (List ℕ)
 wrong_ref around p None = Some p.name
 wrong_ref around p (Some x) = if_false x (sort_fits p.sort (binding_of x around))
@@ -75,13 +75,13 @@ wrong_by false around p e = stream_in around e
 abbrev pub wrong_arg : List LocalDeclaration → Param → Expr → Option (List ℕ)
 wrong_arg around p e = wrong_by p.by_ref around p e
 
--- the name for which the leftmost refused one of some arguments is refused, each for the parameter at its place
+-- The name for which the leftmost refused argument is refused. Each argument is held against the parameter at its place; what has no partner isn't examined.
 abbrev pub wrong_in_all : List LocalDeclaration → List Param → List Expr → Option (List ℕ)
 wrong_in_all around [] es = None
 wrong_in_all around (p ∷ ps) [] = None
 wrong_in_all around (p ∷ ps) (e ∷ es) = option_or (wrong_arg around p e) (wrong_in_all around ps es)
 
--- A call of a function that was found or not. Its exceptions are examined first, then the number of arguments, then each argument.
+-- A call whose function was found, or the refusal of one whose function wasn't. The exceptions of the function's `throws` are examined first, then the number of arguments, then each argument.
 abbrev pub bind_known : Option Function → List Function → CallOf → ℕ → Around → Before → Result RCall Refusal
 bind_known None fs c line a b = Err (record { line = line; kind = UnknownFunction; name = c.function })
 bind_known (Some f) fs c line a b =
@@ -96,6 +96,6 @@ bind_call w c line a b =
     refused_for line UnknownName (unknown_in_all (visible a b) c.args)
     (bind_known (function_of w.functions c.function) w.functions c line a b)
 
--- a call, with `g` of it as the tree; it declares nothing
+-- a call, with `g` of its form as the tree; a call declares nothing
 abbrev pub bind_called : {T : Type 0} → (RCall → T) → Whole → CallOf → ℕ → Bind T
 bind_called g w c line a b = and_then (bind_call w c line a b) (λ r. Ok (record { tree = g r; before = b }))

@@ -1,4 +1,4 @@
--- What the functions of a program are bound to, and the whole program: headers first, each before its body.
+-- What the functions of a program are bound to, and the whole program. The functions are examined in textual order, each header before its body, and `main` is looked for last.
 use Rattle.std.specs.Prelude.{ℕ, List, [], ◌∷◌, ◌++◌, Option, Some, None, Result, Ok, Err, Bool, true, false, map, length, position, codes, ◌&&◌, ◌||◌, not}
 use Rattle.std.specs.List.{find}
 use Rattle.std.specs.Option.{option_or}
@@ -28,12 +28,12 @@ if_name x (Some n) = Some x
 abbrev pub name_in : Texts → List ℕ → Option (List ℕ)
 name_in seen x = if_name x (find (λ n. bytes_eq n x) seen)
 
--- the leftmost name that stands there before, too
+-- the leftmost name of a list that stands among `seen` or earlier in the list
 abbrev pub twice_after : Texts → Texts → Option (List ℕ)
 twice_after seen [] = None
 twice_after seen (x ∷ xs) = option_or (name_in seen x) (twice_after (seen ++ x ∷ []) xs)
 
--- `main` may take each stream once, whatever came before, and nothing else
+-- Whether these may be further parameters of `main`, which takes at most one input stream, one output stream and nothing else. `input` and `output` say which of the two came before.
 abbrev pub suits_main : Bool → Bool → List Param → Bool
 suits_main input output [] = true
 suits_main input output (p ∷ ps) = elim p.sort [
@@ -62,7 +62,7 @@ placed_param names p = record { sort = p.sort; by_ref = p.by_ref; name = name_in
 abbrev pub placed_params : Texts → List Param → List UParam
 placed_params names ps = map (placed_param names) ps
 
--- The exceptions around, and after them one of each name. The number of each is how many precede it.
+-- The exceptions around, and after them one for each name. The number of each new one is how many precede it.
 abbrev pub handled_from : List Handled → Texts → List Handled
 handled_from around [] = around
 handled_from around (x ∷ xs) = handled_from (around ++ record { name = x; number = length around } ∷ []) xs
@@ -88,7 +88,7 @@ made_function w f r = record {
   body = r.tree;
 }
 
--- The body's own block begins with the parameters, so it can't declare their names again.
+-- The form of a function, or its first place that is refused; `earlier` are the names of the functions before it. The body's own block begins with the parameters, and it may not declare their names again.
 unfoldable pub bind_function : Whole → Texts → Function → Result RFunction Refusal
 bind_function w earlier f =
     refused_for f.line Twice (name_in earlier f.name)
@@ -100,7 +100,7 @@ bind_function w earlier f =
     (params_from w.names function_begin f.params))
     (λ r. Ok (made_function w f r))))))
 
--- the functions behind those of the names `earlier`
+-- the forms of the functions that follow those named `earlier`, or the first place in them that is refused
 abbrev pub bind_functions : Whole → Texts → List Function → Result (List RFunction) Refusal
 bind_functions w earlier [] = Ok []
 bind_functions w earlier (f ∷ fs) =

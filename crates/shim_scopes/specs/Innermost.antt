@@ -8,7 +8,7 @@ abbrev pub HasNone : List ℕ → List LocalDeclaration → Type 0
 HasNone x [] = Unit {0}
 HasNone x (l ∷ ls) = (l.name ≢ x) × HasNone x ls
 
--- of the declarations around, the outermost first, one has the name and is bound so, and none further in has it
+-- Of the declarations `around`, the outermost first, `at` has the name `x` and the slot and sort of `b`. No declaration further in has the name.
 pub record IsInnermost (x : List ℕ) (around : List LocalDeclaration) (b : Bound) : Type 0 where
   pub outer : List LocalDeclaration
   pub at : LocalDeclaration

@@ -15,7 +15,7 @@ abbrev pub and_then : {A B : Type 0} → Result A Refusal → (A → Result B Re
 and_then (Ok a) f = f a
 and_then (Err r) f = Err r
 
--- the place is refused for the name, where there is one
+-- the refusal of the place for the name, where there is one, and else `rest`
 abbrev pub refused_for : {A : Type 0} → ℕ → ScopeKind → Option (List ℕ) → Result A Refusal → Result A Refusal
 refused_for line kind None rest = rest
 refused_for line kind (Some x) rest = Err (record { line = line; kind = kind; name = x })

@@ -33,27 +33,27 @@ pub record AreNumbers (w : Whole) : Type 0 where
 unfoldable pub HasRoom : ℕ → Scope → Type 0
 HasRoom more s = IsNumber (s.throws + (length s.slots + (length s.tries + more)))
 
--- the declarations before `start` are those of the blocks around, the others those of the own block
+-- What encloses the block that begins at `start`: the declarations before `start`, and the exceptions in force. `before_of` has the other declarations, as the block's own.
 abbrev pub around_of : ℕ → Scope → Around
 around_of start s = record { outer = take start s.visible; handled = s.handled; throws = s.throws }
 
 abbrev pub before_of : ℕ → Scope → Before
 before_of start s = record { own = drop start s.visible; slots = s.slots; slot_names = s.slot_names; tries = s.tries }
 
--- the answer is the one that is meant, and `NoMemory` may come in its place
+-- The answer is the one that is meant: a tree, with `now` before the next place, or a refusal. `NoMemory` may come in place of either.
 abbrev pub GivesBound : {T : Type 0} → Result T ScopeFault → Before → Meant T → Type 0
 GivesBound (Ok t) now meant = meant ≡ Ok (record { tree = t; before = now })
 GivesBound (Err (Refused line kind name)) now meant = meant ≡ Err (record { line = line; kind = kind; name = name })
 GivesBound (Err NoMemory) now meant = Unit {0}
 
--- the declarations around the block, which begins at `start`, and the exceptions in force are as before
+-- The declarations around the block, which begins at `start`, are the same in `now` as in `old`. The exceptions in force and the count of the `throws` are the same, too.
 pub record Kept (start : ℕ) (old now : Scope) : Type 0 where
   pub outer : take start now.visible ≡ take start old.visible
   pub long : start ≤ length now.visible
   pub handled : now.handled ≡ old.handled
   pub throws : now.throws ≡ old.throws
 
--- the statement that gives a variable a value, of its slot and the expression
+-- the assignment, or the `next` with one, made of a variable's slot and the expression whose value the variable gets
 abbrev pub storing_stmt : Store → ℕ → UExpr → RWhat
 storing_stmt store.Assign = Assign
 storing_stmt store.NextAssign = NextAssign
@@ -84,7 +84,7 @@ pub record IsDeclaredAs (names : Texts) (x : List ℕ) (sort : Sort) (old : Befo
   pub number : made ≡ length old.slots
   pub after : new ≡ with_declaration names x sort old
 
--- `made` is the next slot of `old` if the handler has a variable `y`, and else `None`. `new` is `old` with the variable's declaration, if it has one.
+-- `made` is the next slot of `old` if the handler has a variable `y`, and else `None`. `new` is `old` with a declaration of the variable, if the handler has one.
 pub record IsBegun (names : Texts) (y : Option (List ℕ)) (old : Before) (made : Option ℕ) (new : Before) : Type 0 where
   pub slot : made ≡ variable_slot y old
   pub after : new ≡ variable_declared names y old

@@ -20,18 +20,18 @@ use Rattle.shim_syntax.specs.Names.{Texts, name_index}
 use Rattle.shim_scopes.specs.Refusals.{Refusal, and_then, refused_for}
 use Rattle.shim_scopes.specs.Binding.{unknown, unknown_in, no_number, no_input, no_output, stream_in, slot_of, placed, unknown_in_option, stream_in_option, placed_option, exception_number, unhandled}
 
--- what a whole program says of its functions and names
+-- what is the same for all statements of a program: its functions, and its names in the order of their numbers
 pub record Whole : Type 0 where
   pub functions : List Function
   pub names : Texts
 
--- what encloses a block: the declarations of the blocks around it, in textual order, and the exceptions in force, of which the function's `throws` are the first
+-- What encloses a block: the declarations of the blocks around it, in textual order, and the exceptions in force. The first of these are the function's `throws`, and `throws` is their count.
 pub record Around : Type 0 where
   pub outer : List LocalDeclaration
   pub handled : List Handled
   pub throws : ℕ
 
--- what stands before a place: the declarations of its own block, and those and the `try` statements of the function
+-- What stands before a place: the declarations of its own block, and the sort of each slot of the function so far. The names of these slots and of the exceptions of the function's `try` statements are numbers.
 pub record Before : Type 0 where
   pub own : List LocalDeclaration
   pub slots : List Sort
@@ -154,7 +154,7 @@ inside_block a b = record a { outer = visible a b }
 abbrev pub opened : Before → Before
 opened b = record b { own = [] }
 
--- behind a block the block before it goes on
+-- What stands before a place that follows a block. The own declarations are those of `b`, from before the block. The slots and `try` statements are those of `inner`, from its end.
 abbrev pub after_block : Before → Before → Before
 after_block b inner = record inner { own = b.own }
 
@@ -166,7 +166,7 @@ bind_block f a b = and_then (f (inside_block a b) (opened b)) (λ r. Ok (record 
 abbrev pub on_tree : {S T : Type 0} → (S → T) → Bind S → Bind T
 on_tree g f a b = and_then (f a b) (λ r. Ok (record { tree = g r.tree; before = r.before }))
 
--- one and then another
+-- what `f` binds and then what `h` binds, with `g` of both trees as the tree
 abbrev pub bind_two : {R S T : Type 0} → (R → S → T) → Bind R → Bind S → Bind T
 bind_two g f h a b = and_then (f a b) (λ r. and_then (h a r.before) (λ s. Ok (record { tree = g r.tree s.tree; before = s.before })))
 
@@ -189,7 +189,7 @@ abbrev pub bind_while : Expr → Bind (List RStmt) → ℕ → Bind RWhat
 bind_while e body line a b =
     and_then (bind_test e line a b) (λ test. on_tree (While test) (bind_block body) a b)
 
--- a `try` has the number that follows those of the `throws` and of the `try` statements before it
+-- `a` with the exception `x` of a `try` in force as the innermost. The exception's number follows those of the `throws` and of the `try` statements before.
 abbrev pub with_handled : List ℕ → Around → Before → Around
 with_handled x a b = record a { handled = a.handled ++ record { name = x; number = a.throws + length b.tries } ∷ [] }
 
@@ -197,7 +197,7 @@ with_handled x a b = record a { handled = a.handled ++ record { name = x; number
 abbrev pub tried : Whole → List ℕ → Before → Before
 tried w x b = record b { tries = b.tries ++ name_index w.names x ∷ [] }
 
--- the variable of a handler is the first declaration of the handler's block, as an `int32`
+-- `b` with a declaration of the handler's variable as an `int32`, if the handler has one
 abbrev pub variable_declared : Texts → Option (List ℕ) → Before → Before
 variable_declared names None b = b
 variable_declared names (Some y) b = with_declaration names y (Value Int32) b
@@ -206,19 +206,19 @@ variable_declared names (Some y) b = with_declaration names y (Value Int32) b
 abbrev pub bind_handler : Whole → Option (List ℕ) → Bind (List RStmt) → Bind (List RStmt)
 bind_handler w y handler a b = handler a (variable_declared w.names y b)
 
--- the slot that it gets
+-- the next slot, for the variable of a handler, if the handler has one
 abbrev pub variable_slot : Option (List ℕ) → Before → Option ℕ
 variable_slot None b = None
 variable_slot (Some y) b = Some (length b.slots)
 
--- the handler stands outside of the `try`, so its exception isn't in force there
+-- A `try`: first its body, in a block where its exception `x` is in force, too. Then its handler, in a block where only the exceptions from around the `try` are in force.
 abbrev pub bind_try : Whole → List ℕ → Option (List ℕ) → Bind (List RStmt) → Bind (List RStmt) → Bind RWhat
 bind_try w x y body handler a b =
     and_then (bind_block body (with_handled x a b) (tried w x b)) (λ r.
     and_then (bind_block (bind_handler w y handler) a r.before) (λ s.
     Ok (record { tree = Try r.tree (a.throws + length b.tries) (variable_slot y r.before) s.tree; before = s.before })))
 
--- The parts of a `for` in a block of its own, behind its test, which is examined before them all. The body is a block inside it.
+-- The parts of a `for` whose test was examined: the first statement, the step, and the body in a block inside. The test's variables get the slots that they have after the first statement.
 abbrev pub bind_parts : Option Expr → Bind (List RStmt) → Bind (List RStmt) → Bind (List RStmt) → Bind RWhat
 bind_parts test first step body a b =
     and_then (first a b) (λ r.
@@ -226,7 +226,7 @@ bind_parts test first step body a b =
     and_then (bind_block body a s.before) (λ t.
     Ok (record { tree = For r.tree (placed_option (visible a r.before) test) s.tree t.tree; before = t.before }))))
 
--- the test is examined with what the first statement declares, and that alone, in the loop's own block
+-- The test of a `for` is examined with the declarations around the `for` and those of its first statement. `declares` gives the latter for the next slot.
 abbrev pub bind_first_test : (ℕ → List LocalDeclaration) → Option Expr → ℕ → Around → Before → Result (Unit {0}) Refusal
 bind_first_test declares test line a b =
     refused_for line UnknownName (unknown_in_option (visible a b ++ declares (length b.slots)) test)

@@ -29,8 +29,9 @@ pub fn find_function_at(functions: &[Function], name: &Name) -> Option<usize>
         .position(|function| is_same(&function.name, name))
 }
 
-// The numbers of a callee's exceptions in the caller, unless one of them isn't in scope there. Each name
-// is looked up once, since a text may have very many calls that throw as much as they may.
+// The caller's numbers for the names in a callee's `throws`, or the refusal of the first that isn't in scope
+// at the call. Each name is looked up once, since a text may have very many calls of a function with a very
+// long `throws`.
 fn number_throws(
     alloc: Global,
     handled: &[Handled],
@@ -79,7 +80,7 @@ fn is_same_sort(a: Sort, b: Sort) -> bool
     }
 }
 
-// Whether what a name is bound to, where it is, is of the sort.
+// Whether the variable to which a name is bound has the sort. True of a name that is bound to nothing.
 fn is_fit(sort: Sort, bound: Option<Bound>) -> bool
     ensures { result ≡ sort_fits sort bound }
 {
@@ -149,7 +150,7 @@ fn find_arity<'a>(call: &'a Call, callee: &Function) -> Option<&'a Name>
     }
 }
 
-// A call of the function that has that number.
+// A call of the function that has the number `at`.
 #[tactic(auto, using(crate::proofs::Seams::seam))]
 fn resolve_known(
     alloc: Global,

@@ -4,7 +4,8 @@ ghost use Rattle.shim_scopes.specs.declared.fault.ScopeFault.TheVariants as v;
 
 use shim_base::Name;
 
-/// What is wrong at a place. Of several in one statement the first of these is reported.
+/// What is wrong at a place. Of several in one statement or branch, apart from the statements and branches
+/// in it, the first of these is reported.
 #[derive(Clone, Copy, Debug, PartialEq, Eq)]
 pub enum ScopeKind {
     /// A variable without a declaration in scope.
@@ -12,13 +13,14 @@ pub enum ScopeKind {
     UnknownFunction,
     /// An exception that isn't in scope, be it thrown or among the `throws` of a function that is called.
     UnknownException,
-    /// A second declaration in one block, or a second function, parameter or exception of one name.
+    /// A name that one block declares twice, or that two functions have. Also a name that stands twice among
+    /// the parameters of one function, or twice in its `throws`.
     Twice,
     /// A call that gives more or fewer arguments than the function takes, whose name is reported.
     Arity,
-    /// A name that is bound to something else than is wanted in its place: a stream or a number in the
-    /// other's, a stream of the other direction, or, for a reference, a variable of another type. The
-    /// name is the one that is used, or the parameter's where no single name is given for a reference.
+    /// A name that is bound to something else than is wanted in its place. That is a stream for a number or
+    /// the reverse, a stream of the other direction, or, by reference, a variable of another type. An argument
+    /// by reference that isn't bare is refused, too, with the name of the parameter.
     WrongKind,
     NoMain,
     /// `main` takes something else than at most one stream of each kind.
@@ -34,7 +36,7 @@ pub enum ScopeFault {
         kind: ScopeKind,
         name: Name,
     },
-    /// No memory was found. This alone may come in place of any other answer.
+    /// Out of memory. This alone may come in place of any other answer.
     NoMemory,
 }
 

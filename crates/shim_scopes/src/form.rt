@@ -2,9 +2,9 @@
 use crate::tree::RFunction;
 use shim_base::{List, Name};
 
-// The functions as they come in the source, the names whose numbers they have, and which of them is
-// `main`.
-#[derive(Debug, Drop)]
+// The functions in the order of the source, the list of names to which their numbers refer, and the number
+// of `main` among the functions.
+#[derive(Drop)]
 pub struct Form {
     pub functions: List<RFunction>,
     pub names: List<Name>,

@@ -19,7 +19,7 @@ use shim_syntax::word::copy;
 use shim_syntax::{Function, NameTable};
 use std::alloc::Global;
 
-// What stands in a function whose header is in order.
+// The form of a function whose header isn't refused, or the first place in its body that is refused.
 fn resolve_inside(
     alloc: Global,
     functions: &[Function],

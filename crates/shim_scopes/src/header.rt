@@ -14,7 +14,7 @@ use shim_syntax::word::copy;
 use shim_syntax::{Function, NameTable, Param, Sort};
 use std::alloc::Global;
 
-// The leftmost name that stands twice.
+// The first name that is the same as one before it in the list.
 pub fn find_twice(names: &[Name]) -> Option<&Name>
     ensures { option_copied result ≡ twice_after [] names.now }
 {
@@ -114,7 +114,7 @@ pub fn resolve_params(
     Ok(made)
 }
 
-// Whether these are parameters of `main` behind those that had the streams.
+// Whether these may be further parameters of `main`. `input` and `output` say which streams came before.
 fn is_suited(input: bool, output: bool, params: &[Param]) -> bool
     ensures { result ≡ suits_main input output params.now }
 {

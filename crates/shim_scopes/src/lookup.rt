@@ -1,4 +1,4 @@
-// What the names of expressions are bound to.
+// What names of variables and exceptions are bound to, and expressions over slots.
 ghost use Rattle.std.specs.Prelude.{◌≡◌, IfOk};
 ghost use Rattle.std.specs.Option.{option_copied, option_or};
 ghost use Rattle.shim_scopes.specs.Binding.{binding_of, exception_of, unknown, unknown_in, no_number, no_input, no_output, stream_in, bare, slot_of, placed, unknown_in_all, placed_all, unknown_in_option, stream_in_option, placed_option, exception_number, unhandled};

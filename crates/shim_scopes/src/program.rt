@@ -29,7 +29,8 @@ fn find_main(alloc: Global, functions: &[Function]) -> Result<u32, ScopeFault>
     }
 }
 
-// The resolved form of a program whose counts fit its numbers, be it of a text or not.
+// The resolved form of a program, or its first place that is refused. The size of the program fits a
+// number of the tree, and the program needn't have a text.
 #[tactic(auto, using(shim_syntax::proofs::OccurrenceSizes::names_few, shim_syntax::proofs::OccurrenceSizes::functions_counted))]
 pub fn form_of(alloc: Global, program: &Program) -> Result<Form, ScopeFault>
     requires { IsNumber (functions_size program.now.functions) }
@@ -47,9 +48,9 @@ pub fn form_of(alloc: Global, program: &Program) -> Result<Form, ScopeFault>
 }
 
 /// The program with its names as numbers, or the first place that is refused. Functions come in
-/// textual order, each header before its statements. A statement's own names and expressions come
-/// before what stands in it, and are asked about in the order of `ScopeKind`, of one kind from the
-/// left. `NoMemory` may come in place of any answer.
+/// textual order, each header before its statements; a missing `main` comes last. A statement's own
+/// names and expressions come before the statements in it. They are asked about in the order of
+/// `ScopeKind`, and for one kind from the left. `NoMemory` may come in place of any answer.
 #[tactic(auto, using(shim_syntax::proofs::ByteSizes::size_is_bounded))]
 pub fn resolve(alloc: Global, program: &Program) -> Result<Resolved, ScopeFault>
     requires { HasText program.now }

@@ -7,9 +7,9 @@ use crate::tree::RFunction;
 use shim_base::{List, Name};
 use std::marker::Model;
 
-/// A program whose names are bound. It has a text of at most 1,048,576 bytes, and only `resolve`
-/// makes one.
-#[derive(Debug, Drop)]
+/// A program whose names are bound. Only `resolve` makes a value of this type. The program has a text of at
+/// most 1,048,576 bytes.
+#[derive(Drop)]
 pub struct Resolved {
     form: Form,
 }
@@ -37,21 +37,21 @@ impl Resolved {
         self.form.functions.as_slice()
     }
 
-    /// The names of the source, none of them twice, in the order in which they come up.
+    /// The names of the source, each once, in the order of their first occurrences.
     pub fn names(&self) -> &[Name]
         ensures { result.now ≡ self.now.names }
     {
         self.form.names.as_slice()
     }
 
-    /// The names alone, in that order.
+    /// The same names as `names`, by value; the rest is dropped.
     pub fn into_names(self) -> List<Name>
         ensures { result ≡ self.names }
     {
         self.form.names
     }
 
-    /// Which of the functions is `main`.
+    /// Which of `functions` is `main`, counted from 0.
     pub fn main(&self) -> u32
         ensures { result ≡ self.now.main }
     {
@@ -59,7 +59,7 @@ impl Resolved {
     }
 }
 
-// The resolved program in this form. Its condition is all that the type keeps.
+// The resolved program in this form. What the function requires is what the type keeps.
 pub fn from_form(form: Form) -> Resolved
     requires { ∥ IsFormOfText form ∥₁ }
     ensures { result ≡ form }

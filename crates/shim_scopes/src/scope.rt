@@ -26,7 +26,7 @@ pub struct Handled {
     pub number: u32,
 }
 
-// Where the reading of a function stands: the declarations and exceptions in scope in textual order,
+// What is known at a place of a function: the declarations and exceptions in scope in textual order,
 // the count of the function's own `throws`, and all slots and `try` statements so far.
 #[derive(Drop)]
 pub struct Scope {
@@ -38,7 +38,7 @@ pub struct Scope {
     pub tries: List<u32>,
 }
 
-// Leaves the first elements alone, so many.
+// Keeps the first `len` elements, or all if there are fewer, and drops the others.
 pub fn cut<T: Drop>(list: &mut List<T>, len: usize)
     ensures { list.new ≡ take len list.old }
 {

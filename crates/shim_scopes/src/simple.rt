@@ -1,4 +1,4 @@
-// Statements that hold no other.
+// Statements that hold no other. Of those that do: the test, the handler's variable, and the exception of a `try`.
 ghost use Rattle.std.specs.Prelude.{◌≡◌, ◌+◌, ◌≤◌, length, IfOk, OnOk};
 ghost use Rattle.std.specs.Option.{option_copied};
 ghost use Rattle.shim_syntax.specs.declared.tree.Sort.TheVariants.{Value};
@@ -165,7 +165,7 @@ pub enum Store {
     NextAssign,
 }
 
-// The statement, of a slot and an expression.
+// The assignment, or the `next` with one, of a slot and an expression.
 fn stored(store: Store, slot: u32, expr: UExpr) -> RWhat
     ensures { result ≡ storing_stmt store slot expr }
 {
@@ -199,7 +199,7 @@ pub fn resolve_store(
     Ok(stored(store, slot_in(visible, name), expr))
 }
 
-// Puts a declaration into the block.
+// Puts a declaration with the next slot into the block, and gives the slot.
 #[tactic(auto, using(crate::proofs::Seams::pushed_inside, crate::proofs::Seams::pushed_outside), unfolding(crate::specs::State::HasRoom))]
 pub fn declare(
     alloc: Global,
@@ -313,7 +313,7 @@ fn next_exception(scope: &Scope) -> u32
     scope.throws + number(scope.tries.len())
 }
 
-// Puts the exception of a `try` in force.
+// Puts the exception of a `try` in force with the next number, and gives the number.
 pub fn begin_try(
     alloc: Global,
     names: &NameTable,

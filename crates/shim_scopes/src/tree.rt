@@ -12,9 +12,10 @@ pub struct RFunction {
     /// handlers follow as they come in the text.
     pub slots: List<Sort>,
     pub slot_names: List<u32>,
-    /// The names behind `throws`, whose numbers are the first exceptions.
+    /// The names in the `throws`, in textual order. Their exceptions have the numbers from 0.
     pub throws: List<u32>,
-    /// The names of the `try` statements in textual order, whose numbers follow those.
+    /// The names of the exceptions of the `try` statements, in textual order. The numbers of these
+    /// exceptions follow those of the `throws`.
     pub tries: List<u32>,
     pub body: List<RStmt>,
 }

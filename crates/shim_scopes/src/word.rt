@@ -7,7 +7,7 @@ ghost use Rattle.shim_scopes.specs.State.{IsNumber};
 use shim_base::Name;
 use shim_syntax::word::is_same;
 
-// The name, where it stands among some.
+// The name, where it is among those of `seen`.
 pub fn find_in<'a>(seen: &[Name], name: &'a Name) -> Option<&'a Name>
     ensures { option_copied result ≡ name_in seen.now name.now }
 {

@@ -5,9 +5,9 @@ use Rattle.shim_local.specs.Process.{Ops, ForkedView, AtFork, Parted, Trapped}
 use Rattle.shim_local.specs.Laws.{LocalLaws, AllOf, AreChildren, Moved, by_fork, by_trap, how_many}
 use Rattle.shim_semantics.specs.Nodes.{Live, Forked, no_node, states, everyone_of, all_live}
 use Rattle.shim_semantics.specs.Acts.{parted}
-use Rattle.shim_semantics.specs.Places.{behind_front, SoundChildren}
+use Rattle.shim_semantics.specs.Places.{after_front, SoundChildren}
 use Rattle.shim_semantics.specs.Sound.{carriers, holders}
-use Rattle.shim_semantics.proofs.Sameness.{behind_front_of}
+use Rattle.shim_semantics.proofs.Sameness.{after_front_of}
 use Rattle.shim_semantics.proofs.HowMany.{clash, bit, count_one, counts, uncounted, one_for_one, none_count}
 use Rattle.shim_semantics.proofs.Follows.{Keeps, Stays, IsNew, by_child, follows_moved, stays_keeps}
 use Rattle.shim_base.proofs.Facts.{some_same, true_or_false}
@@ -29,7 +29,7 @@ last_place [] = 0
 last_place (x ∷ p) = x.1
 
 same_place : (p : Path) (f i j : ℕ) → p ++ (f, i) ∷ [] ≡ p ++ (f, j) ∷ [] → i ≡ j
-same_place p f i j e = ap last_place (some_same ((f, i) ∷ []) ((f, j) ∷ []) (sym (behind_front_of p ((f, i) ∷ [])) ∙ (ap (behind_front p) e ∙ behind_front_of p ((f, j) ∷ []))))
+same_place p f i j e = ap last_place (some_same ((f, i) ∷ []) ((f, j) ∷ []) (sym (after_front_of p ((f, i) ∷ [])) ∙ (ap (after_front p) e ∙ after_front_of p ((f, j) ∷ []))))
 
 one_is_one : (n m : ℕ) → n ≡ 1 → 1 ≤ m → n ≤ m
 one_is_one n m e h = omega arith

@@ -4,7 +4,7 @@ use Rattle.shim_base.specs.Paths.{Path, same_pair}
 use Rattle.shim_local.specs.Process.{Ops}
 use Rattle.shim_semantics.specs.Nodes.{Node}
 use Rattle.shim_semantics.specs.Acts.{act}
-use Rattle.shim_semantics.specs.Places.{behind_front, branches, option_branches, route}
+use Rattle.shim_semantics.specs.Places.{after_front, branches, option_branches, route}
 use Rattle.shim_semantics.specs.Trees.{act_route}
 use Rattle.shim_base.proofs.Facts.{some_same}
 
@@ -14,7 +14,7 @@ route_rest [] p q e = (omega arith, some_same q (branches p) (sym e))
 route_rest (x ∷ r) [] q e = absurd cc
 route_rest (x ∷ r) (y ∷ p) q e = rest (same_pair x y) (λ f. route_rest r p q f) e
   where
-    rest : (b : Bool) → (route r p ≡ Some q → (length r ≤ length p) × (q ≡ branches (drop (length r) p))) → option_branches (cond b (behind_front r p) None) ≡ Some q → (length (x ∷ r) ≤ length (y ∷ p)) × (q ≡ branches (drop (length r) p))
+    rest : (b : Bool) → (route r p ≡ Some q → (length r ≤ length p) × (q ≡ branches (drop (length r) p))) → option_branches (cond b (after_front r p) None) ≡ Some q → (length (x ∷ r) ≤ length (y ∷ p)) × (q ≡ branches (drop (length r) p))
     rest true f e = let w = f e in let h = w.0 in (omega arith, w.1)
     rest false f e = absurd cc
 

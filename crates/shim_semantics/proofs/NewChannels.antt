@@ -7,7 +7,7 @@ use Rattle.shim_local.specs.Laws.{LocalLaws, how_many}
 use Rattle.shim_semantics.specs.Nodes.{Node, Nodes, Live, Forked, Ended, Dead, no_node, node_and, state, everyone, everyone_of}
 use Rattle.shim_semantics.specs.Places.{at, child_at, branches, option_branches, route, IsChild, SoundBelow, SoundChildren}
 use Rattle.shim_semantics.specs.Sound.{SharesItsOwn, carriers}
-use Rattle.shim_semantics.proofs.Sameness.{behind_front_of}
+use Rattle.shim_semantics.proofs.Sameness.{after_front_of}
 use Rattle.shim_semantics.proofs.Routes.{at_path, route_of}
 use Rattle.shim_semantics.proofs.HowMany.{clash, uncounted, count_both}
 use Rattle.shim_semantics.proofs.Follows.{IsNew, by_own, by_child}
@@ -82,7 +82,7 @@ module _ {S : Type 0} (o : Ops S) where
       let y = at_path o root (Live l) q s e in
       let is : o.path (state root) ++ (y.0 ++ x ∷ []) ≡ o.path (state a) = sym (append_assoc (o.path (state root)) y.0 (x ∷ [])) ∙ (ap (λ z. z ++ x ∷ []) (sym y.1) ∙ sym h) in
       let there : route (o.path (state root)) (o.path (state a)) ≡ Some (branches (y.0 ++ x ∷ [])) =
-      ap (λ z. route (o.path (state root)) z) (sym is) ∙ ap option_branches (behind_front_of (o.path (state root)) (y.0 ++ x ∷ [])) in
+      ap (λ z. route (o.path (state root)) z) (sym is) ∙ ap option_branches (after_front_of (o.path (state root)) (y.0 ++ x ∷ [])) in
       let same : p ≡ branches (y.0 ++ x ∷ []) = some_same p (branches (y.0 ++ x ∷ [])) (sym (route_of o root a p (o.path (state a)) s f refl) ∙ there) in
       let further : p ≡ q ++ x.1 ∷ [] = same ∙ (branches_further y.0 x ∙ ap (λ z. z ++ x.1 ∷ []) y.2) in
       none_some a (sym (none_below q x.1 root l e) ∙ (ap (λ z. at z root) (sym further) ∙ f))

@@ -7,7 +7,7 @@ use Rattle.shim_semantics.specs.Nodes.{Node, Nodes, Live, Forked, Ended, Dead, n
 use Rattle.shim_semantics.specs.Acts.{Effects, Acted, act, act_child, act_here, within, in_front, in_later}
 use Rattle.shim_semantics.specs.Places.{at, child_at, branches, option_branches, route, SoundBelow, SoundChildren}
 use Rattle.shim_semantics.proofs.Options.{within_some, in_front_some, behind_some}
-use Rattle.shim_semantics.proofs.Sameness.{behind_front_of, further}
+use Rattle.shim_semantics.proofs.Sameness.{after_front_of, further}
 use Rattle.shim_base.proofs.Facts.{some_same, none_some}
 
 module _ {S : Type 0} (o : Ops S) where
@@ -37,7 +37,7 @@ module _ {S : Type 0} (o : Ops S) where
   pub route_of : (n m : Node S) (q : List ℕ) (p : Path) → SoundBelow o n → at q n ≡ Some m → o.path (state m) ≡ p → route (o.path (state n)) p ≡ Some q
   route_of n m q p s e h =
       let y = at_path n m q s e in
-      ap (λ z. route (o.path (state n)) z) (sym h ∙ y.1) ∙ (ap option_branches (behind_front_of (o.path (state n)) y.0) ∙ ap Some y.2)
+      ap (λ z. route (o.path (state n)) z) (sym h ∙ y.1) ∙ (ap option_branches (after_front_of (o.path (state n)) y.0) ∙ ap Some y.2)
 
   -- an event at these branches is one that the node there does
   pub record ActsAt (q : List ℕ) (n : Node S) : Type 0 where

@@ -21,12 +21,12 @@ pub record Acted (S : Type 0) : Type 0 where
 abbrev pub nothing : Effects
 nothing = record { bytes = []; logs = [] }
 
--- a put that traps puts no byte
+-- the effects of a put: its byte, and no log; a put that traps puts no byte
 abbrev pub putting : Option ℕ → Effects
 putting None = nothing
 putting (Some b) = record { bytes = b ∷ []; logs = [] }
 
--- the exception was caught by a handler with this name and line
+-- the effects of a catch: no byte, and a log of the handler's name and line
 abbrev pub catch_logged : ℕ × ℕ → Effects
 catch_logged h = record { bytes = []; logs = Caught h.0 h.1 ∷ [] }
 
@@ -39,7 +39,7 @@ abbrev pub parted : {S : Type 0} → ForkedView S → Node S
 parted (Parted l ks) = Forked l (all_live ks)
 parted (Trapped l) = Live l
 
--- The exception of this death is thrown in a process. Where its label is below the base the process dies so; else its handler goes on with the number, and the catch is logged.
+-- The exception of this death is thrown in a process. Where its label is below the base the process dies this death. Else it goes on at the handler, which gets the number, or 0 for none, and the catch is logged.
 abbrev pub thrown : {S : Type 0} → Ops S → S → Death → Acted S
 thrown o l d = cond (ltb d.label (o.base l)) (record { node = Dead l d; effects = nothing }) (record { node = Live (o.unwind l d.label (handed d.given)); effects = catch_logged (o.handler l d.label) })
 
@@ -53,7 +53,7 @@ abbrev pub closed : {S : Type 0} → Ops S → S → List S → Option Death →
 closed o l ks None = record { node = Live (o.join l ks true); effects = nothing }
 closed o l ks (Some d) = thrown o (o.join l ks false) d
 
--- A process that stands trapped dies of label 0 with the number 0, and the trap is logged.
+-- What a live process at this stop leaves by the one thing that it can do by itself, and the effects. At a `next` it can do nothing. A process that stands trapped dies of label 0 with the number 0, and the trap is logged.
 abbrev pub act_live : {S : Type 0} → Ops S → S → StopView → Option (Acted S)
 act_live o l AtQuiet = Some (record { node = Live (o.quiet l); effects = nothing })
 act_live o l AtPut = Some (record { node = Live (o.put l); effects = putting (o.byte l) })

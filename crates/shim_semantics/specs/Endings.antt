@@ -56,7 +56,7 @@ abbrev mutual
 abbrev pub wait_at : Path × NamedChannel → WaitAt
 wait_at w = record { path = w.0; chan = w.1 }
 
--- where the run is blocked, by path
+-- the waits of a blocked run, in the order of paths; for each other outcome none
 abbrev pub waits_of : {S : Type 0} → Ops S → Node S → Outcome → List WaitAt
 waits_of o root Blocked = map wait_at (finite.entries (finite.from_entries {R = path_order} (waiting o root)))
 waits_of o root _ = []

@@ -18,7 +18,7 @@ pub record KeepsSound {S : Type 0} (o : Ops S) : Type 0 where
   pub starts : (l : S) → o.sound l → SharesItsOwn o l → IsSoundTree o (start l)
   pub kept : IsInvariant (after o) (IsSoundTree o)
 
--- so does each run
+-- a run from a sound tree leads to a sound tree
 abbrev pub RunsStaySound : {S : Type 0} → Ops S → Type 0
 RunsStaySound {S} o = (t u : Tree S) (es : List Event) → IsSoundTree o t → run (after o) es t ≡ Some u → IsSoundTree o u
 
@@ -26,6 +26,6 @@ RunsStaySound {S} o = (t u : Tree S) (es : List Event) → IsSoundTree o t → r
 abbrev pub SharesWhatWasGiven : {S : Type 0} → Ops S → Node S → Type 0
 SharesWhatWasGiven {S} o root = (b : ℕ) (q : List ℕ) (k : Node S) (c : Channel) → at (b ∷ q) root ≡ Some k → c.home ≢ o.path (state k) → (o.shares (state k) c ≡ true) ↔ IsGiven o (state k) c
 
--- in a sound tree children share the channels that they were given, and channels of their own
+-- in a sound tree each process below the root shares, of the channels of others, just those that its fork gave it
 abbrev pub ChildrenShareGiven : {S : Type 0} → Ops S → Type 0
 ChildrenShareGiven {S} o = (t : Tree S) → IsSoundTree o t → SharesWhatWasGiven o t.root

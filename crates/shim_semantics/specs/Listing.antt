@@ -10,7 +10,7 @@ abbrev pub IsAmong : {E : Type 0} → E → List E → Type 0
 IsAmong e [] = ⊥
 IsAmong e (f ∷ fs) = (e ≡ f) ⊎ IsAmong e fs
 
--- in a sound tree each event of the walk is enabled, and each enabled event is of the walk
+-- where `SoundBelow` holds of the root, each event of the walk is enabled, and each enabled event is of the walk
 abbrev pub ListsEnabled : {S : Type 0} → Ops S → Type 0
 ListsEnabled {S} o = (t : Tree S) (e : Event) → SoundBelow o t.root → (IsAmong e (walk o t.root) → (a : Tree S) × (after o e t ≡ Some a)) × ((a : Tree S) → after o e t ≡ Some a → IsAmong e (walk o t.root))
 

@@ -111,7 +111,7 @@ abbrev pub any_sharer : {S : Type 0} → Ops S → Channel → Nodes S → Bool
 any_sharer o c no_node = false
 any_sharer o c (node_and k ks) = (goes k && o.shares (state k) c) || any_sharer o c ks
 
--- Ready on a channel: a live process that stands at it; a forked one of whose children one shares it that has neither ended nor died, and each that shares it and hasn't ended is ready. So no child that shares it is dead.
+-- A live process is ready on a channel if it stands at it. A forked one is ready if a child that goes on shares the channel, and each child that shares it and hasn't ended is ready. As no dead process is ready, no child that shares the channel is dead then.
 abbrev mutual
   pub ready : {S : Type 0} → Ops S → Channel → Node S → Bool
   ready o c (Live l) = is_next (o.stop l) c
@@ -123,7 +123,7 @@ abbrev mutual
   all_ready o c no_node = true
   all_ready o c (node_and k ks) = (not (o.shares (state k) c && (goes k || is_dead k)) || ready o c k) && all_ready o c ks
 
--- the first of two, if there is one
+-- the first of two if there is one, else the second
 abbrev pub or_else : {A : Type 0} → Option A → Option A → Option A
 or_else (Some x) y = Some x
 or_else None y = y
@@ -150,7 +150,7 @@ abbrev pub name_for : Channel → Option NamedChannel → Option ℕ
 name_for c None = None
 name_for c (Some d) = cond (same_channel d.channel c) (Some d.name) None
 
--- the name that the first live process at the channel has for it, in the same order
+-- the name that the first live process at the channel has for it, from the root with leftmost children first
 abbrev mutual
   pub first_name : {S : Type 0} → Ops S → Channel → Node S → Option ℕ
   first_name o c (Live l) = name_for c (next_channel (o.stop l))

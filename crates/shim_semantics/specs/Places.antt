@@ -23,26 +23,26 @@ branches [] = []
 branches (x ∷ p) = x.1 ∷ branches p
 
 -- what is left of the second path behind the first, where that is a prefix of it
-abbrev pub behind_front : Path → Path → Option Path
-behind_front [] q = Some q
-behind_front (x ∷ p) [] = None
-behind_front (x ∷ p) (y ∷ q) = cond (same_pair x y) (behind_front p q) None
+abbrev pub after_front : Path → Path → Option Path
+after_front [] q = Some q
+after_front (x ∷ p) [] = None
+after_front (x ∷ p) (y ∷ q) = cond (same_pair x y) (after_front p q) None
 
--- the same of a path, if there is one
+-- the branches of a path, if there is one
 abbrev pub option_branches : Option Path → Option (List ℕ)
 option_branches None = None
 option_branches (Some p) = Some (branches p)
 
--- the branches that lead from the process of the first path to that of the second
+-- the branches that lead from the process of the first path to that of the second; none are given where the first path is no prefix of the second
 abbrev pub route : Path → Path → Option (List ℕ)
-route root p = option_branches (behind_front root p)
+route root p = option_branches (after_front root p)
 
 -- the node to which the branches lead from n, if there are branches
 abbrev pub at_route : {S : Type 0} → Node S → Option (List ℕ) → Option (Node S)
 at_route n None = None
 at_route n (Some p) = at p n
 
--- the branches of a path lead to this node, which may be that of the path, or of another fork
+-- the node to which the branches of the path lead from the root, if there is one; its own path may be another, with other numbers of forks
 abbrev pub led_to : {S : Type 0} → Ops S → Node S → Path → Option (Node S)
 led_to o root p = at_route root (route (o.path (state root)) p)
 
@@ -60,12 +60,12 @@ abbrev pub has_path : {S : Type 0} → Ops S → Path → Option (Node S) → Bo
 has_path o p None = false
 has_path o p (Some n) = same_path (o.path (state n)) p
 
--- in the tree of this root the process of the path stands so: this node is its
+-- in the tree of this root, n is the node of the process of the path
 pub record StandsAt {S : Type 0} (o : Ops S) (root : Node S) (p : Path) (n : Node S) : Type 0 where
   pub there : led_to o root p ≡ Some n
   pub is_its : o.path (state n) ≡ p
 
--- k is the child in place i of the fork of number f of l, after any calls
+-- k has the path and the base that the fork of number f of l gives its child in place i, and shares no other channels than that child may
 pub record IsChild {S : Type 0} (o : Ops S) (l : S) (f i : ℕ) (k : S) : Type 0 where
   pub path : o.path k ≡ o.path l ++ (f, i) ∷ []
   -- as many exception places are in force around it as with those of its parent

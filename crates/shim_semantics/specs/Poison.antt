@@ -85,7 +85,7 @@ poison o c i = apply_at changed_above (poison_node o c i)
 abbrev pub poison_child : {S : Type 0} → Ops S → Channel → ℕ → ℕ → List ℕ → Nodes S → Option (Nodes S)
 poison_child o c i = apply_among changed_above (poison_node o c i)
 
--- the branches that lead to a child, of which there is a first one, as those that lead to its fork and the child's place there
+-- of the branches that lead to a child, i and then the list, all but the last one: they lead to its fork
 abbrev pub to_fork : ℕ → List ℕ → List ℕ
 to_fork i [] = []
 to_fork i (j ∷ q) = i ∷ to_fork j q

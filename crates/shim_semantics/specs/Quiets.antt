@@ -20,7 +20,7 @@ abbrev mutual
   all_quiets o no_node = []
   all_quiets o (node_and k ks) = quiets o k ++ all_quiets o ks
 
--- the one with this number, from 0
+-- the process with this number, from 0, among those that stand before a quiet step
 abbrev pub quiet_at : {S : Type 0} → Ops S → ℕ → Tree S → Option S
 quiet_at o at t = slice_get (quiets o t.root) at
 
@@ -34,6 +34,6 @@ pub record ComesBy {S : Type 0} (o : Ops S) (t : Tree S) (n : ℕ) (last : S) : 
   pub in_tree : StandsAt o t.root (o.path last) (Live start)
   pub steps : quiet_run o n start ≡ Some last
 
--- so many steps of its own one after another, and nothing else, make the second tree of the first
+-- n own steps of the process of the path, one after another, and nothing else, make the second tree of the first
 abbrev pub Advances : {S : Type 0} → Ops S → Path → ℕ → Tree S → Tree S → Type 0
 Advances o p n t u = run (after o) (replicate n (Own p)) t ≡ Some u

@@ -43,7 +43,7 @@ start l = record { root = Live l; output = []; histories = map.empty; logs = map
 pub data Event : Type 0 where
   -- a process does a step of its own
   Own : Path → Event
-  -- the processes that share a channel meet
+  -- the live processes that wait at a channel receive the value of its source
   Meet : Channel → Event
   -- a child is poisoned on a channel
   Poison : Path → Channel → Event

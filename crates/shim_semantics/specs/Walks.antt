@@ -46,7 +46,7 @@ own_events p (AtTrap kind line) = Own p ∷ []
 abbrev pub meets_here : {S : Type 0} → Ops S → Node S → Channel → Bool
 meets_here o n c = same_path c.home (o.path (state n)) && ready o c n
 
--- At a fork comes its close, and then the meetings of the channels that the process declared. Where it is ready on a channel, some live process below it stands there.
+-- The events at the node itself. Of a live process they are its own. Of a fork they are its close, if its children are done, and then the meetings of the channels that it declared and is ready on. Where it is ready on a channel, some live process below it stands there.
 abbrev pub here : {S : Type 0} → Ops S → Node S → List Event
 here o (Live l) = own_events (o.path l) (o.stop l)
 here o (Forked l ks) = cond (all_done ks) (Close (o.path l) ∷ []) [] ++ map Meet (in_order (filter (meets_here o (Forked l ks)) (all_waited o ks)))
@@ -61,7 +61,7 @@ poisons_here o l all i k c = ready o c k && is_doomed o (o.handlers l) c i all
 abbrev pub poisons_of : {S : Type 0} → Ops S → S → Nodes S → ℕ → Node S → List Event
 poisons_of o l all i k = map (Poison (o.path (state k))) (in_order (filter (poisons_here o l all i k) (waited o k)))
 
--- then come the children, from the left, each with its poisons first
+-- the events at a node, and then those of its children, from the left, each child with its poisons first
 abbrev mutual
   pub walk : {S : Type 0} → Ops S → Node S → List Event
   walk o (Live l) = here o (Live l)

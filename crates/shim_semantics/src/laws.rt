@@ -10,8 +10,8 @@ pub fn walk_lists_enabled<L: Local>()
     ensures { ListsEnabled L.ops }
 {}
 
-/// A tree of one process whose state is sound and whose channels are all its own is sound, and events
-/// leave sound trees sound, as do runs. So a channel, and the output too, is with one process at most throughout a run.
+/// A tree of one process whose state is sound and whose channels are all its own is sound, and events leave sound
+/// trees sound, as do runs. So a channel, and the output too, is with one process at most throughout a run.
 pub fn holders<L: Local>()
     ensures kept { KeepsSound L.ops }
     ensures runs { RunsStaySound L.ops }

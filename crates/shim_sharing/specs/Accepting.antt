@@ -12,7 +12,7 @@ abbrev pub unless_refused : Option ShareFault → Form → Result Form ShareFaul
 unless_refused None form = Ok form
 unless_refused (Some fault) form = Err fault
 
--- the units of a program that obeys the rule, and of another the first place that is refused
+-- the units of a program that obeys the sharing rule; of any other program the fault at the first place that the rule refuses
 abbrev pub accepted : Resolved → Result Form ShareFault
 accepted p = unless_refused (refusal p) (lifted p)
 
@@ -23,7 +23,7 @@ Gives (Err (TwoWriters line name first second)) meant = meant ≡ Err (TwoWriter
 Gives (Err (Alias line name)) meant = meant ≡ Err (Alias line name)
 Gives (Err NoMemory) meant = Unit {0}
 
--- what holds of the refusal, where the program is refused
+-- If the answer is a fault other than `NoMemory`, the fault has the property P.
 abbrev pub IfRefused : {T : Type 0} → Result T ShareFault → (ShareFault → Type 0) → Type 0
 IfRefused (Ok t) P = Unit {0}
 IfRefused (Err (TwoWriters line name first second)) P = P (TwoWriters line name first second)

@@ -40,7 +40,7 @@ pub record HasTwoWriters (p : Resolved) : Type 0 where
   pub by_one : captures function.slots one slot ≡ Reference
   pub by_other : captures function.slots other slot ≡ Reference
 
--- two of the branches, in their order, and a variable of n that both take by reference
+-- the clash names two of the branches, in ascending order, and a slot below n whose variable both take by reference
 pub record IsClash (n : ℕ) (branches : List Captures) (c : Clash) : Type 0 where
   pub ordered : c.first < c.second
   pub one : Captures
@@ -91,7 +91,7 @@ pub record IsFirstOffence (sorts : List Sort) (places : List SharingPlace) (o : 
   pub refused : ObeysAt sorts place → ⊥
   pub is_offence : IsOffenceOf sorts place o
 
--- all functions before one of these obey the rule, and this is reported of its first place that does not, with the variable by its name
+-- All functions of the list fs before one of them obey the rule. The fault is the first offence of that one, with the variable by its name.
 pub record IsFirstRefusalIn (names : List (List ℕ)) (all fs : List RFunction) (fault : ShareFault) : Type 0 where
   pub before : List RFunction
   pub function : RFunction
@@ -106,7 +106,7 @@ pub record IsFirstRefusalIn (names : List (List ℕ)) (all fs : List RFunction) 
 abbrev pub IsFirstRefusal : Resolved → ShareFault → Type 0
 IsFirstRefusal p = IsFirstRefusalIn p.names p.functions p.functions
 
--- what is answered to some program that has a text
+-- the form is what `accepted` gives for some program that has a text of at most 1,048,576 bytes
 pub record IsAccepted (form : Form) : Type 0 where
   pub resolved : Resolved
   pub of_text : ∥ IsFormOfText resolved ∥₁

@@ -22,7 +22,7 @@ abbrev pub fault_for : List (List ℕ) → RFunction → Option Offence → Opti
 fault_for names f None = None
 fault_for names f (Some offence) = Some (share_fault names f offence)
 
--- of one function
+-- the fault at the first place of the function f that the sharing rule refuses, if any; `all` are the functions of the program
 abbrev pub function_refusal : List (List ℕ) → List RFunction → RFunction → Option ShareFault
 function_refusal names all f = fault_for names f (first_offence f.slots (places_in all f.body))
 
@@ -31,6 +31,6 @@ abbrev pub refusal_in : List (List ℕ) → List RFunction → List RFunction �
 refusal_in names all [] = None
 refusal_in names all (f ∷ fs) = option_or (function_refusal names all f) (refusal_in names all fs)
 
--- the first place of a program that the sharing rule refuses, if any
+-- the fault at the first place of a program that the sharing rule refuses, if any
 abbrev pub refusal : Resolved → Option ShareFault
 refusal p = refusal_in p.names p.functions p.functions

@@ -11,17 +11,17 @@ use Rattle.shim_units.specs.Parts.SharingPlace.{Fork, Called}
 use Rattle.shim_units.specs.Rule.{stands_in}
 use Rattle.shim_units.specs.Captures.{Captures, captures, is_reference}
 
--- `a`, where the answer is `true`
+-- the value `a` if the truth value is `true`, and else none
 abbrev pub if_true : {A : Type 0} → A → Bool → Option A
 if_true a true = Some a
 if_true a false = None
 
--- the least number below n that passes
+-- the least number below n for which p gives `true`, if there is one
 abbrev pub least_below : ℕ → (ℕ → Bool) → Option ℕ
 least_below zero p = None
 least_below (suc n) p = option_or (least_below n p) (if_true n (p n))
 
--- the variable declared first, of n, that both take by reference
+-- the least slot below n whose variable both take by reference, if there is one
 abbrev pub common : ℕ → Captures → Captures → Option ℕ
 common n s t = least_below n (λ x. is_reference (s x) && is_reference (t x))
 
@@ -30,7 +30,7 @@ abbrev pub clash_at : ℕ → ℕ → Option ℕ → Option Clash
 clash_at i j None = None
 clash_at i j (Some x) = Some (record { first = i; second = j; slot = x })
 
--- the first clash of branch `i` with a branch after it, of which the first in the list is `j`
+-- the first clash of branch `i`, which has the captures s, with a branch of the list; the first branch of the list has the number `j`
 abbrev pub clash_with : ℕ → ℕ → Captures → ℕ → List Captures → Option Clash
 clash_with n i s j [] = None
 clash_with n i s j (t ∷ ts) = option_or (clash_at i j (common n s t)) (clash_with n i s (j + 1) ts)
@@ -51,7 +51,7 @@ again false before after x = None
 again true before after None = None
 again true before after (Some x) = if_true x (stands_in x before || stands_in x after)
 
--- the leftmost argument by reference that is another bare argument, too
+-- the variable of the leftmost argument by reference in the second list that is another bare argument, too; the first list has the arguments before these
 abbrev pub given_again : List Given → List Given → Option ℕ
 given_again before [] = None
 given_again before (g ∷ gs) = option_or (again g.lent before gs g.bare) (given_again (before ++ g ∷ []) gs)

@@ -50,7 +50,8 @@ fn find_again(one: Given, before: &[Given], behind: &[Given]) -> Option<u32>
     }
 }
 
-// What a call gives by reference and once more; of several such, the first from the left.
+// The variable that a call gives by reference and as another bare argument. Of several variables it is the
+// one whose argument by reference is leftmost.
 fn find_given_again(given: &[Given]) -> Option<u32>
     ensures { result ≡ given_again [] given.now }
 {

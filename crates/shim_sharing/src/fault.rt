@@ -7,16 +7,17 @@ use shim_base::Name;
 /// Why a program's variables are shared in a way that is refused.
 #[derive(Debug, Drop, PartialEq, Eq)]
 pub enum ShareFault {
-    /// Two branches of a fork take a variable or a stream by reference: the least such pair, counted
-    /// from 0, and of what both take what is declared first. The line is where the fork begins.
+    /// Two branches of a fork take one variable or stream by reference. Of all pairs that do, this pair is
+    /// the least, counted from 0. The name is that of the first declared that both take by reference. The
+    /// line is where the fork begins.
     TwoWriters {
         line: u32,
         name: Name,
         first: u32,
         second: u32,
     },
-    /// What a call gives by reference is another bare argument of it: the leftmost such. The line is
-    /// that of the call or of the branch.
+    /// A call gives a variable or a stream by reference that is another bare argument of the call. Of
+    /// several arguments the leftmost by reference counts. The line is that of the call or of the branch.
     Alias {
         line: u32,
         name: Name,

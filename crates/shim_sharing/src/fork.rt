@@ -13,7 +13,7 @@ use shim_syntax::Sort;
 use shim_units::{Capture, capture_at, is_reference, take_all, uses_in_branch};
 use std::alloc::Global;
 
-// Two branches, and the variable that both take.
+// Two branches, and the slot of the variable that both take by reference.
 #[derive(Clone, Copy, Debug, PartialEq, Eq)]
 pub struct Clash {
     pub first: usize,
@@ -63,7 +63,8 @@ fn find_clash_with(
     }
 }
 
-// The least pair of branches that share a variable.
+// The least pair of branches that take one variable by reference. The first branch of the list has the
+// number `first`.
 fn find_clash(count: usize, first: usize, branches: &[List<Capture>]) -> Option<Clash>
     requires { first + length branches.now < 2 ^ 64 }
     ensures { result ≡ clash_from count first (map captures_of branches.now) }
@@ -110,8 +111,8 @@ fn find_shared(count: usize, branches: &[List<Capture>]) -> Option<usize>
     None
 }
 
-// The least pair of all branches that share a variable. Pairs are compared only where there is one, since
-// that takes the square of the branches.
+// The least pair of all branches that take one variable by reference. Pairs are compared only if there is
+// one, since the comparisons grow with the square of the number of branches.
 #[tactic(auto, using(crate::proofs::Shared::none_shared))]
 fn find_first_clash(count: usize, branches: &[List<Capture>]) -> Option<Clash>
     ensures { result ≡ clash_from count 0 (map captures_of branches.now) }

@@ -32,8 +32,8 @@ pub fn accepted_has_no_two_writers()
     ensures { (p : Resolved) → refusal p ≡ None → HasTwoWriters p → ⊥ }
 {}
 
-/// The two branches that a refusal of a fork reports do share the variable that it reports; no lesser pair of
-/// them shares any, and this pair none that is declared before it.
+/// The two branches that a refusal of a fork reports both take the reported variable by reference. No lesser
+/// pair of branches takes one variable by reference, and this pair takes none that is declared earlier.
 pub fn least_clash_is_reported()
     ensures { (n : ℕ) (branches : List Captures) (c : Clash) → clash_from n 0 branches ≡ Some c → IsClash n branches c × IsLeast n branches c }
 {}
@@ -57,15 +57,15 @@ pub fn first_refusal_is_reported()
     ensures { (p : Resolved) (fault : ShareFault) → refusal p ≡ Some fault → IsFirstRefusal p fault }
 {}
 
-/// What `from_form` of `shim_units` asks for is had by exactly the units that `accept` answers to some
-/// program, so no others are kept.
+/// `from_form` of `shim_units` requires a condition that holds of exactly the units that `accepted` gives
+/// for some program with a text of at most 1,048,576 bytes.
 pub fn kept_is_accepted()
     ensures { (form : Form) → IsAcceptedForm form ↔ ∥ IsAccepted form ∥₁ }
 {}
 
-/// Of a program that has a text of at most 1,048,576 bytes, the units are fewer than 2 ^ 21, and so are
-/// the numbers of all their statements. With the expressions and the arguments of calls, of functions
-/// and of lifted branches, all units together are smaller than 2 ^ 28.
+/// An accepted program with a text of at most 1,048,576 bytes has fewer than 2 ^ 21 units. The statements
+/// of all its units have fewer than 2 ^ 21 numbers. The size of all its units, with the expressions and with
+/// the arguments of calls, of functions and of lifted branches, is below 2 ^ 28.
 pub fn units_are_small()
     ensures { (p : Resolved) (form : Form) → IsFormOfText p → accepted p ≡ Ok form → AreSmall form.units }
 {}

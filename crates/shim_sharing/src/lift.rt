@@ -14,8 +14,8 @@ use shim_units::{
 };
 use std::alloc::Global;
 
-// Statements of a unit. What is lifted out of them goes behind other units, the first of which has the
-// number `next`.
+// Statements of a unit. The units that are lifted out of them go to the end of `units`, whose first unit has
+// the number `next`.
 #[cycle(lift)]
 pub fn lift_body(
     alloc: Global,
@@ -208,7 +208,8 @@ fn lift_branch(
     }
 }
 
-// A block branch as a unit, before what is lifted out of it, and its call.
+// The call of the unit that a block branch becomes. The unit goes to the end of the list, and after it the
+// units that are lifted out of the branch.
 #[cycle(lift)]
 fn lift_block(
     alloc: Global,

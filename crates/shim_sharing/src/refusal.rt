@@ -1,4 +1,4 @@
-// The first fork or call of a program that the sharing rule refuses, with its name.
+// The first fork or call of a program that the sharing rule refuses, with the name of the variable.
 ghost use Rattle.std.specs.Prelude.{◌≡◌, IfOk};
 ghost use Rattle.shim_units.specs.Lifting.{name_of};
 ghost use Rattle.shim_sharing.specs.Numbers.{HasBranchNumbers};
@@ -84,7 +84,8 @@ fn check_function(
     }
 }
 
-// Passes where every fork and call obeys the sharing rule.
+// Passes only if every fork and call obeys the sharing rule. The fault is of the first that doesn't, or is
+// `NoMemory`.
 pub fn check(alloc: Global, names: &[Name], functions: &[RFunction]) -> Result<(), ShareFault>
     requires { FunctionsHaveRoom 0 functions.now }
     ensures { Passes result (refusal_in names.now functions.now functions.now) }

@@ -33,7 +33,7 @@ fn upto(alloc: Global, count: usize) -> Result<List<u32>, NoMemory>
     Ok(made)
 }
 
-// What a function's own unit has, and the `try` statements of its text.
+// The slot map of a function's own unit, and the `try` statements of the function outside block branches.
 #[derive(Drop)]
 struct FunctionSlots {
     slot_map: SlotMap,
@@ -85,8 +85,8 @@ fn close_function(
     )
 }
 
-// A function as a unit. What is lifted out of it goes behind other units, the first of which has the
-// number `base`.
+// A function as a unit. The units that are lifted out of it go to the end of `lifted`, whose first unit has
+// the number `base`.
 fn lift_function(
     alloc: Global,
     names: &[Name],
@@ -152,7 +152,8 @@ fn throws_of(alloc: Global, functions: &[RFunction], number: u32) -> Result<List
     }
 }
 
-// The units of a program, be it one that obeys the sharing rule or not. Its names go over into them.
+// The units of a program, whether it obeys the sharing rule or not. The form takes over the names of the
+// program.
 pub fn lift_program(alloc: Global, resolved: Resolved) -> Result<Form, NoMemory>
     requires { FunctionsHaveRoom (length resolved.functions) resolved.functions }
     ensures { IfOk result (λ form. form ≡ lifted resolved) }

@@ -14,6 +14,6 @@ module _ {T : Type 0} where
   abbrev pub IsSameDeque : OwnDeque T → OwnDeque T → Type 0
   IsSameDeque old new = worker_deque new.deque ≡ worker_deque old.deque
 
-  -- the deque that another lane sees is this lane's own
+  -- `other` leads to the deque `own`
   abbrev pub IsSameAsOwn : OtherDeque T → OwnDeque T → Type 0
   IsSameAsOwn other own = stealer_deque other.deque ≡ worker_deque own.deque

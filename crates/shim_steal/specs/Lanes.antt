@@ -44,19 +44,19 @@ module _ {T : Type 0} where
   abbrev pub HasSameTakes : Lane T → Lane T → Type 0
   HasSameTakes old new = takes_of new ≡ takes_of old
 
-  -- one piece more stands in its list of takes
+  -- the list of takes of `new` is that of `old` with one piece more: of this home, number and value
   abbrev pub HasTakenOne : Lane T → Lane T → ℕ → ℕ → T → Type 0
-  HasTakenOne old new home number value = (before : List (ℕ × (ℕ × T))) × (behind : List (ℕ × (ℕ × T))) × (takes_of old ≡ before ++ behind) × (takes_of new ≡ before ++ (home, (number, value)) ∷ behind)
+  HasTakenOne old new home number value = (before : List (ℕ × (ℕ × T))) × (after : List (ℕ × (ℕ × T))) × (takes_of old ≡ before ++ after) × (takes_of new ≡ before ++ (home, (number, value)) ∷ after)
 
   -- each piece that it pushed stands in its own list of takes
   abbrev pub HasTakenAll : Lane T → Type 0
   HasTakenAll l = (n : ℕ) (x : T) → get_elem? (pushes_of l) n ≡ some x → IsAmong (home_of l, (n, x)) (takes_of l)
 
-  -- they are the same deques
+  -- `old` and `new` lead to the same deques, in the same order
   abbrev pub AreSameDeques : List (OtherDeque T) → List (OtherDeque T) → Type 0
   AreSameDeques old new = map (λ t. stealer_deque t.deque) new ≡ map (λ t. stealer_deque t.deque) old
 
-  -- it has its number, and takes from the same deques
+  -- `old` and `new` have the same number and count of lanes, the same own deque, and ways to the same other deques
   abbrev pub IsSameLane : Lane T → Lane T → Type 0
   IsSameLane old new = (home_of new ≡ home_of old) × (lanes_of new ≡ lanes_of old) × IsSameDeque old.own new.own × AreSameDeques old.others.items new.others.items
 

@@ -13,15 +13,15 @@ use Rattle.shim_steal.specs.Deques.{view_of, IsSameDeque, IsSameAsOwn}
 use Rattle.shim_steal.specs.Lanes.{home_of, pushes_of, takes_of, takes_from, lanes_of}
 
 module _ {T : Type 0} where
-  -- the deque is the one at this place of those
+  -- at this place of `others` there is a way to the deque `own`
   abbrev pub StandsAt : List (OtherDeque T) → ℕ → OwnDeque T → Type 0
   StandsAt others place own = (t : OtherDeque T) × (get_elem? others place ≡ some t) × IsSameAsOwn t own
 
-  -- each lane but the one of this number, from all of which the lane of that number may take
+  -- `others` has, for each lane of `all` but the one of the number `home`, a way to its deque, at the place that `deque_index` gives
   abbrev pub TakesFromAll : ℕ → List (Lane T) → List (OtherDeque T) → Type 0
   TakesFromAll home all others = (j : ℕ) (m : Lane T) → j ≢ home → get_elem? all j ≡ some m → StandsAt others (deque_index home j) m.own
 
-  -- so many lanes, numbered from 0, which have done nothing yet, and of which each may take from all others
+  -- Each lane of `all` has its place in the list as its number, has done nothing yet, and may take from all others. `count` is how many lanes each has.
   abbrev pub AreNewLanes : ℕ → List (Lane T) → Type 0
   AreNewLanes count all = (i : ℕ) (l : Lane T) → get_elem? all i ≡ some l → (home_of l ≡ i) × (lanes_of l ≡ count) × (pushes_of l ≡ []) × (takes_of l ≡ []) × TakesFromAll i all l.others.items
 
@@ -33,7 +33,7 @@ module _ {T : Type 0} where
   abbrev pub IsAsBefore : OwnDeque T → OwnDeque T → Type 0
   IsAsBefore old new = IsSameDeque old new × ((view_of new).pushed ≡ (view_of old).pushed) × ((view_of new).taken ≡ (view_of old).taken)
 
-  -- a new way to that deque
+  -- `t` leads to the deque `own`, and nothing was taken by it yet
   abbrev pub IsNewWayTo : OwnDeque T → OtherDeque T → Type 0
   IsNewWayTo own t = IsSameAsOwn t own × (view {V = View T} t.pass ≡ fresh)
 

@@ -60,8 +60,8 @@ impl<T> Lane<T> {
         self.others.len() as u64 + 1
     }
 
-    /// Pushes a value behind the others, and answers the number of the piece, counted from 0. A refused push
-    /// changes nothing; the first 64 are never refused.
+    /// Pushes a value at the back of its own deque, and answers the number of the piece, counted from 0. A refused
+    /// push changes nothing; the first 64 are never refused.
     pub fn push(&mut self, value: T) -> Result<u64, (NoMemory, T)>
         ensures same { IsSameLane self.old self.new × HasSameTakes self.old self.new }
         ensures pushed { IfOk result (λ number. (number ≡ length (pushes_of self.old)) × (pushes_of self.new ≡ pushes_of self.old ++ value ∷ [])) }

@@ -20,7 +20,8 @@ fn link<T: Drop>(lane: &mut Lane<T>, deque: &mut OwnDeque<T>) -> Result<OtherDeq
     Ok(mine)
 }
 
-// The same with all lanes: each may take from this deque, and who has the answers from theirs.
+// From now on each of the lanes may take from this deque, and who has the answers may take from the deques of the
+// lanes.
 fn link_all<T: Drop>(
     alloc: Global,
     all: &mut Vec<Lane<T>>,

@@ -43,8 +43,8 @@ impl<T> OwnDeque<T> {
         Ok(OwnDeque { next: 0, deque })
     }
 
-    /// Pushes a value behind the others, and answers its number. A refusal hands it back, and doesn't come for
-    /// the first 64.
+    /// Pushes a value at the back, and answers its number. A refusal hands the value back; the first 64 are never
+    /// refused.
     pub(crate) fn push(&mut self, value: T) -> Result<u64, T>
         ensures same { IsSameDeque self.old self.new }
         ensures pushed { IfOk result (λ number. (number ≡ length (view_of self.old).pushed) × (view_of self.new ≡ after_push (view_of self.old) ((number, value) ∷ []))) }

@@ -120,9 +120,9 @@ front_sort Input = front_key kw.Istream
 front_sort Output = front_key kw.Ostream
 
 -- one thing and then another, which both stand behind one terminal
-pub both_behind : {l : ℕ} {v u w : TextCounts} {x : Terminal} {s m r : List Terminal} {ps qs : List PrintedPiece} {R Q : ReadRelation} → IsPart l v u (x ∷ s) m ps R → IsPart l u w (x ∷ m) r qs Q
+pub both_after : {l : ℕ} {v u w : TextCounts} {x : Terminal} {s m r : List Terminal} {ps qs : List PrintedPiece} {R Q : ReadRelation} → IsPart l v u (x ∷ s) m ps R → IsPart l u w (x ∷ m) r qs Q
     → IsPart l v w (x ∷ s) r (ps ++ qs) (Both R Q)
-both_behind {l = l} {v = v} {w = w} {x = x} {s = s} {r = r} {ps = ps} {qs = qs} {R = R} {Q = Q} one two = record {
+both_after {l = l} {v = v} {w = w} {x = x} {s = s} {r = r} {ps = ps} {qs = qs} {R = R} {Q = Q} one two = record {
   deeper = omega (arith, one.deeper, two.deeper);
   within = λ h. two.within (one.within h);
   spelled = spelled;

@@ -17,7 +17,7 @@ use Rattle.shim_syntax.proofs.Standing.{ArePrefix, nothing, piece}
 use Rattle.shim_syntax.proofs.Shapes.{sign_spells}
 use Rattle.shim_syntax.proofs.Expressions.{IsAlike}
 use Rattle.shim_syntax.proofs.StatementShapes.{AreSame, AreSameBranches, branch_without_lines}
-use Rattle.shim_syntax.proofs.Parts.{ReadRelation, IsDone, IsPart, Both, both, both_behind, IsPiece, here, mapped, same_pieces, at_own_level}
+use Rattle.shim_syntax.proofs.Parts.{ReadRelation, IsDone, IsPart, Both, both, both_after, IsPiece, here, mapped, same_pieces, at_own_level}
 
 -- a statement
 abbrev pub One : Stmt → ReadRelation
@@ -164,7 +164,7 @@ same_both xs ys us vs one two =
 
 -- the same where both stand behind one terminal
 pub stmts_more_behind : {l : ℕ} {v u w : TextCounts} {x : Terminal} {s m r : List Terminal} (xs ys : List Stmt) → IsStmtsPart l v u (x ∷ s) m xs → IsStmtsPart l u w (x ∷ m) r ys → IsStmtsPart l v w (x ∷ s) r (xs ++ ys)
-stmts_more_behind xs ys one two = same_pieces (sym (all_of_both xs ys)) (mapped build (both_behind one two)) where
+stmts_more_behind xs ys one two = same_pieces (sym (all_of_both xs ys)) (mapped build (both_after one two)) where
   build : (k : ℕ) (a b : TextCounts) (t q : List Terminal) → Both (Stmts xs) (Stmts ys) k a b t q → Stmts (xs ++ ys) k a b t q
   build k a b t q (_, _, (us, us_same, us_before), (vs, vs_same, vs_before)) = (
     us ++ vs,

@@ -7,7 +7,7 @@ abbrev pub IsNew : List ℕ → Texts → Type 0
 IsNew x [] = Unit {0}
 IsNew x (n ∷ ns) = (n ≢ x) × IsNew x ns
 
--- no name stands in it again
+-- no name stands in the list twice
 abbrev pub AreDistinct : Texts → Type 0
 AreDistinct [] = Unit {0}
 AreDistinct (n ∷ ns) = IsNew n ns × AreDistinct ns

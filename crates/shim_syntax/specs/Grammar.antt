@@ -67,7 +67,7 @@ at_level l w = record w { deepest = max w.deepest l }
 abbrev pub new_body : TextCounts → TextCounts
 new_body w = record w { deepest = 0 }
 
--- behind a body, outside of which the deepest level is d
+-- after a body: the deepest level is that in the body or d, whichever is deeper; d is the deepest level before the body
 abbrev pub behind_body : ℕ → TextCounts → TextCounts
 behind_body d w = record w { deepest = max d w.deepest }
 
@@ -162,7 +162,7 @@ abbrev pub IsWhole : Limits → ℕ → TextCounts → TextCounts → List Termi
 IsWhole c l v w s r x = IsExpr c 10 l (new_expression v) w s r x
 
 mutual
-  -- the arguments of a call behind its left parenthesis, with the right one
+  -- the arguments of a call after its left parenthesis, with the right one
   pub data IsArguments (c : Limits) : ℕ → TextCounts → TextCounts → List Terminal → List Terminal → List Expr → Type 0 where
     no_arguments : {l : ℕ} {v : TextCounts} {p : Place} {r : List Terminal} → IsArguments c l v v (Sign g.RightParen p ∷ r) r []
     arguments : {l : ℕ} {v u w : TextCounts} {s m r : List Terminal} {x : Expr} {xs : List Expr} → c s (Count Arguments) 1 ≡ true → IsWhole c l v u s m x → IsMoreArguments c l 1 u w m r xs
@@ -181,7 +181,7 @@ pub data IsDeclared (c : Limits) : ℕ → TextCounts → TextCounts → List Te
   with_value : {l : ℕ} {v w : TextCounts} {x : List ℕ} {p q : Place} {s r : List Terminal} {value : Expr} → c (Name x p ∷ Sign g.Equal q ∷ s) (Count Locals) (suc v.locals) ≡ true
       → IsWhole c l (with_local v) w s r value → IsDeclared c l v w (Name x p ∷ Sign g.Equal q ∷ s) r x (Some value)
 
--- the declared names behind a type that stands on that line, with the semicolon
+-- the declared names after a type that stands on that line, with the semicolon
 pub data IsDeclarations (c : Limits) : ℕ → Ty → ℕ → TextCounts → TextCounts → List Terminal → List Terminal → List Stmt → Type 0 where
   last_declared : {l line : ℕ} {ty : Ty} {v w : TextCounts} {p : Place} {s r : List Terminal} {x : List ℕ} {value : Option Expr} → IsDeclared c l v w s (Sign g.Semicolon p ∷ r) x value
       → IsDeclarations c l ty line v w s r (record { line = line; what = st.Declare ty x value } ∷ [])
@@ -207,13 +207,13 @@ pub data IsStep (c : Limits) : ℕ → TextCounts → TextCounts → List Termin
   step : {l : ℕ} {v w : TextCounts} {x : List ℕ} {p q o : Place} {s r : List Terminal} {value : Expr} → c (Name x p ∷ Sign g.Equal q ∷ s) Nesting l ≡ true
       → IsWhole c l (at_level l v) w s (Sign g.RightParen o ∷ r) value → IsStep c l v w (Name x p ∷ Sign g.Equal q ∷ s) r (record { line = p.line; what = st.Assign x value } ∷ [])
 
--- What stands behind the exception of a `throw`, with the semicolon. Version 2 alone has a number there.
+-- What follows the exception of a `throw`, with the semicolon. Version 2 alone has a number there.
 pub data IsThrowRest (c : Limits) : ℕ → TextCounts → TextCounts → List Terminal → List Terminal → Option Expr → Type 0 where
   no_number : {l : ℕ} {v : TextCounts} {p : Place} {r : List Terminal} → IsThrowRest c l v v (Sign g.Semicolon p ∷ r) r None
   thrown_number : {l : ℕ} {v w : TextCounts} {p q o : Place} {s r : List Terminal} {x : Expr} → v.two ≡ true → IsWhole c l v w s (Sign g.RightParen q ∷ Sign g.Semicolon o ∷ r) x
       → IsThrowRest c l v w (Sign g.LeftParen p ∷ s) r (Some x)
 
--- What stands behind the exception of a `catch`, with the handler's left brace. Version 2 alone has a variable there, which counts as a declaration.
+-- What follows the exception of a `catch`, with the handler's left brace. Version 2 alone has a variable there, which counts as a declaration.
 pub data IsCatchRest (c : Limits) : TextCounts → TextCounts → List Terminal → List Terminal → Option (List ℕ) → Type 0 where
   no_variable : {v : TextCounts} {p q : Place} {r : List Terminal} → IsCatchRest c v v (Sign g.RightParen p ∷ Sign g.LeftBrace q ∷ r) r None
   catch_variable : {v : TextCounts} {x : List ℕ} {p q o : Place} {r : List Terminal} → v.two ≡ true
@@ -221,7 +221,7 @@ pub data IsCatchRest (c : Limits) : TextCounts → TextCounts → List Terminal 
       → IsCatchRest c v (with_local v) (Name x p ∷ Sign g.RightParen q ∷ Sign g.LeftBrace o ∷ r) r (Some x)
 
 mutual
-  -- a block behind its left brace, with the right one; its statements have the level l
+  -- a block after its left brace, with the right one; its statements have the level l
   pub data IsBlock (c : Limits) : ℕ → TextCounts → TextCounts → List Terminal → List Terminal → List Stmt → Type 0 where
     block_end : {l : ℕ} {v : TextCounts} {p : Place} {r : List Terminal} → IsBlock c l v v (Sign g.RightBrace p ∷ r) r []
     stmt : {l : ℕ} {v u w : TextCounts} {s m r : List Terminal} {xs ys : List Stmt} → c s Nesting l ≡ true → IsStmt c l (at_level l v) u s m xs → IsBlock c l u w m r ys → IsBlock c l v w s r (xs ++ ys)
@@ -269,7 +269,7 @@ mutual
         → IsPlain c l v w (Key k.If p ∷ Sign g.LeftParen q ∷ s) r (record { line = p.line; what = st.If x xs ys } ∷ [])
     while : {l : ℕ} {v u w : TextCounts} {p q o : Place} {s m r : List Terminal} {x : Expr} {xs : List Stmt} → IsWhole c l v u s (Sign g.RightParen o ∷ m) x → IsBody c (suc l) u w m r xs
         → IsPlain c l v w (Key k.While p ∷ Sign g.LeftParen q ∷ s) r (record { line = p.line; what = st.While x xs } ∷ [])
-    -- the first statement and the step are statements inside the `for`; the test is an expression of its own level
+    -- the first statement, the step and the body are one level deeper than the `for`; the test has the level of the `for`
     for_loop : {l : ℕ} {v u t y w : TextCounts} {p q : Place} {s m i j r : List Terminal} {xs ys zs : List Stmt} {x : Option Expr} → IsFirst c (suc l) v u s m xs → IsTest c l u t m i x
         → IsStep c (suc l) t y i j ys → IsBody c (suc l) y w j r zs → IsPlain c l v w (Key k.For p ∷ Sign g.LeftParen q ∷ s) r (record { line = p.line; what = st.For xs x ys zs } ∷ [])
     call : {l : ℕ} {v w : TextCounts} {f : List ℕ} {p q o : Place} {s r : List Terminal} {xs : List Expr} → IsArguments c l v w s (Sign g.Semicolon o ∷ r) xs → is_par (first r) ≡ false
@@ -285,7 +285,7 @@ mutual
     throw : {l : ℕ} {v w : TextCounts} {x : List ℕ} {p q : Place} {s r : List Terminal} {value : Option Expr} → IsThrowRest c l v w s r value
         → IsPlain c l v w (Key k.Throw p ∷ Name x q ∷ s) r (record { line = p.line; what = st.Throw x value } ∷ [])
 
-  -- the branches of a fork of the level l that follow n of them, each behind its `par`
+  -- The branches of a fork of the level l that follow n of them. The first stands after its `par`, and the others have their `par`.
   pub data IsBranches (c : Limits) : ℕ → ℕ → TextCounts → TextCounts → List Terminal → List Terminal → List Branch → Type 0 where
     last_branch : {l n : ℕ} {v w : TextCounts} {s r : List Terminal} {b : Branch} → c s (Count Branches) (suc n) ≡ true → IsBranch c l v w s r b → is_par (first r) ≡ false
         → IsBranches c l n v w s r (b ∷ [])
@@ -305,7 +305,7 @@ pub data IsParam : List Terminal → List Terminal → Param → Type 0 where
   reference : {sort : SortOf} {x : List ℕ} {p q o : Place} {r : List Terminal} → IsParam (Sort sort p ∷ Sign g.Amp q ∷ Name x o ∷ r) r (record { sort = sort; by_ref = true; name = x })
 
 mutual
-  -- the parameters behind the left parenthesis, with the right one
+  -- the parameters after the left parenthesis, with the right one
   pub data IsParams (c : Limits) : List Terminal → List Terminal → List Param → Type 0 where
     no_params : {p : Place} {r : List Terminal} → IsParams c (Sign g.RightParen p ∷ r) r []
     void_params : {p q : Place} {r : List Terminal} → IsParams c (Key k.Void p ∷ Sign g.RightParen q ∷ r) r []
@@ -317,7 +317,7 @@ mutual
     another_param : {n : ℕ} {p : Place} {s m r : List Terminal} {x : Param} {xs : List Param} → c s (Count Parameters) (suc n) ≡ true → IsParam s m x → IsMoreParams c (suc n) m r xs
         → IsMoreParams c n (Sign g.Comma p ∷ s) r (x ∷ xs)
 
--- more names of a `throws`, behind n of them, up to the body's left brace and with it
+-- the names of a `throws` that follow n of them, up to the body's left brace and with it
 pub data IsMoreThrows (c : Limits) : ℕ → List Terminal → List Terminal → List (List ℕ) → Type 0 where
   throws_end : {n : ℕ} {p : Place} {r : List Terminal} → IsMoreThrows c n (Sign g.LeftBrace p ∷ r) r []
   another_throws : {n : ℕ} {x : List ℕ} {p q : Place} {s r : List Terminal} {xs : List (List ℕ)} → c (Name x q ∷ s) (Count Throws) (suc n) ≡ true → IsMoreThrows c (suc n) s r xs
@@ -341,7 +341,7 @@ pub data IsFunctions (c : Limits) : ℕ → TextCounts → List Terminal → Lis
   another_function : {n : ℕ} {v w : TextCounts} {s m r : List Terminal} {f : Function} {fs : List Function} → c s (Count Functions) (suc n) ≡ true → IsFunction c v w s m f
       → IsFunctions c (suc n) w m r fs → IsFunctions c n v s r (f ∷ fs)
 
--- A program, up to the end of the text and with it. Version 2 stands behind a header.
+-- A program, up to the end of the text and with it. A program of version 2 begins with a header.
 pub data IsProgram (c : Limits) : TextCounts → List Terminal → List Terminal → Program → Type 0 where
   version_1 : {v : TextCounts} {s r : List Terminal} {fs : List Function} → IsFunctions c 0 v s r fs → IsProgram c v s r (record { version = 1; functions = fs })
   version_2 : {v : TextCounts} {x y : Terminal} {p : Place} {s r : List Terminal} {fs : List Function} → is_shim x ≡ true → is_two y ≡ true → IsFunctions c 0 (in_version_2 v) s r fs

@@ -4,7 +4,7 @@ use Rattle.shim_syntax.specs.declared.limits.Many.{Many}
 use Rattle.shim_syntax.specs.declared.limits.Many.TheVariants as m
 use Rattle.shim_syntax.specs.Terminals.{Terminal}
 
--- how many of them a source may have
+-- the greatest count of each kind: of functions in a source, of parameters of one function, of arguments of one call, and so on
 abbrev pub most_of : Many → ℕ
 most_of m.Functions = 1024
 most_of m.Parameters = 32
@@ -14,7 +14,7 @@ most_of m.Locals = 64
 most_of m.Branches = 64
 most_of m.Operators = 256
 
--- how deep a thing stands, or the number that it has among things of its kind
+-- what a limit is on: how deep a thing stands, or the number that it has among things of its kind
 pub data Limit : Type 0 where
   Nesting : Limit
   Count : Many → Limit

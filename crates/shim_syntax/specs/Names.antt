@@ -24,7 +24,7 @@ abbrev pub unless_there : Option (List ℕ) → Texts → Texts → Texts
 unless_there None new old = new
 unless_there (Some x) new old = old
 
--- the known names, and behind them this one where it is new
+-- the known names, and after them this one where it is new
 abbrev pub with_name : List ℕ → Adds
 with_name x known = unless_there (find (λ n. bytes_eq n x) known) (known ++ x ∷ []) known
 
@@ -123,6 +123,6 @@ abbrev pub position_else : ℕ → Option ℕ → ℕ
 position_else n None = n
 position_else n (Some at) = at
 
--- where the name stands in the list
+-- the place of the name in the list, and the length of the list where it isn't there
 abbrev pub name_index : Texts → List ℕ → ℕ
 name_index names x = position_else (length names) (position (λ n. bytes_eq n x) names)

@@ -1,4 +1,4 @@
--- The canonical text of a program. It is made of pieces: tokens, behind each of which a line ends or a space stands.
+-- The canonical text of a program. It is made of pieces: tokens, after each of which a line ends or a space stands.
 use Rattle.std.specs.Prelude.{ℕ, ℤ, pos, ◌==◌, List, [], ◌∷◌, ◌++◌, map, flat_map, Option, Some, None, Bool, true, false, if◌then◌else◌, nat_lt, nat_le, codes}
 use Rattle.std.specs.Fmt.{signed_decimal}
 use Rattle.shim_base.specs.declared.token.TokenKind.{TokenKind}
@@ -29,12 +29,12 @@ use Rattle.shim_syntax.specs.declared.tree.Program.{Program}
 pub record PrintedPiece : Type 0 where
   pub kind : TokenKind
   pub text : List ℕ
-  -- whether a line ends behind it
+  -- whether a line ends after the token
   pub ends_line : Bool
   -- whether it is a word that is a type in version 2 alone
   pub is_type : Bool
 
--- a piece, with the line feed or the space behind it
+-- the bytes of a piece, with the line feed or the space after it
 abbrev pub piece_text : PrintedPiece → List ℕ
 piece_text p = p.text ++ (if p.ends_line then 10 else 32) ∷ []
 
@@ -112,7 +112,7 @@ name_piece x = record { kind = Word; text = x; ends_line = false; is_type = fals
 abbrev pub number_piece : ℤ → PrintedPiece
 number_piece n = record { kind = Number n; text = signed_decimal n; ends_line = false; is_type = false }
 
--- a sign behind which a line ends
+-- a sign after which a line ends
 abbrev pub line_end_piece : SignOf → PrintedPiece
 line_end_piece s = record { kind = Sign s; text = sign_text s; ends_line = true; is_type = false }
 
@@ -186,7 +186,7 @@ pub record ExprShown : Type 0 where
   pub row : ℕ
   pub pieces : List PrintedPiece
 
--- in parentheses, where they are needed
+-- the pieces, in parentheses where the truth value is `true`
 abbrev pub wrapped : Bool → List PrintedPiece → List PrintedPiece
 wrapped true ps = sign_piece g.LeftParen ∷ (ps ++ sign_piece g.RightParen ∷ [])
 wrapped false ps = ps
@@ -209,7 +209,7 @@ expr_row e = (expr_shown e).row
 abbrev pub expr_pieces : Expr → List PrintedPiece
 expr_pieces e = (expr_shown e).pieces
 
--- each behind a comma
+-- arguments, each after a comma
 abbrev pub more_args_pieces : List Expr → List PrintedPiece
 more_args_pieces [] = []
 more_args_pieces (e ∷ es) = sign_piece g.Comma ∷ (expr_pieces e ++ more_args_pieces es)
@@ -223,7 +223,7 @@ args_pieces (e ∷ es) = expr_pieces e ++ more_args_pieces es
 abbrev pub call_pieces : Call → List PrintedPiece
 call_pieces c = name_piece c.function ∷ sign_piece g.LeftParen ∷ (args_pieces c.args ++ sign_piece g.RightParen ∷ [])
 
--- a first value, where there is one
+-- `=` and a first value, where there is one
 abbrev pub first_value_pieces : Option Expr → List PrintedPiece
 first_value_pieces None = []
 first_value_pieces (Some e) = sign_piece g.Equal ∷ expr_pieces e
@@ -258,12 +258,12 @@ abbrev pub all_pieces : List StmtShown → List PrintedPiece
 all_pieces [] = []
 all_pieces (s ∷ ss) = s.pieces ++ (end_pieces s.semicolon ++ all_pieces ss)
 
--- what stands in the parentheses of a `for` without a semicolon behind it
+-- the first statement or the step of a `for`, without a semicolon after it
 abbrev pub part_pieces : List StmtShown → List PrintedPiece
 part_pieces [] = []
 part_pieces (s ∷ ss) = s.pieces ++ part_pieces ss
 
--- statements in braces; a line ends after each of the two
+-- statements in braces; a line ends after each brace
 abbrev pub block_pieces : List StmtShown → List PrintedPiece
 block_pieces body = line_end_piece g.LeftBrace ∷ (all_pieces body ++ line_end_piece g.RightBrace ∷ [])
 
@@ -277,7 +277,7 @@ abbrev pub par_pieces : Bool → List PrintedPiece
 par_pieces true = []
 par_pieces false = key_piece k.Par ∷ []
 
--- branches with `par` between them; the first of these may be the first of the fork
+-- branches, each after a `par`; where `first` is `true`, no `par` stands before the first of them
 abbrev pub fork_pieces : Bool → List (List PrintedPiece) → List PrintedPiece
 fork_pieces first [] = []
 fork_pieces first (b ∷ bs) = par_pieces first ++ (b ++ fork_pieces false bs)

@@ -55,7 +55,7 @@ of_kind (SignKind sign) text p = Sign sign p
 abbrev pub of_token : Token → Terminal
 of_token t = of_kind t.kind t.text (record { at = t.at; line = t.line })
 
--- what stands behind the last token
+-- the terminal after the last token: the end of the text, or the fault at which the text can't be cut further
 abbrev pub of_end : Place → Option Fault → Terminal
 of_end end None = End end
 of_end end (Some fault) = Broken fault.kind (record { at = fault.at; line = fault.line })
@@ -92,7 +92,7 @@ terminal_place (Sign sign p) = p
 terminal_place (End p) = p
 terminal_place (Broken kind p) = p
 
--- the first of them; behind the last one there is nothing but the end
+-- the first terminal of the list; where the list is empty, an end at the start of a text
 abbrev pub first : List Terminal → Terminal
 first [] = End start
 first (t ∷ ts) = t

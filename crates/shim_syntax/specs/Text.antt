@@ -14,7 +14,7 @@ pub record IsText (bytes : List ℕ) (program : Program) : Type 0 where
   pub read : IsRead bytes terminals
   pub derives : Derives limits terminals program
 
--- Some terminals that continue these derive a program, in which nothing that begins in these passes a limit. They may continue a text of either version: the first three terminals decide which it is, and none of these is a name that version 2 sees otherwise.
+-- These terminals, continued by some others, derive a program, in which nothing that begins in these passes a limit. The others may continue a text of either version: the first three terminals decide which it is, and none of these is a name that version 2 sees otherwise.
 abbrev pub BeginsProgram : Limits → List Terminal → Type 0
 BeginsProgram c ts = (more : List Terminal) × (program : Program) × Derives (until more c) (ts ++ more) program
 
@@ -27,7 +27,7 @@ pub data FaultCause : Type 0 where
   TooDeep : FaultCause
   TooMany : Many → FaultCause
 
--- Why x can't stand behind these terminals. The causes exclude each other: the text can't be cut there; it can, and they begin no program; they begin one, but none within the limit on nesting; they begin one within it, but none within the limit on that count, too.
+-- Why x can't follow these terminals. The causes exclude each other: the text can't be cut there; it can, and they begin no program; they begin one, but none within the limit on nesting; they begin one within it, but none within the limit on that count, too.
 abbrev pub HasCause : FaultCause → List Terminal → Terminal → Type 0
 HasCause (Lexical kind) before x = x ≡ Broken kind (terminal_place x)
 HasCause Unexpected before x = ((kind : LexKind) (p : Place) → x ≡ Broken kind p → ⊥) × (BeginsProgram no_limits (before ++ x ∷ []) → ⊥)

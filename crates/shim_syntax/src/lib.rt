@@ -1,4 +1,5 @@
-//! The syntax tree of a program, its limits, the grammar that says which tokens derive which tree, and the names and the size of a program.
+//! The syntax tree of a program, its limits, the grammar that says which tokens derive which tree, and the names and
+//! the size of a program.
 #![tactic(auto)]
 
 /// What is proved of the list of names, and of the size.

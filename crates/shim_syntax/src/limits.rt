@@ -11,7 +11,7 @@ pub enum Many {
     Parameters,
     /// Arguments of one call.
     Arguments,
-    /// Names behind one `throws`.
+    /// Names in one `throws`.
     Throws,
     /// Declarations in one function's text.
     Locals,

@@ -14,7 +14,7 @@ use statements::push_block;
 use std::alloc::Global;
 use words::{push_sort, push_word};
 
-/// The canonical text of a program: a space or a line feed behind each token, bodies in braces, and
+/// The canonical text of a program: a space or a line feed after each token, bodies in braces, and
 /// no parentheses but those that are needed. Of a program that has a text it is a text, too: it is
 /// read as the same program but for lines, within the limits.
 pub fn print(alloc: Global, program: &Program) -> Result<List<u8>, NoMemory>

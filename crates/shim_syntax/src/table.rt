@@ -9,9 +9,9 @@ use std::alloc::Global;
 use std::collections::BTreeMap;
 use std::marker::Model;
 
-// Names in the order of their first occurrence, which contracts see as that list. The number of a
-// name is its place there. A map from the bytes of each name to its number finds it: nothing goes
-// through the list, and no choice of names makes the map slow, as it could a table by hashes.
+/// Names in the order of their first occurrence, which contracts see as that list. The number of a
+/// name is its place there. A map from the bytes of each name to its number finds it: nothing goes
+/// through the list, and no choice of names makes the map slow, as it could a table by hashes.
 #[derive(Drop)]
 pub struct NameTable {
     names: Vec<Name>,
@@ -40,7 +40,7 @@ impl NameTable {
         }
     }
 
-    // Puts a name behind the others, where it is new. A refusal leaves the table as it was.
+    // Puts a name after the others, where it is new. A refusal leaves the table as it was.
     #[tactic(auto, using(crate::proofs::TableLemmas::known_stays, crate::proofs::TableLemmas::new_is_last))]
     pub(crate) fn add(&mut self, alloc: Global, name: &Name) -> Result<(), NoMemory>
         ensures ok { OnOk result (self.new ≡ with_name name.now self.old) }
@@ -66,14 +66,14 @@ impl NameTable {
         Ok(())
     }
 
-    // The number of a name, where it is one of these.
+    /// The number of a name, where it is one of these.
     pub fn find(&self, name: &Name) -> Option<usize>
         ensures { result ≡ position (λ n. bytes_eq n name.now) self.now }
     {
         self.numbers.get(name.as_bytes()).copied()
     }
 
-    // The number of a name, which for a new one is the number that it would get.
+    /// The number of a name, which for a new one is the number that it would get.
     pub fn number(&self, name: &Name) -> u32
         requires { length self.now ≤ 4294967295 }
         ensures { result ≡ name_index self.now name.now }
@@ -84,14 +84,14 @@ impl NameTable {
         }
     }
 
-    // The names, in the order of their numbers.
+    /// The names, in the order of their numbers.
     pub fn names(&self) -> &[Name]
         ensures { result.now ≡ self.now }
     {
         self.names.as_slice()
     }
 
-    // The names in the order of their numbers, as a list. The map is let go.
+    /// The names in the order of their numbers, as a list. The map is let go.
     pub fn into_list(self) -> List<Name>
         ensures { result ≡ self }
     {

@@ -48,7 +48,7 @@ pub struct Stmt {
 #[derive(Drop)]
 #[cycle(statements)]
 pub enum What {
-    /// `int x;`, with a first value where one is given. `int x, y;` is two of these, on one line.
+    /// `int x;`, with a first value where one is given. `int x, y;` is two of these, both with the line of the type.
     Declare(Ty, Name, Option<Expr>),
     /// `x = e;`
     Assign(Name, Expr),
@@ -72,10 +72,10 @@ pub enum What {
     Block(List<Stmt>),
     /// `f(a, b);`
     Call(Call),
-    /// `try { .. } catch (T) { .. }`. In version 2 a variable may stand behind the exception, which takes
-    /// its number.
+    /// `try { .. } catch (T) { .. }`. In version 2 a variable may follow the exception, and takes the number that was
+    /// thrown, if one was.
     Try(List<Stmt>, Name, Option<Name>, List<Stmt>),
-    /// `throw T;`. In version 2 a number may stand behind the exception, as in `throw T(e);`.
+    /// `throw T;`. In version 2 a number may follow the exception, as in `throw T(e);`.
     Throw(Name, Option<Expr>),
     /// Two or more branches with `par` between them.
     Par(List<Branch>),

@@ -29,7 +29,7 @@ fn next_chair(board: &Board<u64, Net>, chairs: &mut Vec<Chair<u64, Net>>) -> Opt
     chairs.pop()
 }
 
-// Puts a piece into a slot, where it is EMPTY.
+// Puts a piece into a slot, if that is EMPTY, and tells whether it did.
 fn put(board: &Board<u64, Net>, chair: &mut Chair<u64, Net>, slot: u64, piece: u64) -> bool
     requires chair { HasTurn 1 board.now chair.old }
     requires slot { HasSlot board.now slot }
@@ -222,7 +222,7 @@ fn fill_and_close(
     Ok(Some(closed))
 }
 
-// Whether the piece of this slot is this one, of those that are left, which stand at the place of their slot.
+// Whether the entry of what is left at the place `slot` has this slot and this piece.
 fn is_left(closed: &Closed<u64, Net>, slot: u64, piece: u64) -> bool {
     match closed.left.get(slot as usize) {
         Some(left) => left.0 == slot && left.1 == piece,

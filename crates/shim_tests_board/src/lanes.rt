@@ -11,7 +11,7 @@ use std::sync::atomic::{AtomicU64, Ordering};
 use std::thread;
 use std::thread::Threads;
 
-/// How many pieces may wait before the first worker takes some itself.
+/// How many pieces may be pushed and not yet taken before the first worker pushes no more.
 const MOST_WAITING: u64 = 64;
 
 // The first piece of the own lane, or of the first other one that has any.
@@ -31,7 +31,8 @@ fn take_any<R: Wait>(rt: &R, lane: &mut Lane<u64>) -> Option<Piece<u64>>
     None
 }
 
-// Pushes the next pieces, each with its number as its value, as far as few wait. Answers how many were pushed.
+// Pushes the next pieces, each with its number as its value, until `MOST_WAITING` wait, a push is refused or all are
+// pushed. Answers how many were pushed so far.
 fn push_some(lane: &mut Lane<u64>, pushed: u64, pieces: u64, left: u64, taken: &mut Taken) -> u64 {
     let mut pushed = pushed;
     for _ in 0..MOST_WAITING {
@@ -52,7 +53,7 @@ fn push_some(lane: &mut Lane<u64>, pushed: u64, pieces: u64, left: u64, taken: &
     pushed
 }
 
-// Takes pieces until none is left, and pushes them before where the lane is the first.
+// Takes pieces until none is left. The worker of lane 0 pushes some before it takes each.
 fn worker<R: Wait>(
     rt: &R,
     alloc: Global,
@@ -79,8 +80,8 @@ fn worker<R: Wait>(
     taken
 }
 
-/// Lets so many workers, each on a thread, take so many pieces, which the first one pushes into its lane, and tells
-/// whether each piece was taken once and in the order of the numbers.
+/// Lets so many workers, each on a thread, take so many pieces, which the first one pushes into its lane. Tells
+/// whether each piece was taken once, and by each worker in the order of the numbers.
 pub fn run<R: Threads + Wait + Sync>(
     rt: &R,
     alloc: Global,

@@ -1,6 +1,7 @@
-//! Tests of the board, whose calls are made one by one, and of threads. The program lets workers on threads claim, give
-//! and collect pieces over a board, or push, pop and steal them through lanes; each piece has to come through once. It
-//! takes `board`, `lanes` or `both`, the number of workers and the number of pieces, and tells what came of them.
+//! Tests of the board, whose calls are made one by one, and of threads. The program lets workers on threads claim,
+//! give and collect pieces over a board, or push, pop and steal them through lanes; each piece has to come through
+//! once. It takes `board`, `lanes` or `both`, the number of workers and the number of pieces, and tells what came of
+//! them.
 #![tactic(auto)]
 
 #[cfg(test)]

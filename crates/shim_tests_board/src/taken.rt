@@ -7,7 +7,8 @@ use std::alloc::Global;
 #[derive(Drop)]
 pub struct Taken {
     numbers: Vec<u64>,
-    // whether each piece was of lane 0, with its number as its value, and had a higher number than the one before
+    // whether each piece was of lane 0, with its number as its value, and had a higher number than the one before; no
+    // longer where a push had another number, or memory was refused
     is_right: bool,
 }
 

@@ -16,7 +16,7 @@ const SLOTS: u64 = 16;
 /// How often a worker goes over the slots at most.
 const ROUNDS: u64 = 10_000_000;
 
-// Claims the piece of a slot and gives it back worked, where there is one.
+// Claims the piece of a slot and gives it back worked, if there is one, and tells whether there was.
 fn work(board: &Board<u64, Tally>, chair: &mut Chair<u64, Tally>, slot: u64) -> bool
     requires chair { HasTurn (view_of chair.old).turn board.now chair.old }
     requires slot { HasSlot board.now slot }
@@ -30,7 +30,7 @@ fn work(board: &Board<u64, Tally>, chair: &mut Chair<u64, Tally>, slot: u64) -> 
     true
 }
 
-// Takes what came back in a slot, and puts the next piece into it.
+// Collects what came back in a slot, and puts the next piece into it, if one is left and the slot is EMPTY.
 fn tend(board: &Board<u64, Tally>, chair: &mut Chair<u64, Tally>, slot: u64, tally: &mut Tally)
     requires chair { HasTurn 1 board.now chair.old }
     requires slot { HasSlot board.now slot }
@@ -81,7 +81,8 @@ fn work_all(board: &Board<u64, Tally>, chair: &mut Chair<u64, Tally>) -> bool
     has_worked
 }
 
-// Works, and tends the slots where the turn is free, until all pieces are back.
+// Works, and tends the slots where the turn is free, until it finds all pieces back or went over the slots `ROUNDS`
+// times.
 fn worker(board: &Board<u64, Tally>, mut chair: Chair<u64, Tally>) -> Chair<u64, Tally>
     requires chair { HasTurn 0 board.now chair }
     requires slots { slots_of board.now ≡ 16 }

@@ -70,7 +70,7 @@ fn is_before(chan: &Chan, other: &Chan) -> bool {
     chan < other
 }
 
-// Whether the first channel is each of the others, and whether it stands before that.
+// Expects of each other channel whether the first one is the same, and whether the first stands before it.
 fn expect_compared(rt: &impl Abort, channels: &[Chan], wanted: &[(bool, bool)]) {
     assert!(rt; channels.len() == 1 + wanted.len());
     let Some((first, others)) = channels.split_first() else {

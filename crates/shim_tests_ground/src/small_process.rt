@@ -15,7 +15,7 @@ fn tell(reply: &mut List<u8>, what: &[u8], number: u32) -> Result<(), NoMemory> 
     push_decimal(reply, number as u64)
 }
 
-// Tells at what the process stands, and goes on behind it. A meeting gives 5.
+// Tells at what the process stands, and takes it on from there, where it can go on. A meeting gives 5.
 fn go_on<L: Local>(process: &mut L, reply: &mut List<u8>) -> Result<(), NoMemory> {
     match process.stop() {
         Stop::Quiet => {
@@ -44,8 +44,8 @@ fn go_on<L: Local>(process: &mut L, reply: &mut List<u8>) -> Result<(), NoMemory
     }
 }
 
-// The throw of this label: goes to its handler, where that is the process's own, and tells it, with the
-// number where this isn't 0.
+// The throw of this label: tells that it has no number, or its number if that isn't 0. If the handler is the
+// process's own, tells it and goes to it.
 fn throw<L: Local>(process: &mut L, label: u32, reply: &mut List<u8>) -> Result<(), NoMemory>
     requires { L.ops.stop process.old ≡ AtThrow label }
 {
@@ -74,8 +74,8 @@ fn tell_path(path: &Path, reply: &mut List<u8>) -> Result<(), NoMemory> {
 }
 
 // Tells the pairs of the path and of each child's path, and of each child how many exception places are
-// around it and the channels that it was given. It gives the first child 0 where that stands at a
-// meeting, and goes on behind the fork.
+// around it and the channels that it was given. The first child receives 0 if it stands at a meeting, and
+// the process goes on after the fork.
 fn fork_and_join<L: Local>(process: &mut L, reply: &mut List<u8>) -> Result<(), NoMemory>
     requires { L.ops.stop process.old ≡ AtFork }
 {
@@ -103,7 +103,7 @@ fn tell_given<L: Local>(process: &L, reply: &mut List<u8>) -> Result<(), NoMemor
     Ok(())
 }
 
-// The children stay those of their parent.
+// Gives 0 to the first child if it stands at a meeting. The children stay those of their parent.
 fn meet_first<L: Local>(children: &mut Vec<L>)
     ensures { (parent : L) → L.ops.born parent children.old.items → L.ops.born parent children.new.items }
 {
@@ -165,7 +165,7 @@ fn each_stop_is_gone_through(rt: HostRuntime) -> Result<(), Fail> {
                 6,
                 b" put 0 quiet 2 quiet 1 next 3 put 1 finish",
             ),
-            // Children are told their places and channels.
+            // Of each child its path, its base and its channel are told.
             (
                 &[Step::Fork, Step::Try(6, 30), Step::Fork, Step::Put],
                 4,
@@ -320,7 +320,7 @@ fn child_differs(alloc: Global) -> Result<bool, NoMemory> {
 }
 
 // Whether two roots are told apart that had these steps to do, and went on once.
-fn differ_behind(alloc: Global, a: &[Step], b: &[Step]) -> Result<bool, NoMemory> {
+fn differ_after(alloc: Global, a: &[Step], b: &[Step]) -> Result<bool, NoMemory> {
     let a = behind(alloc, a)?;
     let b = behind(alloc, b)?;
     are_apart(&a, &b)
@@ -335,13 +335,13 @@ fn expect_differ(rt: &impl Abort, alloc: Global, rows: &[(&[Step], u32, u32)]) -
 }
 
 // Expects of roots that had these steps to do, and went on once, that the two differ.
-fn expect_differ_behind(
+fn expect_differ_after(
     rt: &impl Abort,
     alloc: Global,
     rows: &[(&[Step], &[Step])],
 ) -> Result<(), Fail> {
     for row in rows {
-        assert!(rt; differ_behind(alloc, row.0, row.1)?);
+        assert!(rt; differ_after(alloc, row.0, row.1)?);
     }
     Ok(())
 }
@@ -364,7 +364,7 @@ fn states_that_differ_are_told_apart(rt: HostRuntime) -> Result<(), Fail> {
 
 #[test]
 fn what_was_done_tells_states_apart(rt: HostRuntime) -> Result<(), Fail> {
-    expect_differ_behind(
+    expect_differ_after(
         &rt,
         rt.alloc(),
         &[

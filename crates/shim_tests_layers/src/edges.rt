@@ -42,7 +42,7 @@ fn read_of(word: &str) -> Option<(&str, usize)> {
     }
 }
 
-/// What each of these reads gives, in their order.
+/// `reads NAME:MOST..`: what each of these reads gives, in their order.
 pub fn reads(alloc: Global, setup: &Setup, words: &[String]) -> Result<Option<List<u8>>, NoMemory> {
     let mut files = files_of(alloc, setup, &[])?;
     let mut reply = List::new(alloc);
@@ -62,7 +62,7 @@ fn add_taken(reply: &mut List<u8>, sink: &MemSink) -> Result<(), NoMemory> {
     reply.push(b'\n')
 }
 
-// Adds what a write of these bytes gave.
+// Adds what a write of these bytes gave, or `nothing` where there are none: then nothing is written.
 fn add_write(reply: &mut List<u8>, sink: &mut MemSink, bytes: &[u8]) -> Result<(), NoMemory> {
     if bytes.is_empty() {
         return reply.extend_from_slice(b"nothing");
@@ -84,7 +84,7 @@ fn add_whole_write(reply: &mut List<u8>, sink: &mut MemSink, bytes: &[u8]) -> Re
     }
 }
 
-// A sink with so much room, as `ROOM` has it.
+// A sink with the room that this word gives; nothing where it is no number.
 fn sink_of(alloc: Global, setup: &Setup, room: &str) -> Result<Option<MemSink>, NoMemory> {
     match room.parse::<usize>() {
         Ok(room) => Ok(Some(sink_with_room(alloc, setup, room)?)),
@@ -92,8 +92,8 @@ fn sink_of(alloc: Global, setup: &Setup, room: &str) -> Result<Option<MemSink>, 
     }
 }
 
-/// What a write of each of these files gives, one after another, and what the sink has taken then. Behind the words for
-/// a write stand the sink's room and the files.
+/// `writes ROOM FILE..`: what a write of each file gives, one after another, to a sink with this room, and what the
+/// sink has taken after each. A file that isn't there has no bytes.
 pub fn writes(
     alloc: Global,
     setup: &Setup,
@@ -114,7 +114,8 @@ pub fn writes(
     Ok(Some(reply))
 }
 
-/// The same of a file that is written whole.
+/// `writes-all ROOM FILE`: what `write_all` of this file gives, to a sink with this room, and what the sink has taken
+/// then.
 pub fn whole_write(
     alloc: Global,
     setup: &Setup,

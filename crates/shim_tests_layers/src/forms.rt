@@ -50,8 +50,8 @@ fn form_of(alloc: Global, source: &[u8]) -> Result<Resolved, SourceFault>
     Ok(resolve(alloc, &program)?)
 }
 
-/// The names of a source, the number of its `main`, and a line for each resolved function; nothing where it is
-/// refused.
+/// The names of a source, the number of its `main`, and a line for each resolved function; nothing where the source
+/// is too long, or isn't resolved.
 pub fn form_text(alloc: Global, source: &[u8]) -> Result<Option<List<u8>>, NoMemory> {
     if source.len() > MOST_BYTES {
         return Ok(None);
@@ -69,7 +69,8 @@ pub fn form_text(alloc: Global, source: &[u8]) -> Result<Option<List<u8>>, NoMem
     Ok(Some(reply))
 }
 
-// Adds the lines of a unit. Its first one has its title, the number of its function, and how many exceptions it is given.
+// Adds the lines of a unit. Its first one has its title, the number of its function, and how many exceptions it is
+// given.
 fn add_unit(alloc: Global, reply: &mut List<u8>, unit: &Unit) -> Result<(), NoMemory> {
     reply.extend_from_slice(b"unit ")?;
     reply.extend_from_slice(unit.title.as_slice())?;

@@ -1,5 +1,5 @@
-//! What lies below the tool, as words of cases ask for it: processes and their code, nets, lanes and workers, stages of
-//! sources, files and sinks.
+//! What lies below the tool, as words of cases ask for it: processes and their code, nets, lanes and workers, stages
+//! of sources, files and sinks.
 #![tactic(auto)]
 
 mod edges;

@@ -93,8 +93,8 @@ fn told_or_short(
     }
 }
 
-/// `workers STEPS BUDGET {rounds|drive|steal} WORKERS QUANTUM {watched|free} [LOST]`: the end of a net that workers run,
-/// behind a lost piece of so many steps, if any.
+/// `workers STEPS BUDGET {rounds|drive|steal} WORKERS QUANTUM {watched|free} [LOST]`: the end of a net that workers
+/// run. Unless LOST is 0 or absent, a piece of at most LOST steps is given out and lost before.
 pub fn workers_text<R: Threads + Wait + Sync>(
     rt: &R,
     alloc: Global,
@@ -134,8 +134,8 @@ fn nets_asked(alloc: Global, words: &[String]) -> Result<Option<Vec<NetAsked>>, 
     Ok(Some(nets))
 }
 
-/// Which entry a gate holds: `none`, `child`, `child-soon`, `siblings`, `run` or `run-soon`. Where it says `soon` it is let
-/// go by the limit.
+/// The gate that a word names by the entry which it holds: `none`, `child`, `child-soon`, `siblings` (until five other
+/// entries), `run` or `run-soon`. With `soon` the gate holds it for 10,000 looks at most.
 pub fn gate_of(word: &str) -> Option<WatchingGate> {
     match word {
         "none" => Some(WatchingGate::new(Hold::Nobody, false)),
@@ -148,8 +148,8 @@ pub fn gate_of(word: &str) -> Option<WatchingGate> {
     }
 }
 
-/// `batch HOLD WORKERS QUANTUM STEPS/BUDGET..`: the ends of nets that run beside each other, with no gate where HOLD is
-/// `free`.
+/// `batch HOLD WORKERS QUANTUM STEPS/BUDGET..`: the ends of nets that run beside each other, with no gate where HOLD
+/// is `free`.
 pub fn batch_of_nets<R: Threads + Sync>(
     rt: &R,
     alloc: Global,
@@ -176,7 +176,7 @@ pub fn batch_of_nets<R: Threads + Sync>(
     told_or_short(alloc, reply)
 }
 
-/// `lanes COUNT`: whether a lane alone gives so many values in their order.
+/// `lanes COUNT`: whether a lane alone gives so many values, 100,000 at most, in their order.
 pub fn lanes_text(alloc: Global, words: &[String]) -> Result<Option<List<u8>>, NoMemory> {
     match number_of(words, 2) {
         Some(values) => one_lane_text(alloc, values.min(100_000)),

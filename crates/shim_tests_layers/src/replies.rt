@@ -1,4 +1,4 @@
-// What lies below the tool, and what no words of the tool's print: words of their own ask for it.
+// Replies to words that ask for what lies below the tool, or for what the tool itself doesn't print.
 use crate::edges::{reads, whole_write, writes};
 use crate::forms::{form_text, units_text};
 use crate::jobs::job_text;
@@ -9,7 +9,7 @@ use crate::tokens::{row_tokens, tokens};
 use crate::values::{
     across, beside, code, job_of_lines, kind, made, memory, met, places, printed, throws, tree,
 };
-use crate::words::{behind_at, line_of, over_of, word};
+use crate::words::{after_at, line_of, over_of, word};
 use shim_base::{List, NoMemory};
 use shim_generator::{Kind, generate};
 use shim_tests_runs::{Order, events_of, report_of};
@@ -19,7 +19,7 @@ use std::alloc::Global;
 use std::sync::Wait;
 use std::thread::Threads;
 
-// What stands behind the first two words.
+// The words after the first two.
 fn behind(words: &[String]) -> &[String] {
     match words.split_at_checked(2) {
         Some((_, behind)) => behind,
@@ -39,12 +39,13 @@ fn process(alloc: Global, setup: &Setup, words: &[String]) -> Result<Option<List
     line_of(reply_of(alloc, source, input, over, Question::Trace)?)
 }
 
-// `shares {syntax|code} FILE N [INPUT]`: the channels that the process shares behind N quiet steps.
+// `shares {syntax|code} FILE N [INPUT]`: which of the root's first four channels the process shares after at most N
+// quiet steps, and at a fork also each child.
 fn shares(alloc: Global, setup: &Setup, words: &[String]) -> Result<Option<List<u8>>, NoMemory> {
     let Some(over) = over_of(words) else {
         return Ok(None);
     };
-    let Some(behind) = behind_at(setup, words, 3) else {
+    let Some(behind) = after_at(setup, words, 3) else {
         return Ok(None);
     };
     let question = Question::Shares(behind.taken);
@@ -56,16 +57,16 @@ fn same(alloc: Global, setup: &Setup, words: &[String]) -> Result<Option<List<u8
     let Some(over) = over_of(words) else {
         return Ok(None);
     };
-    let Some(one) = behind_at(setup, words, 3) else {
+    let Some(one) = after_at(setup, words, 3) else {
         return Ok(None);
     };
-    let Some(other) = behind_at(setup, words, 6) else {
+    let Some(other) = after_at(setup, words, 6) else {
         return Ok(None);
     };
     line_of(same_of(alloc, &one, &other, over)?)
 }
 
-// `events FILE N`: the events that are enabled behind the first N ones.
+// `events FILE N`: the first event after N first events, and all events that are enabled then.
 fn events(alloc: Global, setup: &Setup, words: &[String]) -> Result<Option<List<u8>>, NoMemory> {
     let Some(source) = content(setup, word(words, 2)) else {
         return Ok(None);
@@ -179,7 +180,7 @@ fn of_work<R: Threads + Wait + Sync>(
     }
 }
 
-// What is asked of stages and of whole trees.
+// What is asked of one process, of whole trees, and of stages.
 fn of_stages(alloc: Global, setup: &Setup, words: &[String]) -> Result<Option<List<u8>>, NoMemory> {
     match word(words, 1) {
         "process" => process(alloc, setup, words),
@@ -198,7 +199,8 @@ fn of_stages(alloc: Global, setup: &Setup, words: &[String]) -> Result<Option<Li
     }
 }
 
-/// The reply to words that ask for what lies below the tool, over these files; none where they ask for nothing there is.
+/// The reply to words that ask for what lies below the tool, over these files; none where there are no such words, or
+/// where what they name is missing or refused.
 pub fn reply_to<R: Threads + Wait + Sync>(
     rt: &R,
     alloc: Global,

@@ -18,7 +18,7 @@ fn change_of(word: &str) -> Option<Change> {
     }
 }
 
-/// The explanation of a source that is blocked.
+/// `explained FILE`: the explanation of a source that is blocked.
 pub fn explained(alloc: Global, source: Option<&[u8]>) -> Result<Option<List<u8>>, NoMemory> {
     match source {
         Some(source) => why_of(alloc, source, Why::Explained),
@@ -26,7 +26,7 @@ pub fn explained(alloc: Global, source: Option<&[u8]>) -> Result<Option<List<u8>
     }
 }
 
-/// Whether that explanation holds with a change of this name.
+/// `holds CHANGE FILE`: whether that explanation holds with a change of this name.
 pub fn holding(
     alloc: Global,
     change: &str,
@@ -41,7 +41,7 @@ pub fn holding(
     }
 }
 
-/// A journal that is read and written again, or its first faulty line.
+/// `journal FILE`: the journal, read and written again, or its first faulty line.
 pub fn journal(alloc: Global, text: Option<&[u8]>) -> Result<Option<List<u8>>, NoMemory> {
     match text {
         Some(text) => journal_of(alloc, text),

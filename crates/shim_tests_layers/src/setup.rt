@@ -47,7 +47,7 @@ fn add_files(
     Ok(())
 }
 
-/// The files of a setup, and these.
+/// The files of a setup, and these further ones. The reads that the setup names fail.
 pub fn files_of(alloc: Global, setup: &Setup, more: &[HeldFile]) -> Result<MemFiles, NoMemory> {
     let mut held = List::new(alloc);
     add_files(alloc, &mut held, setup.files.as_slice())?;
@@ -56,7 +56,7 @@ pub fn files_of(alloc: Global, setup: &Setup, more: &[HeldFile]) -> Result<MemFi
     Ok(MemFiles::new(alloc, held, failing))
 }
 
-/// A sink with so much room, of which the writes that the setup names fail.
+/// A sink with so much room. The writes that the setup names fail, and the others take at most its `most` bytes.
 pub fn sink_with_room(alloc: Global, setup: &Setup, room: usize) -> Result<MemSink, NoMemory> {
     let failing = List::from_slice(alloc, setup.edges.failing_writes.as_slice())?;
     let mut sink = MemSink::new(alloc, setup.edges.most.max(1), failing);

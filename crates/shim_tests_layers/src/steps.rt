@@ -73,7 +73,8 @@ fn push_times(steps: &mut Vec<Step>, step: Step, times: u8) -> Result<(), NoMemo
     Ok(())
 }
 
-/// The steps of a small process, with commas between them; `STEP*N` is the step N times. Nothing where one isn't known.
+/// The steps of a small process, with commas between them; `STEP*N` is the step N times. Nothing where one isn't
+/// known.
 pub fn steps_of(alloc: Global, word: &str) -> Result<Option<Vec<Step>>, NoMemory> {
     let mut steps = Vec::new(alloc);
     for part in word.split(',').filter(|_| !word.is_empty()) {
@@ -96,8 +97,8 @@ fn change_of(word: &str) -> Option<Change> {
     }
 }
 
-// A call of a net: `grant:MOST:SLOT`, `absorb`, `absorb:CHANGE`, `absorb-other:MOST:SLOT`, `lose`, `redo`, `redo-all`,
-// `settle` or `finish`.
+// A call of a net: `grant:MOST:SLOT`, `absorb`, `absorb:CHANGE`, `absorb-other:MOST:SLOT`, `lose`, `redo`,
+// `redo-all`, `settle` or `finish`.
 fn call_of(word: &str) -> Option<Call> {
     let (name, rest) = word.split_once(':').unwrap_or((word, ""));
     match name {

@@ -14,7 +14,7 @@ fn add_number(reply: &mut List<u8>, before: &[u8], number: u64) -> Result<(), No
     push_decimal(reply, number)
 }
 
-// What it is, where it begins and ends, and its line, as in `Word 0-4 on 1, `.
+// Adds a token's kind, where the token begins and ends, and its line, as in `Word 0-4 on 1, `.
 fn add_token(alloc: Global, reply: &mut List<u8>, token: &Token) -> Result<(), NoMemory> {
     let kind = format!(in alloc; "{:?}", token.kind)?;
     reply.extend_from_slice(kind.as_bytes())?;
@@ -24,7 +24,7 @@ fn add_token(alloc: Global, reply: &mut List<u8>, token: &Token) -> Result<(), N
     reply.extend_from_slice(b", ")
 }
 
-// What it is, where it begins, and its line.
+// Adds a fault's kind, where the fault is, and its line.
 fn add_fault(alloc: Global, reply: &mut List<u8>, fault: &LexFault) -> Result<(), NoMemory> {
     let kind = format!(in alloc; "{:?}", fault.kind)?;
     reply.extend_from_slice(kind.as_bytes())?;
@@ -32,7 +32,8 @@ fn add_fault(alloc: Global, reply: &mut List<u8>, fault: &LexFault) -> Result<()
     add_number(reply, b" on ", fault.line as u64)
 }
 
-// Adds the last line, on which the lexer has to answer once more what it answered.
+// Ends the line of a text with `end` or the fault. The lexer has to answer once more what it found; where it doesn't,
+// `not again` stands before that.
 fn add_end(
     alloc: Global,
     reply: &mut List<u8>,
@@ -83,7 +84,8 @@ pub fn tokens(
     Ok(Some(reply))
 }
 
-/// `rows FILE`: that of each line of the file, without its end, as a text of its own.
+/// `rows FILE`: a line with the tokens of each line of the file. Each line, without its line break, is a text of its
+/// own. Gives nothing where the file isn't UTF-8.
 pub fn row_tokens(
     alloc: Global,
     setup: &Setup,

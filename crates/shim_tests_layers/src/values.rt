@@ -1,8 +1,8 @@
-// What a case asks of processes, of their code and of texts of values that were made by hand. Each function has the words
-// that it answers.
+// What a case asks of processes, of their code and of texts of values that were made by hand. Each function has the
+// words that it answers.
 use crate::jobs::job_text;
 use crate::setup::{Setup, content};
-use crate::words::{behind_at, line_of, over_of, word};
+use crate::words::{after_at, line_of, over_of, word};
 use shim_base::{List, NoMemory};
 use shim_parser::parse;
 use shim_syntax::print;
@@ -36,17 +36,17 @@ pub fn across(
     setup: &Setup,
     words: &[String],
 ) -> Result<Option<List<u8>>, NoMemory> {
-    let Some(one) = behind_at(setup, words, 2) else {
+    let Some(one) = after_at(setup, words, 2) else {
         return Ok(None);
     };
-    let Some(other) = behind_at(setup, words, 5) else {
+    let Some(other) = after_at(setup, words, 5) else {
         return Ok(None);
     };
     line_of(same_across(alloc, &one, &other)?)
 }
 
-/// `met {syntax|code} FILE A B`: whether a process and its copy are told apart, once the meeting behind a quiet step gave
-/// A to one and B to the other.
+/// `met {syntax|code} FILE A B`: whether a process and its copy are told apart, once the meeting after a quiet step
+/// gave A to the process and B to the copy.
 pub fn met(alloc: Global, setup: &Setup, words: &[String]) -> Result<Option<List<u8>>, NoMemory> {
     let Some(over) = over_of(words) else {
         return Ok(None);
@@ -94,7 +94,8 @@ pub fn throws(
     }
 }
 
-/// `places FILE`: where the process over code stands behind each step.
+/// `places FILE`: where the process over code stands before its first step and after each, up to a stop that is
+/// neither a quiet step nor a `put`.
 pub fn places(
     alloc: Global,
     setup: &Setup,

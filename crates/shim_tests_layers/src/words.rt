@@ -1,7 +1,7 @@
 // The words of a call, one by one, and what they name.
 use crate::setup::{Setup, content};
 use shim_base::{List, NoMemory};
-use shim_tests_values::{Behind, Over};
+use shim_tests_values::{AfterSteps, Over};
 
 /// The word at this place, counted from 0; the first one is a program's own name.
 pub fn word(words: &[String], at: usize) -> &str {
@@ -11,7 +11,7 @@ pub fn word(words: &[String], at: usize) -> &str {
     }
 }
 
-/// Over what a process is run.
+/// Over what a process is run, by the word at place 2.
 pub fn over_of(words: &[String]) -> Option<Over> {
     match word(words, 2) {
         "syntax" => Some(Over::Syntax),
@@ -32,8 +32,9 @@ pub fn line_of(reply: Option<List<u8>>) -> Result<Option<List<u8>>, NoMemory> {
     }
 }
 
-/// What the words from this place on name: `FILE N INPUT`. A file that isn't there is an empty input.
-pub fn behind_at<'a>(setup: &'a Setup, words: &[String], at: usize) -> Option<Behind<'a>> {
+/// What the words from this place on name: `FILE N INPUT`. An INPUT that isn't there is empty; nothing where FILE
+/// isn't there, or N is no number.
+pub fn after_at<'a>(setup: &'a Setup, words: &[String], at: usize) -> Option<AfterSteps<'a>> {
     let Some(text) = content(setup, word(words, at)) else {
         return None;
     };
@@ -41,5 +42,5 @@ pub fn behind_at<'a>(setup: &'a Setup, words: &[String], at: usize) -> Option<Be
         return None;
     };
     let input = content(setup, word(words, at.saturating_add(2))).unwrap_or(b"".as_slice());
-    Some(Behind { text, input, taken })
+    Some(AfterSteps { text, input, taken })
 }

@@ -25,9 +25,10 @@ pub enum Call {
     Grant(u64, u64),
     /// The last parcel is done and taken in.
     Absorb,
-    /// So it is, but it was changed before.
+    /// The last parcel is changed, done and brought to the net.
     AbsorbChanged(Change),
-    /// A second net of the same root gives out as much with this slot, which is done and brought here.
+    /// A second net of the same root gives out a piece of at most so many steps with this slot, which is done and
+    /// brought to the first net.
     AbsorbOfAnother(u64, u64),
     /// The last parcel is lost.
     Lose,
@@ -220,8 +221,8 @@ fn reply_of<L: Local>(
     Ok(reply)
 }
 
-/// A line for each call of a net of a root with these steps to do and this budget, which is 1 at least, and what can be
-/// seen of the net then.
+/// What each call of a net answers, and what can be seen of the net then. The net has a root with these steps to do
+/// and this budget, which is 1 at least. A call has one line, and `AbsorbOfAnother` two.
 pub fn answers_of(
     alloc: Global,
     left: &[Step],
@@ -239,7 +240,7 @@ fn records_at_end<L: Local>(net: &mut Net<L>) -> Result<usize, NoMemory> {
     Ok(net.records())
 }
 
-/// How many records such a net has where it has come to its end or to the budget.
+/// How many records a net of a root with these steps and this budget has at its end, or where the budget is spent.
 pub fn records_after(alloc: Global, left: &[Step], budget: u16) -> Result<u64, NoMemory> {
     let mut net = start(alloc, left, budget)?;
     Ok(records_at_end(&mut net)? as u64)

@@ -1,4 +1,5 @@
-//! Nets of small processes, for cases: what each call of a net answers, one after another, and what is told in the end.
+//! Nets of small processes, for cases: what each call of a net answers, one after another, and what is told in the
+//! end.
 #![tactic(auto)]
 
 mod calls;

@@ -21,11 +21,11 @@ pub enum Change {
     Doubled,
     /// The first entry is of `main/0.1/0.1`.
     OfOther,
-    /// The first entry has the channel of the process that is waited for.
+    /// The first entry has, in place of its channel, the one at which the process that is waited for waits itself.
     OtherChannel,
 }
 
-// The place of the entry whose process is waited for in the entry of this place.
+// The place of the entry from which the changed entry of this place takes the process that is waited for.
 fn by_place(change: Change, place: usize) -> usize {
     match change {
         Change::ExchangedBy => match place {

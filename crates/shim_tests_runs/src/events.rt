@@ -71,8 +71,8 @@ fn events_after<L: Local>(alloc: Global, root: L, done: u64) -> Result<List<u8>,
     told_events(alloc, &tree)
 }
 
-/// The event that is the first in the tree of a source's `main`, without an input, behind so many first events, and all
-/// that are enabled there; nothing where the source is refused.
+/// The first event in the tree of a source's `main`, without an input, after so many first events, and all that are
+/// enabled then; nothing where the source is refused.
 pub fn events_of(alloc: Global, source: &[u8], done: u8) -> Result<Option<List<u8>>, NoMemory> {
     if source.len() > MOST_BYTES {
         return Ok(None);

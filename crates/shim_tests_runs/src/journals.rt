@@ -11,7 +11,8 @@ fn malformed(alloc: Global, line: u32) -> Result<List<u8>, NoMemory> {
     Ok(reply)
 }
 
-/// The journal that was read from a text, written again, or its first faulty line; nothing for a text of 2^32 bytes.
+/// The journal that was read from a text, written again, or its first faulty line; nothing for a text of 2^32 - 1
+/// bytes or more.
 #[tactic(auto, using(shim_replay::proofs::InRange::feeds_within))]
 pub fn journal_of(alloc: Global, text: &[u8]) -> Result<Option<List<u8>>, NoMemory> {
     if text.len() >= 4294967295 {

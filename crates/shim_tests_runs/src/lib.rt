@@ -1,5 +1,5 @@
-//! Trees of whole programs, as text for tests of them: the events that can happen, by name, runs in other orders, and why
-//! those that are blocked wait; and journals that are read and written again.
+//! Trees of whole programs, as text for tests of them: the events that can happen, by name, runs in other orders, and
+//! why those that are blocked wait; and journals that are read and written again.
 #![tactic(auto)]
 
 mod changes;

@@ -14,7 +14,7 @@ use std::alloc::Global;
 /// A source has at most so many bytes.
 pub const MOST_BYTES: usize = 1_048_576;
 
-/// The units of a text, or nothing where it is refused.
+/// The units of a text, or nothing where it is refused or memory ran out for it.
 pub fn units_of(alloc: Global, text: &[u8]) -> Option<Accepted>
     requires { length text.now ≤ 1048576 }
 {

@@ -83,7 +83,7 @@ fn yes_or_no(alloc: Global, yes: bool) -> Result<List<u8>, NoMemory> {
     List::from_slice(alloc, word.as_bytes())
 }
 
-// What this blocked tree is asked.
+// The answer of this blocked tree to what is asked.
 fn answer<L: Local>(alloc: Global, tree: &Tree<L>, why: Why) -> Result<List<u8>, NoMemory>
     requires rests { IsQuiescent L.ops tree.now }
     requires goes { nodes.goes tree.now.root ≡ true }
@@ -95,8 +95,8 @@ fn answer<L: Local>(alloc: Global, tree: &Tree<L>, why: Why) -> Result<List<u8>,
     }
 }
 
-// What the tree of this one process is asked once at most a thousand events have happened.
-fn answer_behind<L: Local>(alloc: Global, root: L, why: Why) -> Result<List<u8>, NoMemory>
+// The answer of the tree of this one process after at most a thousand first events, or `not blocked`.
+fn answer_after<L: Local>(alloc: Global, root: L, why: Why) -> Result<List<u8>, NoMemory>
     requires own { SharesItsOwn L.ops root }
 {
     let mut tree = Tree::start(alloc, root)?;
@@ -108,8 +108,8 @@ fn answer_behind<L: Local>(alloc: Global, root: L, why: Why) -> Result<List<u8>,
     }
 }
 
-/// Why the run of a source's `main`, without an input, is blocked behind a thousand events at most; nothing where the
-/// source is refused.
+/// What is asked of the tree of a source's `main`, without an input, after a thousand first events at most, or `not
+/// blocked`; nothing where the source is refused.
 pub fn why_of(alloc: Global, source: &[u8], why: Why) -> Result<Option<List<u8>>, NoMemory> {
     if source.len() > MOST_BYTES {
         return Ok(None);
@@ -118,6 +118,6 @@ pub fn why_of(alloc: Global, source: &[u8], why: Why) -> Result<Option<List<u8>>
         return Ok(None);
     };
     let root = walk_of(alloc, Shared::new(alloc, units)?, "")?;
-    let reply = answer_behind(alloc, root, why)?;
+    let reply = answer_after(alloc, root, why)?;
     Ok(Some(reply))
 }

@@ -81,7 +81,7 @@ abbrev pub is_trap : StopView → Bool
 is_trap (AtTrap kind line) = true
 is_trap _ = false
 
--- Whether the process is trapped once the first of these steps is done. Where it is, a put or a fork that is the first step traps.
+-- Whether the process, with the exception places that it has now, would be trapped at the second of these steps. Where it would, a put or a fork that is the first step traps.
 abbrev pub trap_behind : SmallView → List Step → Bool
 trap_behind s [] = false
 trap_behind s (x ∷ left) = is_trap (stop_at s left)
@@ -96,7 +96,7 @@ abbrev pub byte_put : Bool → ℤ → Option ℕ
 byte_put true v = None
 byte_put false v = Some (byte_of v)
 
--- the number of the throw with which these steps begin, or none where its expression traps
+-- the number of the throw with which these steps begin, or none where its expression traps; 0 where they begin with no throw
 abbrev pub number_at : List Step → Option ℤ
 number_at (step.Throw label number ∷ left) = Some (pos number)
 number_at (step.ThrowTrap label ∷ left) = None
@@ -119,7 +119,7 @@ steps_of (branch.Throw label number) = step.Throw label number ∷ []
 steps_of (branch.Outer label number) = step.Three (branch.Throw label number) branch.Nothing branch.Nothing ∷ []
 steps_of branch.Nothing = []
 
--- the branches of the fork with which these steps begin
+-- the branches of the fork with which these steps begin: those of a `Three`, and else two with a `next`
 abbrev pub branches : List Step → List Branch
 branches (step.Three a b c ∷ left) = a ∷ b ∷ c ∷ []
 branches _ = branch.Next ∷ branch.Next ∷ []
@@ -167,11 +167,11 @@ abbrev pub identities : Path → ℕ → ℕ → ℕ → ℕ → List (Path × �
 identities path base fork place zero = []
 identities path base fork place (suc n) = identity path base fork place ∷ identities path base fork (place + 1) n
 
--- the children are those of the last fork
+-- the children have the identities of children of the last fork, from place 0 on; their number and their other fields may be any
 abbrev pub AreOfLastFork : SmallView → List SmallView → Type 0
 AreOfLastFork s children = (fork : ℕ) × (n : ℕ) × (s.forks ≡ fork + 1) × (map identity_of children ≡ identities s.path (in_force s) fork 0 n)
 
--- the value of the first child
+-- the value of the first child, or this value where there is no child
 abbrev pub value_given : ℤ → List SmallView → ℤ
 value_given v [] = v
 value_given v (k ∷ children) = k.value

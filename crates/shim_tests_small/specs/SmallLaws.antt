@@ -1,4 +1,4 @@
--- The small process is a process.
+-- The small process meets the laws of processes.
 use Rattle.std.specs.Prelude.{◌≡◌, ◌<◌, ◌≤◌, ℕ, ℤ, Bool, true, false, ltb, Some, None, List, [], ◌∷◌, ◌++◌, ◌&&◌, map, refl}
 use Rattle.std.proofs.Common.{ap, sym, subst, ◌∙◌, inl, arith, true≢false}
 use Rattle.std.proofs.lemmas.Bool.{and_parts}

@@ -44,7 +44,7 @@ fn stop_word(stop: Stop) -> &'static [u8] {
     }
 }
 
-// Tells the piece's numbers, how many steps were taken, whether memory was wanted, and at what the process
+// Tells the piece's numbers, how many steps were taken, whether memory was refused, and at what the process
 // stood and stands.
 fn tell_finished<L: Local>(reply: &mut List<u8>, finished: &Finished<L>) -> Result<(), NoMemory> {
     tell(reply, b"piece ", finished.slot)?;

@@ -27,8 +27,7 @@ pub enum Branch {
 #[derive(Clone, Copy, Debug, PartialEq, Eq)]
 pub enum Step {
     Quiet,
-    /// A quiet step, behind which one exception place more is in force: the number of the name, and the
-    /// line.
+    /// A quiet step, after which one exception place more is in force: the number of the name, and the line.
     Try(u32, u32),
     Next,
     Put,
@@ -38,12 +37,12 @@ pub enum Step {
     Three(Branch, Branch, Branch),
     /// Throws the exception of this label with this number.
     Throw(u32, u32),
-    /// Throws the exception of this label, where the expression of its number traps.
+    /// A throw of the exception of this label; the expression of its number traps.
     ThrowTrap(u32),
     Trap,
 }
 
-// Where so many exception places are in force, memory is wanted for one more.
+// Where so many exception places are in force, memory is refused for one more.
 const MOST_PLACES: u32 = 4;
 
 /// A process that does the steps it was given, for tests of what runs processes. Each `next` of it is
@@ -163,8 +162,8 @@ impl Small {
         }
     }
 
-    // Whether it would stand trapped behind the next step.
-    fn is_trap_behind(&self) -> bool
+    // Whether it would be trapped at the step after the next, with the exception places that it has now.
+    fn is_trap_after(&self) -> bool
         ensures { result ≡ trap_behind self.now self.now.left }
     {
         match self.left.get(1) {
@@ -176,7 +175,7 @@ impl Small {
         }
     }
 
-    // Goes on behind the next step, if there is one.
+    // Drops the next step, if there is one.
     fn pass(&mut self)
         ensures { self.new ≡ passed self.old }
     {
@@ -185,7 +184,7 @@ impl Small {
         }
     }
 
-    // Does the next step, where that is a quiet one. A refusal changes nothing.
+    // Does the next step as a quiet one; any step but a `Try` is only dropped. A refusal changes nothing.
     fn step_quietly(&mut self) -> Result<(), NoMemory>
         ensures ok { OnOk result (self.new ≡ quieted self.old) }
         ensures err { OnErr result (self.new ≡ self.old) }
@@ -235,7 +234,7 @@ fn same_path(a: &Path, b: &Path) -> bool
     a == b
 }
 
-// Whether all that is a number is the same.
+// Whether the values, the numbers of forks and the bases are the same.
 fn same_numbers(a: &Small, b: &Small) -> bool
     ensures { IsTrue result ↔ ((a.now.value ≡ b.now.value) × (a.now.forks ≡ b.now.forks) × (a.now.base ≡ b.now.base)) }
 {
@@ -301,7 +300,7 @@ impl Local for Small {
     }
 
     fn put(&mut self) -> Option<u8> {
-        let traps = self.is_trap_behind();
+        let traps = self.is_trap_after();
         self.pass();
         if traps {
             return None;
@@ -315,7 +314,7 @@ impl Local for Small {
     }
 
     fn fork(&mut self) -> Result<Forked<Self>, NoMemory> {
-        if self.is_trap_behind() {
+        if self.is_trap_after() {
             self.pass();
             return Ok(Forked::Trapped);
         }

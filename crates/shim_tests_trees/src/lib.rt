@@ -1,4 +1,5 @@
-//! Tests of trees over small processes: what is read off a tree, and quiet steps that happen at once; and ties of small processes.
+//! Tests of trees over small processes: what is read off a tree, and quiet steps that happen at once; and ties of
+//! small processes.
 #![tactic(auto)]
 
 #[cfg(test)]

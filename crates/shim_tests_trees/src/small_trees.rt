@@ -103,8 +103,8 @@ fn tell<L: Local>(reply: &mut List<u8>, tree: &mut Tree<L>, ask: Ask<'_>) -> Res
     }
 }
 
-// What is told of this tree of no events behind so many first ones, or fewer.
-fn told_behind<L: Local>(
+// What is told of this tree, which has had no events, after so many first events or fewer.
+fn told_after<L: Local>(
     alloc: Global,
     tree: &mut Tree<L>,
     most: u8,
@@ -120,7 +120,7 @@ fn told_behind<L: Local>(
 
 fn answer(alloc: Global, left: &[Step], most: u8, ask: Ask<'_>) -> Result<List<u8>, NoMemory> {
     let mut tree = start(alloc, left)?;
-    told_behind(alloc, &mut tree, most, ask)
+    told_after(alloc, &mut tree, most, ask)
 }
 
 // How many events happen at most, what is asked then, and what is told.
@@ -367,7 +367,7 @@ fn end_by(alloc: Global, left: &[Step], way: Way) -> Result<List<u8>, NoMemory> 
     Ok(reply)
 }
 
-// The steps of a root, ways, and what is told behind each of them.
+// The steps of a root, ways, and what is told after each way.
 type Ends<'a> = (&'a [Step], &'a [Way], &'a str);
 
 fn expect_told(

@@ -78,7 +78,7 @@ fn add_quiet_at<L: Local>(reply: &mut List<u8>, tree: &Tree<L>, at: usize) -> Re
     }
 }
 
-// Tells the first two of them.
+// Tells the first two processes that stand before a quiet step.
 pub fn add_quiet<L: Local>(reply: &mut List<u8>, tree: &Tree<L>) -> Result<(), NoMemory> {
     reply.extend_from_slice(b" quiet")?;
     add_quiet_at(reply, tree, 0)?;

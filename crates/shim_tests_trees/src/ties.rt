@@ -19,7 +19,7 @@ impl Tie for Itself {
     ghost kept = { equality_is_kept small_ops };
 }
 
-// Small processes that differ in values that no call tells.
+// Small processes that differ at most in values that no call tells.
 struct Unseen;
 
 impl Tie for Unseen {

@@ -1,5 +1,5 @@
-// Two processes of different kinds that are in the same state, taken to their end beside one another. Behind
-// each call they have to be the same state again.
+// Two processes of different kinds that are in the same state, taken to their end beside one another. After
+// each call they have to be in the same state again.
 ghost use Rattle.std.specs.Prelude.{◌≡◌, ◌↔◌, IsTrue, IfOk, MatchOption, OnOk};
 ghost use Rattle.shim_base.specs.Paths.{NamedChannel};
 ghost use Rattle.shim_local.specs.Process.{AtFork, AtNext, AtPut, AtThrow};
@@ -29,7 +29,7 @@ enum Called {
     Ended,
     // The expression of its throw traps.
     NoNumber,
-    // It died so.
+    // It died this death.
     Dead(Death),
 }
 
@@ -48,7 +48,7 @@ impl Called {
 #[derive(Clone, Copy)]
 pub enum Apart {
     NoMemory,
-    /// What differs between them, or that they come to no end.
+    /// What differs between them, or which limit they passed: that of calls or that of levels of forks.
     By(&'static str),
 }
 
@@ -67,7 +67,7 @@ fn agree<A: HasProcess, B: HasProcess>(one: &A, other: &B) -> Result<(), Apart> 
     }
 }
 
-// Whether one call came to the same of both.
+// An error unless one call came to the same for both.
 fn agree_on(called: Called, wanted: Called) -> Result<(), Apart> {
     if called == wanted {
         Ok(())
@@ -146,7 +146,8 @@ fn throw<L: Local>(process: &mut L, label: u32) -> Called
     }
 }
 
-// Goes to the handler of the exception, where that is the process's own. Else it dies so.
+// Goes to the handler of the exception, where that is the process's own. Else the answer is this death, and the
+// process stays as it is.
 fn unwind<L: Local>(process: &mut L, death: Death) -> Called
     ensures { StaysChild L.ops process.old process.new }
 {
@@ -170,7 +171,7 @@ fn are_sound<L: Local>(children: &[L])
     }
 }
 
-/// Takes both to their end, through at most so many calls and levels of forks.
+/// Takes both to their end. A process makes at most 3,000 calls, and has at most `levels` levels of forks below it.
 ///
 /// Before each call the second is copied, and one of the two, each every other time, does that call ahead:
 /// the other stays as it was, and then does the same.
@@ -301,7 +302,7 @@ fn go_all<A: Local + HasProcess, B: Local + HasProcess>(
     Ok(least)
 }
 
-// Both go on behind the fork, or at the handler of the exception that prevails of their dead children.
+// Both go on after the fork. If a child died, both go to the handler of the prevailing death, or die of it.
 fn come_back<A: Local + HasProcess, B: Local + HasProcess>(
     one: &mut A,
     other: &mut B,

@@ -11,7 +11,8 @@ fn tell_list(list: &[MachineInstr], reply: &mut List<u8>) -> Result<(), NoMemory
     reply.extend_from_slice(text.as_bytes())
 }
 
-/// Tells how many units the program of the code has, which is `main`, and on a line for each the list for the machine.
+/// Tells how many units the program of the code has, which is `main`, and on a line for each the list for the
+/// machine.
 pub fn tell_code(code: &Code, reply: &mut List<u8>) -> Result<(), NoMemory> {
     count(reply, b"units ", code.program().units().len() as u64)?;
     count(reply, b"main ", code.main() as u64)?;
@@ -51,7 +52,7 @@ fn tell_handed(unit: &CodeUnit, reply: &mut List<u8>) -> Result<(), NoMemory> {
     Ok(())
 }
 
-/// Tells that of each unit, behind a word with its number.
+/// Tells what each call and branch of each unit hands on, after the word `unit` and the unit's number.
 pub fn tell_throws(units: &[Unit], reply: &mut List<u8>) -> Result<(), NoMemory> {
     let alloc = reply.allocator();
     for number in 0..units.len() {

@@ -1,5 +1,5 @@
-//! Values that cases of the conformance program ask about: what one process does, over syntax or over compiled code, what
-//! code keeps, and texts of values that were made by hand.
+//! Values that cases of the conformance program ask about: what one process does, over syntax or over compiled code,
+//! what code keeps, and texts of values that were made by hand.
 #![tactic(auto)]
 
 mod beside;
@@ -16,6 +16,6 @@ mod tell;
 mod tracing;
 
 pub use source::{
-    Behind, Over, Question, beside_of, code_of, places_of, reply_of, same_across, same_of,
+    AfterSteps, Over, Question, beside_of, code_of, places_of, reply_of, same_across, same_of,
     throws_of,
 };

@@ -19,7 +19,7 @@ pub enum MadeRun {
     /// Uncaught is an exception that has no name.
     Nameless,
     Trapped,
-    /// With who waits.
+    /// It put one byte, and two processes wait.
     Blocked,
     /// With the steps of two processes.
     Spent,

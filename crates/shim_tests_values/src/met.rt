@@ -1,17 +1,18 @@
-// Whether two states are the same behind a meeting, written down.
+// Whether two states are the same after a meeting, written down.
 use crate::source::told_same;
 use crate::tell::word;
 use shim_base::{List, NoMemory};
 use shim_local::{Local, Stop};
 
-// Gives the process this value at the meeting at which it stands.
+// Gives the process this value if it stands at a meeting.
 fn meet<L: Local>(process: &mut L, value: i64) {
     if let Stop::Next(_) = process.stop() {
         process.receive(value);
     }
 }
 
-/// Tells whether a state and its copy are the same that get these values at the meeting at which it stands.
+/// Gives `value` to the process and `other` to its copy, if it stands at a meeting. Then tells whether the two are
+/// the same.
 pub fn tell_met<L: Local>(
     process: &mut L,
     value: i64,

@@ -10,7 +10,7 @@ fn has_put(list: &[MachineInstr], place: usize) -> bool {
     matches!(list.get(place), Some(MachineInstr::Mark(mark)) if mark.kind == MarkKind::Put)
 }
 
-// Tells the place, and in parentheses each unit in whose code the mark of a `put` stands there.
+// Tells the place, and then, as `mark in N`, each unit N in whose list the mark of a `put` stands there.
 fn tell_place(body: &Body, reply: &mut List<u8>) -> Result<(), NoMemory> {
     let place = body.place();
     count(reply, b"", place as u64)?;
@@ -49,7 +49,8 @@ fn step_body(body: &mut Body, reply: &mut List<u8>) -> Result<bool, NoMemory> {
     step(body, reply)
 }
 
-/// Tells each place at which it stands up to what is neither a quiet step nor a byte, and the steps between them.
+/// Tells each place at which the process stands and the step from there, up to a stop that is neither a quiet step
+/// nor a `put`; after 100 steps it tells `..`.
 pub fn tell_places(body: &mut Body, reply: &mut List<u8>) -> Result<(), NoMemory> {
     for _ in 0..100 {
         tell_place(body, reply)?;

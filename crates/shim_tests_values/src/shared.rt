@@ -17,7 +17,7 @@ fn tell_serials<L: Local>(process: &L, reply: &mut List<u8>) -> Result<(), NoMem
     Ok(())
 }
 
-// Those of each process, each behind a bar.
+// Tells the serials of each of these processes, each time after a bar.
 fn tell_each<L: Local>(processes: &[L], reply: &mut List<u8>) -> Result<(), NoMemory> {
     for process in processes {
         word(reply, b"|")?;
@@ -26,7 +26,7 @@ fn tell_each<L: Local>(processes: &[L], reply: &mut List<u8>) -> Result<(), NoMe
     Ok(())
 }
 
-/// Tells those of a process, and behind a bar those of each child that it makes where it stands.
+/// Tells the serials of a process and, if it stands at a fork, those of each child that it makes, each after a bar.
 pub fn tell_shared<L: Local>(process: &mut L, reply: &mut List<u8>) -> Result<(), NoMemory> {
     tell_serials(process, reply)?;
     if let Stop::Fork = process.stop() {

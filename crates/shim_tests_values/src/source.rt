@@ -19,7 +19,7 @@ use std::alloc::Global;
 // A source has at most so many bytes.
 const MOST_BYTES: usize = 1_048_576;
 
-// The units of a text, or nothing where it is refused.
+// The units of a text, or nothing where it is too long or refused, or memory ran out for it.
 fn units_of(alloc: Global, text: &[u8]) -> Option<Accepted> {
     if text.len() > MOST_BYTES {
         return None;
@@ -44,7 +44,7 @@ fn walk_of(alloc: Global, program: Shared<Accepted>, input: &[u8]) -> Result<Wal
     Walk::main(alloc, program, input)
 }
 
-// The one over the compiled code.
+// The process over compiled code that runs the `main` of a program on this input.
 fn body_of(alloc: Global, program: &Accepted, input: &[u8]) -> Result<Body, NoMemory> {
     let input = Shared::new(alloc, List::from_slice(alloc, input)?)?;
     let code = Shared::new(alloc, compile(alloc, program)?)?;
@@ -64,10 +64,11 @@ pub enum Over {
 pub enum Question {
     /// Its trace, from where it stands.
     Trace,
-    /// The root's channels that it shares behind so many quiet steps, as in `#0 #2`, and where it stands at a fork,
-    /// behind a bar those of each child.
+    /// Which of the root's first four channels it shares after at most so many quiet steps, as in `#0 #2`; where it
+    /// stands at a fork then, also those of each child, after a bar.
     Shares(u64),
-    /// Whether it and a copy are the same, once the meeting behind one quiet step gives these values to them.
+    /// Whether it and a copy are the same, once the meeting after one quiet step gave the first value to it and the
+    /// second to the copy.
     Met(i64, i64),
     /// Whether it runs compiled code.
     Compiled,
@@ -106,7 +107,7 @@ fn reply<L: Local>(
     Ok(reply)
 }
 
-// That of a process over syntax.
+// The reply of a process over syntax.
 fn reply_of_walk(
     alloc: Global,
     walk: Walk,
@@ -116,7 +117,7 @@ fn reply_of_walk(
     reply(alloc, walk, question, names)
 }
 
-// That of a process over compiled code.
+// The reply of a process over compiled code.
 fn reply_of_body(
     alloc: Global,
     body: Body,
@@ -165,9 +166,9 @@ pub fn reply_of(
     Ok(Some(reply))
 }
 
-/// A source whose `main` has this input and took so many quiet steps.
+/// A source whose `main` has this input and is to take at most so many quiet steps.
 #[derive(Drop)]
-pub struct Behind<'a> {
+pub struct AfterSteps<'a> {
     pub text: &'a [u8],
     pub input: &'a [u8],
     pub taken: u64,
@@ -175,8 +176,8 @@ pub struct Behind<'a> {
 
 // ---- whether two are the same
 
-// The process over syntax of a source behind its steps; nothing where the source is refused.
-fn walk_behind(alloc: Global, behind: &Behind) -> Result<Option<Walk>, NoMemory> {
+// The process over syntax of a source after its steps; nothing where the source is refused.
+fn walk_after(alloc: Global, behind: &AfterSteps) -> Result<Option<Walk>, NoMemory> {
     let Some(program) = program_of(alloc, behind.text)? else {
         return Ok(None);
     };
@@ -185,8 +186,8 @@ fn walk_behind(alloc: Global, behind: &Behind) -> Result<Option<Walk>, NoMemory>
     Ok(Some(walk))
 }
 
-// The one over compiled code.
-fn body_behind(alloc: Global, behind: &Behind) -> Result<Option<Body>, NoMemory> {
+// The process over compiled code of a source after its steps; nothing where the source is refused.
+fn body_after(alloc: Global, behind: &AfterSteps) -> Result<Option<Body>, NoMemory> {
     let Some(program) = program_of(alloc, behind.text)? else {
         return Ok(None);
     };
@@ -195,7 +196,7 @@ fn body_behind(alloc: Global, behind: &Behind) -> Result<Option<Body>, NoMemory>
     Ok(Some(body))
 }
 
-/// Whether each of two states tells that the other one is the same.
+/// Whether both of two states tell that the other is the same, only one of them does, or none.
 pub fn told_same<L: Local>(one: &L, other: &L) -> &'static [u8] {
     let there = one.same(other);
     let back = other.same(one);
@@ -208,12 +209,12 @@ pub fn told_same<L: Local>(one: &L, other: &L) -> &'static [u8] {
     }
 }
 
-// That of two processes over syntax.
+// What is told of whether two processes over syntax are the same.
 fn reply_of_walks(one: &Walk, other: &Walk) -> &'static [u8] {
     told_same(one, other)
 }
 
-// That of two processes over compiled code.
+// What is told of whether two processes over compiled code are the same.
 fn reply_of_bodies(one: &Body, other: &Body) -> &'static [u8] {
     told_same(one, other)
 }
@@ -221,9 +222,9 @@ fn reply_of_bodies(one: &Body, other: &Body) -> &'static [u8] {
 fn beside_walk(
     alloc: Global,
     one: &Walk,
-    other: &Behind,
+    other: &AfterSteps,
 ) -> Result<Option<&'static [u8]>, NoMemory> {
-    match walk_behind(alloc, other)? {
+    match walk_after(alloc, other)? {
         None => Ok(None),
         Some(other) => Ok(Some(reply_of_walks(one, &other))),
     }
@@ -232,9 +233,9 @@ fn beside_walk(
 fn beside_body(
     alloc: Global,
     one: &Body,
-    other: &Behind,
+    other: &AfterSteps,
 ) -> Result<Option<&'static [u8]>, NoMemory> {
-    match body_behind(alloc, other)? {
+    match body_after(alloc, other)? {
         None => Ok(None),
         Some(other) => Ok(Some(reply_of_bodies(one, &other))),
     }
@@ -242,10 +243,10 @@ fn beside_body(
 
 fn same_over_syntax(
     alloc: Global,
-    one: &Behind,
-    other: &Behind,
+    one: &AfterSteps,
+    other: &AfterSteps,
 ) -> Result<Option<&'static [u8]>, NoMemory> {
-    match walk_behind(alloc, one)? {
+    match walk_after(alloc, one)? {
         None => Ok(None),
         Some(one) => beside_walk(alloc, &one, other),
     }
@@ -253,10 +254,10 @@ fn same_over_syntax(
 
 fn same_over_code(
     alloc: Global,
-    one: &Behind,
-    other: &Behind,
+    one: &AfterSteps,
+    other: &AfterSteps,
 ) -> Result<Option<&'static [u8]>, NoMemory> {
-    match body_behind(alloc, one)? {
+    match body_after(alloc, one)? {
         None => Ok(None),
         Some(one) => beside_body(alloc, &one, other),
     }
@@ -265,8 +266,8 @@ fn same_over_code(
 /// Whether two processes are told apart or the same; nothing where a source is refused.
 pub fn same_of(
     alloc: Global,
-    one: &Behind,
-    other: &Behind,
+    one: &AfterSteps,
+    other: &AfterSteps,
     over: Over,
 ) -> Result<Option<List<u8>>, NoMemory> {
     let reply = match over {
@@ -279,17 +280,17 @@ pub fn same_of(
     }
 }
 
-/// That of the process over syntax of one source and the one over compiled code of another one; nothing where a source
-/// is refused.
+/// Whether the process over syntax of the first source and the process over compiled code of the second are told
+/// apart or the same; nothing where a source is refused.
 pub fn same_across(
     alloc: Global,
-    one: &Behind,
-    other: &Behind,
+    one: &AfterSteps,
+    other: &AfterSteps,
 ) -> Result<Option<List<u8>>, NoMemory> {
-    let Some(walk) = walk_behind(alloc, one)? else {
+    let Some(walk) = walk_after(alloc, one)? else {
         return Ok(None);
     };
-    match body_behind(alloc, other)? {
+    match body_after(alloc, other)? {
         None => Ok(None),
         Some(body) => Ok(Some(List::from_slice(alloc, told_across(&walk, &body))?)),
     }
@@ -305,7 +306,7 @@ fn told_across(walk: &Walk, body: &Body) -> &'static [u8] {
 
 // ---- both kinds beside one another
 
-// Forks stand at most so deep in one another, and the one that traps beneath them.
+// More levels than forks have: at most 64 forks lead to a process, and a fork below these traps.
 const LEVELS: u32 = 66;
 
 // To what both come.
@@ -315,7 +316,7 @@ fn gone(walk: Walk, body: Body) -> Result<Fate, Apart> {
     go(&mut walk, &mut body, LEVELS)
 }
 
-// Tells it: `ended`, `died of LABEL` and the number that was thrown, or what differs.
+// Tells to what both came: `ended`, `died of LABEL`, with the number that was thrown, if any, or what differs.
 fn tell_gone(gone: Result<Fate, Apart>, reply: &mut List<u8>) -> Result<(), NoMemory> {
     match gone {
         Err(Apart::NoMemory) => Err(NoMemory),
@@ -363,7 +364,8 @@ pub fn code_of(alloc: Global, text: &[u8]) -> Result<Option<List<u8>>, NoMemory>
     }
 }
 
-/// The unit of a text's `main`, and the exceptions that each call and branch hands on; nothing where the text is refused.
+/// The unit of a text's `main`, and the exceptions that each call and branch hands on; nothing where the text is
+/// refused.
 pub fn throws_of(alloc: Global, text: &[u8]) -> Result<Option<List<u8>>, NoMemory> {
     match units_of(alloc, text) {
         None => Ok(None),
@@ -376,8 +378,8 @@ pub fn throws_of(alloc: Global, text: &[u8]) -> Result<Option<List<u8>>, NoMemor
     }
 }
 
-/// Where the process over the code of a text stands behind each of its quiet steps and bytes, up to what is neither;
-/// nothing where the text is refused.
+/// Where the process over the code of a text stands before its first step and after each quiet step and `put`, up to
+/// another stop; nothing where the text is refused.
 pub fn places_of(alloc: Global, text: &[u8]) -> Result<Option<List<u8>>, NoMemory> {
     match program_of(alloc, text)? {
         None => Ok(None),

@@ -21,7 +21,7 @@ pub fn count(reply: &mut List<u8>, text: &[u8], number: u64) -> Result<(), NoMem
     push_decimal(reply, number)
 }
 
-// The number behind this sign, with a `-` where it is below 0.
+// The number after this sign, with a `-` where the number is below 0.
 pub fn value(reply: &mut List<u8>, sign: &[u8], number: i64) -> Result<(), NoMemory> {
     reply.extend_from_slice(sign)?;
     if number < 0 {

@@ -19,12 +19,12 @@ const MET: i64 = 7;
 pub enum Fate {
     Live,
     Ended,
-    /// It died so.
+    /// It died this death.
     Dead(Death),
 }
 
 impl Fate {
-    /// It died of the exception of this label, which gave 0, as a trap does.
+    /// The process died of the exception of this label, with the number 0, as after a trap.
     pub fn died_of(label: u32) -> Fate {
         Fate::Dead(Death {
             label,
@@ -36,8 +36,8 @@ impl Fate {
 /// Takes the process from where it stands to its end, and tells what it does on the way. Of a process
 /// that forks more levels of children than these, or doesn't come to its end in 300 stops, it tells `..`.
 ///
-/// At each stop a copy has to be the same state, and it goes on in place of the process every other
-/// time. Since the process ends, it never comes to one state twice.
+/// At each stop a copy has to be in the same state, or `other` is told. Every other time the copy goes on in place
+/// of the process. If a stop leaves the state as it was, `same` is told.
 #[cycle(trace)]
 pub fn trace<L: Local>(
     process: &mut L,
@@ -65,7 +65,7 @@ pub fn trace<L: Local>(
     Ok(Fate::Ended)
 }
 
-// Another value of the same state, and a word where the two are told apart.
+// A copy of the process, in the same state; tells `other` where the two are told apart.
 fn another<L: Local>(process: &L, reply: &mut List<u8>) -> Result<L, NoMemory>
     ensures { IfOk result (λ other. other ≡ process.now) }
 {
@@ -182,7 +182,8 @@ fn throw<L: Local>(
     }
 }
 
-// Goes to the handler of the exception, where that is the process's own. Else it dies so.
+// Goes to the handler of the exception, where that is the process's own. Else the answer is this death, and the
+// process stays as it is.
 fn unwind<L: Local>(
     process: &mut L,
     death: Death,
@@ -205,7 +206,7 @@ fn unwind<L: Local>(
     }
 }
 
-// Goes on behind a fork, or at the handler of the exception that prevails of its dead children.
+// Goes on after a fork. If a child died, goes to the handler of the prevailing death, or dies of it.
 fn come_back<L: Local>(
     process: &mut L,
     least: Option<Death>,
@@ -286,7 +287,7 @@ fn separate(reply: &mut List<u8>, at: usize) -> Result<(), NoMemory> {
     }
 }
 
-/// The outermost of a death, if there is one, and that of a process behind it, if that is dead.
+/// The outermost of `least` and the death of `fate`; if only one of them is there, that one.
 pub fn outermost(least: Option<Death>, fate: Fate) -> Option<Death> {
     match fate {
         Fate::Dead(death) => match least {

@@ -67,7 +67,7 @@ fn run<L: Local, G: Gate, R: Threads + Sync>(
     tell(alloc, done.as_slice())
 }
 
-// Tells how often a gate was entered, and how often it held a run in vain.
+// Tells how often a gate was entered, how often it held an entry, and how often it did so in vain.
 fn tell_gate(reply: &mut List<u8>, gate: &WatchingGate) -> Result<(), NoMemory> {
     add_number(reply, b"entries ", gate.entries())?;
     add_number(reply, b", held ", gate.holds())?;
@@ -75,8 +75,8 @@ fn tell_gate(reply: &mut List<u8>, gate: &WatchingGate) -> Result<(), NoMemory> 
     reply.push(b'\n')
 }
 
-// The same behind a gate, and what that saw.
-fn run_behind<L: Local, R: Threads + Sync>(
+// What is told of nets that workers ran behind this gate, and what the gate saw.
+fn run_after<L: Local, R: Threads + Sync>(
     rt: &R,
     alloc: Global,
     nets: List<Net<L>>,
@@ -89,8 +89,8 @@ fn run_behind<L: Local, R: Threads + Sync>(
     Ok(reply)
 }
 
-/// A line for each of these nets, at least one and at most 64, which so many workers run in pieces of so many steps at
-/// first: how it stands in the end, and after how many steps. Behind a gate a line tells what that saw.
+/// A line for each of these nets, at least one and at most 64, which so many workers run in pieces of so many steps
+/// at first: how it stands in the end, and after how many steps. Behind a gate a line tells what that saw.
 ///
 /// # Errors
 ///
@@ -105,7 +105,7 @@ pub fn batch_text<R: Threads + Sync>(
 ) -> Result<List<u8>, NoMemory> {
     let nets = nets_of(alloc, asked)?;
     match gate {
-        Some(gate) => run_behind(rt, alloc, nets, workers, quantum, gate),
+        Some(gate) => run_after(rt, alloc, nets, workers, quantum, gate),
         None => run(rt, alloc, nets, workers, quantum, &NoOpGate::new()),
     }
 }

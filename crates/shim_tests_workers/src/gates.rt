@@ -15,9 +15,9 @@ pub enum Hold {
     Nobody,
     /// The first process that isn't a root, until any such process has entered once more.
     UntilChild,
-    /// The first process that isn't a root, until its siblings have entered so many times.
+    /// The first process that isn't a root, until other processes that are no roots have entered so many times.
     UntilSiblings(u64),
-    /// The first of several runs, until there has been an entry of another one.
+    /// The first entry, until there has been another one. Where one worker does each run, that is of another run.
     UntilRun,
 }
 
@@ -31,7 +31,7 @@ impl Hold {
         }
     }
 
-    // How many others have to come.
+    // How many entries have to come before the held one goes on.
     fn wanted(self) -> u64 {
         match self {
             Hold::UntilSiblings(times) => times,
@@ -61,7 +61,7 @@ pub struct WatchingGate {
     entries: AtomicU64,
     children: AtomicU64,
     not_compiled: AtomicU64,
-    // the number of the held process, and 1; 0 before one is held
+    // one more than the number of the held process; 0 before one is held
     held: AtomicU64,
     came: AtomicU64,
     holds: AtomicU64,
@@ -69,7 +69,7 @@ pub struct WatchingGate {
 }
 
 impl WatchingGate {
-    /// A gate that holds so. Where a failure is wanted, it is soon there.
+    /// A gate that holds this entry. With `soon` the held worker looks only `FEW_LOOKS` times before it goes on.
     pub fn new(hold: Hold, soon: bool) -> WatchingGate {
         WatchingGate {
             hold,
@@ -103,7 +103,7 @@ impl WatchingGate {
         get(&self.holds)
     }
 
-    /// How many of them were let go by the limit.
+    /// How many held entries went on by the limit of looks.
     pub fn failures(&self) -> u64 {
         get(&self.failures)
     }

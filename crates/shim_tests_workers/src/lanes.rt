@@ -83,8 +83,8 @@ pub fn two_lanes_text<R: Wait>(rt: &R, alloc: Global) -> Result<Option<List<u8>>
     Ok(Some(reply))
 }
 
-// Whether so many values are pushed and popped in their order, and then no more. The lane grows beyond what it was made
-// to hold. There is no runtime here, so neither call asks for `Wait`.
+// Whether so many values are pushed and popped in their order, and then no more. The lane grows beyond what it was
+// made to hold. There is no runtime here, so neither call asks for `Wait`.
 fn goes_through(lane: &mut Lane<u64>, values: u64) -> bool {
     for value in 0..values {
         if lane.push(value).is_err() {
@@ -100,7 +100,8 @@ fn goes_through(lane: &mut Lane<u64>, values: u64) -> bool {
     lane.pop().is_none()
 }
 
-/// Whether a lane that is alone gives so many values as they were pushed, and what it is told of it.
+/// The home and the count of a lane that is alone, and whether it gives so many values in the order in which they
+/// were pushed.
 pub fn one_lane_text(alloc: Global, values: u64) -> Result<Option<List<u8>>, NoMemory> {
     let mut lanes = lanes(alloc, 1)?.into_vec();
     let Some(mut lane) = lanes.pop() else {

@@ -1,5 +1,5 @@
-//! Nets of small processes that workers run, for cases: one net in rounds, over a board or out of lanes, and several nets
-//! beside each other; gates that watch the workers; and the calls of lanes.
+//! Nets of small processes that workers run, for cases: one net in rounds, over a board or out of lanes, and several
+//! nets beside each other; gates that watch the workers; and the calls of lanes.
 #![tactic(auto)]
 
 mod batches;

@@ -31,7 +31,7 @@ pub struct NetRun<'a> {
     pub workers: u32,
     /// The most steps of a piece at first.
     pub quantum: u64,
-    /// A piece of so many steps is given out and lost before, if any.
+    /// Before, a piece of at most so many steps is given out and lost; none for 0.
     pub lost: u64,
     /// Whether a gate counts the pieces.
     pub is_watched: bool,
@@ -52,7 +52,8 @@ fn outcome_word(outcome: Outcome) -> &'static [u8] {
     }
 }
 
-// How many pieces of work were taken in.
+// How many entries of quiet steps the journal has. Each is of a piece that was taken in, or of steps that the net did
+// itself.
 fn pieces<L: Local>(net: &Net<L>) -> u64 {
     let mut count = 0u64;
     for entry in net.journal() {
@@ -100,7 +101,8 @@ fn tell_gate(reply: &mut List<u8>, gate: &WatchingGate) -> Result<(), NoMemory> 
     add_number(reply, b", compiled ", compiled)
 }
 
-// The net with a piece of so many steps given out and lost, where none of these numbers is out.
+// The net after a piece of at most so many steps was given out with slot 0 and round 0, and lost. Where a grant of
+// these is open, nothing is given out.
 fn with_work_out<L: Local>(net: Net<L>, most: u64) -> Result<Net<L>, NoMemory> {
     let mut net = net;
     if !net.is_out(0, 0) {
@@ -131,7 +133,7 @@ fn tell_end<L: Local, G: Gate, R: Threads + Wait + Sync>(
     Ok(reply)
 }
 
-// The same, and what the gate saw, if one counts.
+// Tells the end of a net that is run, and what the gate saw, if one counts.
 fn tell<L: Local, R: Threads + Wait + Sync>(
     rt: &R,
     alloc: Global,
@@ -147,8 +149,8 @@ fn tell<L: Local, R: Threads + Wait + Sync>(
     Ok(reply)
 }
 
-/// What is told of a net that is run so: how it ended, and how many pieces were taken in; and where a gate counts them,
-/// how often it was entered, how often not by the root, and how often by compiled code.
+/// What is told of a net that is run so: how it ended, and how many pieces were taken in; and where a gate counts
+/// them, how often it was entered, how often not by the root, and how often by compiled code.
 ///
 /// # Errors
 ///

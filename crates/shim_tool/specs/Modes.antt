@@ -74,30 +74,30 @@ first_content [] = []
 first_content (content ∷ rest) = content
 
 -- the contents after the first
-abbrev pub contents_behind : List (List ℕ) → List (List ℕ)
-contents_behind [] = []
-contents_behind (content ∷ rest) = rest
+abbrev pub contents_after : List (List ℕ) → List (List ℕ)
+contents_after [] = []
+contents_after (content ∷ rest) = rest
 
--- the content of a file that is read only where it is named, and what is left of the contents
+-- the content of a file that is read only where it is named: the first of the contents, or empty where it isn't named
 abbrev pub where_named : Option (List ℕ) → List (List ℕ) → List ℕ
 where_named None contents = []
 where_named (Some name) contents = first_content contents
 
--- the contents after those of a file that is read only where it is named
-abbrev pub behind_named : Option (List ℕ) → List (List ℕ) → List (List ℕ)
-behind_named None contents = contents
-behind_named (Some name) contents = contents_behind contents
+-- the contents after that of a file that is read only where it is named; all of them where it isn't named
+abbrev pub after_named : Option (List ℕ) → List (List ℕ) → List (List ℕ)
+after_named None contents = contents
+after_named (Some name) contents = contents_after contents
 
 -- what was read beside a source, from the contents of the files after it
 abbrev pub beside_of : Extra → Job → List (List ℕ) → Beside
 beside_of Nothing job rest = record { input = []; journal = []; inputs = [] }
 beside_of Input job rest = record { input = where_named job.input rest; journal = []; inputs = [] }
-beside_of InputAndJournal job rest = record { input = where_named job.input rest; journal = first_content (behind_named job.input rest); inputs = [] }
+beside_of InputAndJournal job rest = record { input = where_named job.input rest; journal = first_content (after_named job.input rest); inputs = [] }
 beside_of Inputs job rest = record { input = []; journal = []; inputs = rest }
 
 -- what was read beside a source, of the contents of all files of a job
 abbrev pub beside_in : Job → List (List ℕ) → Beside
-beside_in job contents = beside_of (row_of job.mode).beside job (contents_behind contents)
+beside_in job contents = beside_of (row_of job.mode).beside job (contents_after contents)
 
 -- of the contents of a job's files that of its input
 abbrev pub input_in : Job → List (List ℕ) → List ℕ
@@ -111,7 +111,7 @@ journal_in job contents = (beside_in job contents).journal
 abbrev pub inputs_in : Job → List (List ℕ) → List (List ℕ)
 inputs_in job contents = (beside_in job contents).inputs
 
--- the text that is made of a kind; a job that makes its source has one
+-- the text of this kind and size that is generated; empty where there is no kind
 abbrev pub made : Option Kind → ℕ → List ℕ
 made None size = []
 made (Some kind) size = generated kind size
@@ -137,7 +137,7 @@ source_action_of job contents = action_by (row_of job.mode).task job (beside_in 
 abbrev pub execution : Job → List (List ℕ) → Source → Execution
 execution job contents source = executed job (input_in job contents) source
 
--- x is an execution that is done for the job; where the job replays a journal, x has the journal's budget
+-- x is the execution that is done for the job; where the job replays a journal, x has the journal's budget. For a job that runs its source on several inputs this is false.
 abbrev pub IsExecution : Job → List (List ℕ) → Source → Execution → Type 0
 IsExecution job contents source x = IsRunBy (source_action_of job contents) (execution job contents source) x
 

@@ -58,7 +58,7 @@ abbrev pub LeavesToRunEach : Job → List (List ℕ) → List ℕ → Prepared �
 LeavesToRunEach job inputs bytes p =
     OfBytes (λ program source q. q ≡ to_run_each (record { job = job; source = source; inputs = inputs })) (λ fault q. q ≡ answered (refused fault)) bytes p
 
--- bytes that are no source are answered with the line of their first fault
+-- p is prepared from these bytes: from a source as `PreparesProgram` says; other bytes are answered with the line of their first fault
 abbrev pub PreparesSource : Job → Beside → List ℕ → Prepared → Type 0
 PreparesSource job beside bytes p = OfBytes (PreparesProgram job beside) (λ fault q. q ≡ answered (refused fault)) bytes p
 

@@ -68,7 +68,7 @@ pub record IsMissing (held : KnownFiles) (name : List ℕ) : Type 0 where
   pub known : held ≡ Some files
   pub absent : file_of files name ≡ None
 
--- the files are known, and hold these contents, each of which is as short as it has to be
+-- each of these files is known, and holds the content at its place in `contents`, which is within its limit
 abbrev pub HoldsAll : KnownFiles → List FileView → List (List ℕ) → Type 0
 HoldsAll held [] [] = Unit {0}
 HoldsAll held [] (content ∷ contents) = ⊥

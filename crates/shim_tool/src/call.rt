@@ -93,10 +93,9 @@ fn run_tool<F: Files, K: Sink, G: Gate, R: Threads + Wait + Sync>(
 /// prints: a journal is replayed exactly where it is a run of the source, within the journal's own budget,
 /// that ends quiescent or with the budget spent.
 ///
-/// Of runs on several inputs at most as many are done at a time as the arguments ask for workers, each by one
-/// worker; their reports are written in the order of the inputs, each behind the line of its input, and the
-/// status is the greatest that a meaning has. No clause says that the source is compiled once for all of
-/// them.
+/// Of runs on several inputs at most as many are done at a time as the arguments ask for workers, each by one worker;
+/// their reports are written in the order of the inputs, each after the line of its input, and the status is the
+/// greatest that a meaning has. No clause says that the source is compiled once for all of them.
 ///
 /// Answers the status that the program ends with. A failed write, which is 7, may come in place of any status,
 /// out of memory, which is 8, in place of any but 7, and a failed read, which is 6, of any but 2, 7 and 8.
@@ -132,9 +131,9 @@ pub fn shim<F: Files, K: Sink, G: Gate, R: Threads + Wait + Sync>(
     ensures blocked { EndRow 3 IsBlocked (job (texts_of words.now)) (files_at F.held F.sound F.failed files.old)
         (files_at F.held F.sound F.failed files.new) (sink_at K.taken K.faults out.old)
         (sink_at K.taken K.faults out.new) result }
-    // 4: exactly where something can still happen in the meaning after the budget's events. `ref` and
-    // `why` print the meaning itself, and `run` and `gen` a tree that some run of just the budget's events reaches; `trace`
-    // prints the journal of a run to such a tree, and `replay` the tree to which its journal leads.
+    // 4: exactly where something can still happen in the meaning after the budget's events. `ref` and `why` print the
+    // meaning itself, and `run` and `gen` a tree that some run of just the budget's events reaches; `trace` prints
+    // the journal of a run to such a tree, and `replay` the tree to which its journal leads.
     ensures spent { SpentRow (job (texts_of words.now)) (files_at F.held F.sound F.failed files.old)
         (files_at F.held F.sound F.failed files.new) (sink_at K.taken K.faults out.old)
         (sink_at K.taken K.faults out.new) result }
@@ -155,8 +154,8 @@ pub fn shim<F: Files, K: Sink, G: Gate, R: Threads + Wait + Sync>(
     ensures refused { RefusedRow (job (texts_of words.now)) (files_at F.held F.sound F.failed files.old)
         (files_at F.held F.sound F.failed files.new) (sink_at K.taken K.faults out.old)
         (sink_at K.taken K.faults out.new) result }
-    // 6: only where a read of the file, of an input or of the journal failed, or one of them is too long; exactly where
-    // one of them, behind known ones within their limits, is known to be too long or not to be there.
+    // 6: only where a read of the file, of an input or of the journal failed, or one of them is too long; exactly
+    // where one of them, after known ones within their limits, is known to be too long or not to be there.
     ensures file { FileRow (job (texts_of words.now)) (files_at F.held F.sound F.failed files.old)
         (files_at F.held F.sound F.failed files.new) (sink_at K.taken K.faults out.old)
         (sink_at K.taken K.faults out.new) result }

@@ -182,8 +182,8 @@ fn read_all<'a, F: Files>(
     Ok(FilesRead::All(contents))
 }
 
-/// Reads the files of a job in their order, up to the first that can't be had. A read that failed adds
-/// its name to the failed ones; no memory is wanted behind it.
+/// Reads the files of a job in their order, up to the first that can't be had. A read that failed adds its name to
+/// the failed ones; after it this call takes no more memory.
 pub(crate) fn read_files<'a, F: Files>(
     alloc: Global,
     job: &'a Job,
@@ -217,7 +217,7 @@ pub(crate) struct Contents {
 // Takes off the first of the contents; a file that wasn't there to be read is as an empty one.
 fn take_first(alloc: Global, contents: &mut Vec<List<u8>>) -> List<u8>
     ensures first { result ≡ modes.first_content contents.old.items }
-    ensures rest { contents.new.items ≡ modes.contents_behind contents.old.items }
+    ensures rest { contents.new.items ≡ modes.contents_after contents.old.items }
 {
     if contents.is_empty() {
         return List::new(alloc);
@@ -228,7 +228,7 @@ fn take_first(alloc: Global, contents: &mut Vec<List<u8>>) -> List<u8>
 // Takes off the content of a job's input, where one is named.
 fn take_input(alloc: Global, job: &Job, contents: &mut Vec<List<u8>>) -> List<u8>
     ensures first { result ≡ modes.where_named job.now.input contents.old.items }
-    ensures rest { contents.new.items ≡ modes.behind_named job.now.input contents.old.items }
+    ensures rest { contents.new.items ≡ modes.after_named job.now.input contents.old.items }
 {
     match job.input {
         Some(_) => take_first(alloc, contents),
@@ -236,7 +236,7 @@ fn take_input(alloc: Global, job: &Job, contents: &mut Vec<List<u8>>) -> List<u8
     }
 }
 
-// What was read beside a source, from the contents of the files behind it.
+// What was read beside a source, from the contents of the files after it.
 fn beside_of(alloc: Global, beside: Extra, job: &Job, mut contents: Vec<List<u8>>) -> Beside
     ensures { beside_view result ≡ modes.beside_of beside job.now contents.items }
 {

@@ -8,7 +8,7 @@ use Rattle.shim_semantics.specs.Nodes as model
 use Rattle.shim_semantics.specs.Nodes.{state}
 use Rattle.shim_semantics.specs.Poison.{dooms, any_dooms, is_doomed, is_ready_child, poisoned, all_poisoned, one_poisoned, can_poison, poison_node, above, before_rest, after_one, poison_route}
 use Rattle.shim_tree.specs.Poisoning.{poison_by, poison_among}
-use Rattle.shim_semantics.specs.Places.{behind_front, branches, option_branches, route, led_to, has_path}
+use Rattle.shim_semantics.specs.Places.{after_front, branches, option_branches, route, led_to, has_path}
 use Rattle.shim_semantics.specs.Trees.{poisons}
 use Rattle.shim_tree.specs.NodeStatus.{node, nodes, together}
 use Rattle.shim_tree.specs.declared.node_status.NodeStatus.{NodeStatus}
@@ -141,12 +141,12 @@ module _ {S : Type 0} (o : Ops S) (c : Channel) where
   fork_poisoned l b ls ls' bs bs' i x p q e f h = fork_leads l b ls bs i x p q e f ∙ (ap (above l) h ∙ ap Some (sym (node_forked l ls' bs')))
 
 -- what is behind a front of a path
-front_rest : (r p q : Path) → behind_front r p ≡ Some q → (length r ≤ length p) × (q ≡ drop (length r) p)
+front_rest : (r p q : Path) → after_front r p ≡ Some q → (length r ≤ length p) × (q ≡ drop (length r) p)
 front_rest [] p q e = (omega arith, some_same q p (sym e))
 front_rest (x ∷ r) [] q e = absurd cc
 front_rest (x ∷ r) (y ∷ p) q e = rest (same_pair x y) (λ f. front_rest r p q f) e
   where
-    rest : (b : Bool) → (behind_front r p ≡ Some q → (length r ≤ length p) × (q ≡ drop (length r) p)) → cond b (behind_front r p) None ≡ Some q → (length (x ∷ r) ≤ length (y ∷ p)) × (q ≡ drop (length r) p)
+    rest : (b : Bool) → (after_front r p ≡ Some q → (length r ≤ length p) × (q ≡ drop (length r) p)) → cond b (after_front r p) None ≡ Some q → (length (x ∷ r) ≤ length (y ∷ p)) × (q ≡ drop (length r) p)
     rest true g f = let w = g f in let h = w.0 in (omega (arith, h), w.1)
     rest false g f = absurd cc
 
@@ -163,7 +163,7 @@ pub leads : {S : Type 0} (o : Ops S) (c : Channel) (r p : Path) (n : model.Node 
 leads o c r p n e h =
     let w = cond_there (has_path o p (led_to o n p)) (poison_route o c n (route (o.path (state n)) p)) h in
     let v : poisons o p c n ≡ poison_route o c n (route r p) = w.1 ∙ ap (λ z. poison_route o c n (route z p)) (sym e) in
-    let q = front_there o c n (behind_front r p) (λ z. h (v ∙ z)) in
+    let q = front_there o c n (after_front r p) (λ z. h (v ∙ z)) in
     let f = front_rest r p q.0 q.1 in
     record { within = f.0; is = v ∙ (ap (λ z. poison_route o c n (option_branches z)) q.1 ∙ ap (λ z. poison_route o c n (Some (branches z))) f.1) }
 

@@ -5,7 +5,7 @@ use Rattle.std.specs.declared.vec.Vec.{Vec}
 use Rattle.std.specs.declared.alloc.Global.{Global}
 use Rattle.shim_base.specs.Paths.{Path, same_pair}
 use Rattle.shim_semantics.specs.Nodes as model
-use Rattle.shim_semantics.specs.Places.{branches, option_branches, behind_front, route}
+use Rattle.shim_semantics.specs.Places.{branches, option_branches, after_front, route}
 use Rattle.shim_tree.specs.NodeStatus.{node, nodes, together}
 use Rattle.shim_semantics.specs.Advancing.{with_state_at, with_state_in}
 use Rattle.shim_tree.specs.declared.node_status.NodeStatus.{NodeStatus}
@@ -20,7 +20,7 @@ route_left [] p q e = some_same q (branches p) (sym e)
 route_left (x ∷ r) [] q e = absurd cc
 route_left (x ∷ r) (y ∷ p) q e = rest (same_pair x y) (λ f. route_left r p q f) e
   where
-    rest : (b : Bool) → (route r p ≡ Some q → q ≡ branches (drop (length r) p)) → option_branches (cond b (behind_front r p) None) ≡ Some q → q ≡ branches (drop (length r) p)
+    rest : (b : Bool) → (route r p ≡ Some q → q ≡ branches (drop (length r) p)) → option_branches (cond b (after_front r p) None) ≡ Some q → q ≡ branches (drop (length r) p)
     rest true f e = f e
     rest false f e = absurd cc
 

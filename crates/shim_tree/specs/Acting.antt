@@ -23,7 +23,7 @@ ActsAtNode o before effects after = act_here o before ≡ Some (record { node = 
 abbrev pub ActsAt : {S : Type 0} → Ops S → List ℕ → Node S → Effects → Node S → Type 0
 ActsAt o q before effects after = act o q before ≡ Some (record { node = after; effects = effects })
 
--- the process to which the branch i and then these lead, from the list of the children of which the one in place i comes first, does its one thing
+-- of these children: the process to which the branch i and then the branches q lead does its one thing
 abbrev pub ActsAmong : {S : Type 0} → Ops S → ℕ → List ℕ → Nodes S → Effects → Nodes S → Type 0
 ActsAmong o i q before effects after = act_child o i q before ≡ Some (after, effects)
 

@@ -42,7 +42,7 @@ can_poison_at o c i (Dead l d) = false
 abbrev pub can_poison_below : {S : Type 0} → Ops S → Channel → ℕ → List ℕ → Node S → Bool
 can_poison_below o c i q n = passes_there (can_poison_at o c (last_branch i q)) (at (to_fork i q) n)
 
--- the same of the child to which the branches lead, if there are branches; the root is no child
+-- whether the child to which the branches lead, if there are branches, is ready on the channel and doomed on it; the root is no child
 abbrev pub can_poison_by : {S : Type 0} → Ops S → Channel → Node S → Option (List ℕ) → Bool
 can_poison_by o c root None = false
 can_poison_by o c root (Some []) = false

@@ -1,4 +1,4 @@
--- A channel's value and name as the code asks for them, and a meeting that has come so far.
+-- A channel's value as the code asks for it, and what a meeting leaves of the children from a place on.
 use Rattle.std.specs.Prelude.{ℕ, ℤ, zero, suc, Option, Some, None, cond}
 use Rattle.shim_base.specs.Paths.{Channel}
 use Rattle.shim_local.specs.Process.{Ops}
@@ -13,7 +13,7 @@ valued o c (Some l) = Some (o.value l c)
 abbrev pub value_carried : {S : Type 0} → Ops S → Channel → S → Option ℤ
 value_carried o c l = cond (o.carries l c) (Some (o.value l c)) None
 
--- the children from a place on receive the value
+-- each live process that stands at the channel, at and below the children from a place on, receives the value
 abbrev pub received_from : {S : Type 0} → Ops S → Channel → ℤ → ℕ → model.Nodes S → model.Nodes S
 received_from o c v zero ks = model.all_received o c v ks
 received_from o c v (suc i) model.no_node = model.no_node

@@ -16,7 +16,7 @@ pub record DoesOwnStep {S : Type 0} (o : Ops S) (p : Path) (before after : Node 
   pub puts : put' ≡ put ++ effects.bytes
   pub logs_more : logs' ≡ with_logs logs p effects.logs
 
--- nothing of that has changed
+-- the node, the bytes that were put and the logs are as before
 pub record ChangesNothing {S : Type 0} (before after : Node S) (put put' : List ℕ) (logs logs' : finite.FinMap path_order (List LogWhat)) : Type 0 where
   pub node : after ≡ before
   pub puts : put' ≡ put

@@ -10,6 +10,6 @@ use Rattle.shim_semantics.specs.Places.{branches}
 abbrev pub poison_by : {S : Type 0} → Ops S → Channel → ℕ → Path → Node S → Option (Node S)
 poison_by o c i pairs n = poison o c (last_branch i (branches pairs)) (to_fork i (branches pairs)) n
 
--- the child to which the branch b and then those of the pairs lead, from the list of the children of which the one in place b comes first, is poisoned
+-- of the children ks: the child to which the branch b, then the branch i, and then those of the pairs lead is poisoned
 abbrev pub poison_among : {S : Type 0} → Ops S → Channel → ℕ → ℕ → Path → Nodes S → Option (Nodes S)
 poison_among o c b i pairs ks = poison_child o c (last_branch i (branches pairs)) b (to_fork i (branches pairs)) ks

@@ -33,6 +33,6 @@ abbrev pub QuietStepsOn : {S : Type 0} → Ops S → Path → ℕ → Tree S →
 QuietStepsOn o p n before after true = quiet_steps o p n before ≡ Some after
 QuietStepsOn o p n before after false = quiet_steps o p n before ≡ None
 
--- at most so many of them, and nothing else, make the second tree of the first
+-- at most n quiet steps of the process of the path, and nothing else, make the second tree of the first
 abbrev pub DoesSome : {S : Type 0} → Ops S → Path → ℕ → Tree S → Tree S → Type 0
 DoesSome o p n before after = (k : ℕ) × (k ≤ n) × (quiet_steps o p k before ≡ Some after)

@@ -15,21 +15,21 @@ pub data NodeView (S : Type 0) : Type 0 where
   ViewEnded : S → NodeView S
   ViewDead : S → Death → NodeView S
 
--- the fork's number in a pair of a path
+-- the fork's number in a pair of a path; 0 where there is no pair
 abbrev pub fork_in : Option (ℕ × ℕ) → ℕ
 fork_in None = 0
 fork_in (Some x) = x.0
 
--- the number of the fork of which the process of the path is a child
+-- the number of the fork of which the process of the path is a child; 0 for the empty path
 abbrev pub last_fork : Path → ℕ
 last_fork p = fork_in (slice_get p (length p - 1))
 
--- the number of the fork of which these are the children
+-- the number of the fork of which these are the children; 0 where there are none
 abbrev pub fork_of : {S : Type 0} → Ops S → List S → ℕ
 fork_of o [] = 0
 fork_of o (l ∷ ls) = last_fork (o.path l)
 
--- a count as 32 bits have it
+-- a count, or 4,294,967,295 where it is greater
 abbrev pub as_word : ℕ → ℕ
 as_word n = min n 4294967295
 
@@ -40,7 +40,7 @@ node_view o (Forked l ks) = ViewForked l (fork_of o (states ks)) (as_word (how_m
 node_view o (Ended l) = ViewEnded l
 node_view o (Dead l d) = ViewDead l d
 
--- the same of a view
+-- the view of a node that the code's view stands for
 abbrev pub viewed : {S : Type 0} → ProcessView S → NodeView S
 viewed (code.Live l) = ViewLive l.now
 viewed (code.Forked l f n) = ViewForked l.now f n

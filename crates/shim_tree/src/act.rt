@@ -132,7 +132,7 @@ fn act_live<L: Local>(process: &mut L, status: &mut NodeStatus<L>) -> Result<Eff
     }
 }
 
-// How a process died of which this came, if it did.
+// How a process with this status died, if it did.
 fn death_of<L>(status: &NodeStatus<L>) -> Option<Death>
     ensures { (l : L) → result ≡ death_of (node l status.now) }
 {

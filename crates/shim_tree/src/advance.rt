@@ -23,8 +23,8 @@ fn next_branch<L: Local>(process: &L, at: usize) -> Option<(usize, usize)>
     }
 }
 
-// What `swap_at` does below a live process: where the path of the state has no pair from this place on,
-// the state goes to its place, and what stood there comes out. Else nothing changes.
+// What `swap_at` does at a live process: where the path of the state has no pair from this place on, the state goes
+// to its place, and what stood there comes out. Else nothing changes.
 fn swap_live<L: Local>(process: &mut L, at: usize, last: &mut L)
     ensures { Live process.new ≡ with_state_at last.old (branches (drop at (L.ops.path last.old))) (Live process.old) }
 {
@@ -33,8 +33,8 @@ fn swap_live<L: Local>(process: &mut L, at: usize, last: &mut L)
     }
 }
 
-// The state goes to where its path leads from here by the pairs from this place on, and what stood
-// there comes out.
+// The state goes to where its path leads from here by the pairs from this place on, and what stood there comes out.
+// Where they lead to no process nothing changes.
 fn swap_at<L: Local>(process: &mut L, status: &mut NodeStatus<L>, at: usize, last: &mut L)
     ensures { node process.new status.new ≡ with_state_at last.old (branches (drop at (L.ops.path last.old))) (node process.old status.old) }
 {

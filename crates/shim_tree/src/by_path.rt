@@ -142,7 +142,7 @@ fn can_poison_below<L: Local>(
     }
 }
 
-// The same of the child of this path, which has a process.
+// Whether the child of this path can be poisoned on the channel; some process has the path. The root is no child.
 fn can_poison_by<L: Local>(root: &NodeRef<'_, L>, path: &Path, c: &Chan) -> bool
     requires has { has_path L.ops path.now (led_to L.ops root.now path.now) ≡ true }
     ensures { result ≡ by_path.can_poison_by L.ops c.now.channel root.now (route (L.ops.path (nodes.state root.now)) path.now) }

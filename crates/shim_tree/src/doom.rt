@@ -1,4 +1,4 @@
-// Whether the death of another child has spoiled a channel for a child.
+// Whether a death at or below another child dooms a child on a channel.
 ghost use Rattle.std.specs.Prelude.{◌≡◌, ◌&&◌, not, eqb};
 ghost use Rattle.shim_tree.specs.NodeStatus.{node, nodes, together};
 ghost use Rattle.shim_tree.specs.Beside.{nth_child};

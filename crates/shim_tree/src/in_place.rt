@@ -7,13 +7,13 @@ ghost use Rattle.shim_tree.specs.Stepping.{QuietAt};
 use crate::node_status::NodeStatus;
 use shim_local::{Local, Quiet};
 
-// Nothing was done, and no memory was wanted.
+// Nothing was done, and no memory was refused.
 const NONE_TAKEN: Quiet = Quiet {
     taken: 0,
     short: false,
 };
 
-// What `go_quietly_at` does below a live process.
+// What `go_quietly_at` does at a live process: its quiet steps where there is no pair, else nothing.
 fn go_quietly_live<L: Local>(process: &mut L, pairs: &[(u32, u32)], most: u64) -> Quiet
     ensures { QuietAt L.ops (branches pairs.now) most result (Live process.old) (Live process.new) }
 {
@@ -24,8 +24,8 @@ fn go_quietly_live<L: Local>(process: &mut L, pairs: &[(u32, u32)], most: u64) -
     }
 }
 
-/// Up to so many quiet steps of the process to which these pairs of a path lead from here, if it lives. Where
-/// they lead to none nothing is done.
+/// Up to `most` quiet steps of the live process to which these pairs of a path lead from here. Of pairs that lead to
+/// none the clause says nothing.
 pub(crate) fn go_quietly_at<L: Local>(
     process: &mut L,
     status: &mut NodeStatus<L>,

@@ -21,7 +21,7 @@ use std::marker::Model;
 #[derive(Drop)]
 pub struct NodeRef<'a, L> {
     process: &'a L,
-    // none of one that lives, as in the list of a fork
+    // `None` is a live process, as is a child without a status in the list of a fork
     status: Option<&'a NodeStatus<L>>,
 }
 
@@ -77,7 +77,7 @@ impl<'a, L: Local> NodeRef<'a, L> {
         }
     }
 
-    /// The child in this place, from 0; `None` of a process that hasn't forked, and behind the last child.
+    /// The child in this place, from 0; `None` of a process that hasn't forked, and after the last child.
     pub fn child(&self, at: usize) -> Option<NodeRef<'a, L>>
         ensures { result ≡ child_in at self.now }
     {
@@ -87,7 +87,7 @@ impl<'a, L: Local> NodeRef<'a, L> {
         }
     }
 
-    /// The same once more.
+    /// This reference once more.
     pub(crate) fn again(&self) -> NodeRef<'a, L>
         ensures { result ≡ self.now }
     {
@@ -138,7 +138,7 @@ impl<'a, L: Local> NodeRef<'a, L> {
     }
 }
 
-/// The process of which this came, lent.
+/// The process with this status, lent.
 pub(crate) fn lend_process<'a, L: Local>(
     process: &'a L,
     status: &'a NodeStatus<L>,
@@ -151,7 +151,7 @@ pub(crate) fn lend_process<'a, L: Local>(
     }
 }
 
-// How many children a process has of which this came.
+// How many children a process with this status has.
 fn count_of<L: Local>(status: &NodeStatus<L>) -> usize
     ensures { (l : L) → result ≡ child_count (node l status.now) }
 {
@@ -204,7 +204,7 @@ fn fork_of<L: Local>(children: &[L]) -> u32
     }
 }
 
-// A count as 32 bits have it.
+// A count, or 4,294,967,295 where it is greater.
 fn as_word(count: usize) -> u32
     ensures { result ≡ as_word count }
 {
@@ -226,7 +226,7 @@ fn view_of<'a, L: Local>(process: &'a L, status: &NodeStatus<L>) -> ProcessView<
     }
 }
 
-// Whether a process of which this came has forked, and each of its children has ended or died.
+// Whether a process with this status has forked, and each of its children has ended or died.
 fn can_close<L>(status: &NodeStatus<L>) -> bool
     ensures { (l : L) → result ≡ by_path.can_close (node l status.now) }
 {

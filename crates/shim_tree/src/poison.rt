@@ -1,5 +1,4 @@
-// What poison does: a child dies that waits for a channel, with each live process below it that shares
-// the channel.
+// What poison does: at and below a child, each live process that shares the channel dies.
 ghost use Rattle.std.specs.Prelude.{◌≡◌, ◌≢◌, ◌<◌, true, Some, None, OnOk, OnErr, length};
 ghost use Rattle.shim_tree.specs.NodeStatus.{node, nodes, together};
 ghost use Rattle.shim_tree.specs.Filled.{is_filled};
@@ -88,8 +87,8 @@ fn poison_node<L: Local>(
     }
 }
 
-// The child is poisoned to which the branches lead of which the first is this place and the second the
-// next one. The processes stay as they are here, too.
+// The child to which the branch of this place, then the next branch, and then those of the pairs lead is poisoned.
+// The processes stay as they are here, too.
 #[cycle(poison)]
 fn poison_among<L: Local>(
     processes: &mut Vec<L>,

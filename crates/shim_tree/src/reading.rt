@@ -12,7 +12,7 @@ use shim_local::{Local, Outcome, Stop, WaitAt};
 use shim_run_log::Waits;
 use std::alloc::Global;
 
-/// How a run has ended whose tree is quiescent or not.
+/// How a run has ended: by the root's status if its tree is quiescent, and else `Spent`.
 pub(crate) fn outcome_of<L>(status: &NodeStatus<L>, quiescent: bool) -> Outcome
     ensures { (l : L) → result ≡ cond quiescent (endings.outcome_of_root (node l status.now)) Spent }
 {

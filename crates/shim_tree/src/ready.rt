@@ -34,7 +34,7 @@ pub(crate) fn waits_at<L: Local>(l: &L, c: &Chan) -> bool
     }
 }
 
-// Whether a process of which this came has ended.
+// Whether a process with this status has ended.
 fn is_ended<L>(status: &NodeStatus<L>) -> bool
     ensures { (l : L) → result ≡ has_ended (node l status.now) }
 {

@@ -72,7 +72,7 @@ pub(crate) fn own_event<L: Local>(l: &L) -> Option<Found<'_>>
     }
 }
 
-// Whether a process of which this came has neither ended nor died.
+// Whether a process with this status has neither ended nor died.
 fn is_going<L>(status: &NodeStatus<L>) -> bool
     ensures { (l : L) → result ≡ goes (node l status.now) }
 {
@@ -121,7 +121,7 @@ pub(crate) fn is_ready_at<L: Local>(
     }
 }
 
-/// Whether the channel passes.
+/// Whether the channel passes the test.
 pub(crate) fn is_passing<L: Local>(test: &Test<'_, L>, c: &Chan) -> bool
     ensures { result ≡ passes L.ops test.now c.now.channel }
 {
@@ -287,7 +287,7 @@ pub(crate) fn found_first<'a, L: Local>(l: &'a L, status: &'a NodeStatus<L>) -> 
     }
 }
 
-/// Whether nothing can happen at this process and below it. It takes no memory.
+/// Whether the walk from this process has no event. It takes no memory.
 pub(crate) fn is_quiescent<L: Local>(l: &L, status: &NodeStatus<L>) -> bool
     ensures { result ≡ is_empty (walk L.ops (node l.now status.now)) }
 {

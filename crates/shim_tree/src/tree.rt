@@ -104,7 +104,7 @@ impl<L: Local> Tree<L> {
         listing::enabled(*self.output.allocator(), &self.root, &self.status)
     }
 
-    /// The first of them. `None` exactly where no event is enabled.
+    /// The first enabled event in the order of the walk from the root. `None` exactly where no event is enabled.
     pub fn first(&self) -> Result<Option<Event>, NoMemory>
         ensures first { IfOk result (λ event. option_map event_of event ≡ walks.first_event L.ops self.now) }
         ensures none { IfOk result (λ event. (event ≡ None) ↔ IsQuiescent L.ops self.now) }
@@ -157,8 +157,8 @@ impl<L: Local> Tree<L> {
         }
     }
 
-    /// So many quiet steps of one process happen at once; this is its state after them. With the steps so
-    /// far they come to 4,000,000 at most. It takes no memory.
+    /// So many quiet steps of one process happen at once; `last` is its state after them. With the steps so far they
+    /// come to 4,000,000 at most. It takes no memory.
     pub fn advance(&mut self, last: L, steps: u64)
         requires comes { ComesBy L.ops self.old steps last }
         requires few { trees.steps self.old + steps ≤ 4000000 }
@@ -169,9 +169,9 @@ impl<L: Local> Tree<L> {
         swap_on(&mut self.root, &mut self.status, &mut state);
     }
 
-    /// Does so many quiet steps of the process of this path, in place. `true` where it lives and each of
-    /// them is a quiet step of it; `false` where one isn't. With `false`, and where memory is wanted, the
-    /// tree stands behind as many of them as were done.
+    /// Does so many quiet steps of the process of this path, in place. `true` where there are none to do, or it lives
+    /// and each of them is a quiet step of it; `false` where one isn't. With `false`, and where memory runs out, as
+    /// many of them were done as could be, and nothing else.
     pub fn step_on(&mut self, path: &Path, steps: u64) -> Result<bool, NoMemory>
         requires few { trees.steps self.old + steps ≤ 4000000 }
         ensures done { IfOk result (λ done. QuietStepsOn L.ops path.now steps self.old self.new done) }
@@ -329,7 +329,7 @@ impl<L: Local> Tree<L> {
         Ok(())
     }
 
-    // The processes that share the channel meet.
+    // Each live process that waits at the channel receives the value of its source, which the history gets, too.
     fn meet(&mut self, chan: &Chan) -> Result<(), NoMemory>
         requires few { self.old.events < 4000000 }
         ensures ok { OnOk result (self.new ≡ met L.ops chan.now.channel (value_of L.ops chan.now.channel (source L.ops chan.now.channel self.old.root)) self.old) }

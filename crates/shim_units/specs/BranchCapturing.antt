@@ -7,7 +7,7 @@ use Rattle.shim_units.specs.Parts.{LiftContext, Part, all_tries}
 use Rattle.shim_units.specs.Usages.{captures_of}
 use Rattle.shim_units.specs.Lifting.{branch_captures, branch_slots, branch_exceptions, branch_inner}
 
--- what the code found is what a block branch with that body takes, throws and has, in a unit with the slot map w
+-- what the code found is what a block branch with that body takes, throws or passes on, and has of its own; w is the slot map of the unit around it
 pub record IsBranchCaptures (captured : BranchCaptures) (context : LiftContext) (w : SlotMap) (body : List (Part UStmt)) : Type 0 where
   pub captures : captures_of captured.captures ≡ branch_captures context body
   pub slots : captured.slots ≡ branch_slots context body w

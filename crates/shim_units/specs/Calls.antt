@@ -12,7 +12,7 @@ is_stream (Value ty) = false
 is_stream Input = true
 is_stream Output = true
 
--- a stream is always given by reference
+-- whether the parameter takes its argument by reference; a parameter that is a stream always does
 abbrev pub lends : UParam → Bool
 lends p = p.by_ref || is_stream p.sort
 
@@ -39,11 +39,11 @@ abbrev pub bare_step : UExpr-F (Option ℕ) → Option ℕ
 bare_step (UExpr-F.Var x) = Some x
 bare_step _ = None
 
--- the variable that an expression is, where it is one
+-- the variable of which an expression is the name alone, if it is one
 unfoldable pub bare : UExpr → Option ℕ
 bare = fold-UExpr (Option ℕ) bare_step
 
--- each argument with its parameter
+-- of each argument, whether its parameter takes it by reference, and the variable that it is, where it is a bare one; an argument without a parameter isn't taken by reference
 abbrev pub paired_arguments : List UParam → List UExpr → List Given
 paired_arguments ps [] = []
 paired_arguments ps (e ∷ es) = record { lent = lends_first ps; bare = bare e } ∷ paired_arguments (behind_first ps) es

@@ -22,7 +22,7 @@ is_written Declared = false
 is_written Written = true
 is_written Named = false
 
--- some use is such a one
+-- the test p is true of one of these uses
 abbrev pub some : (Use → Bool) → List Use → Bool
 some p [] = false
 some p (u ∷ us) = p u || some p us
@@ -53,7 +53,7 @@ abbrev pub outer : Bool → Capture → Capture
 outer true capture = Nothing
 outer false capture = capture
 
--- By reference what it writes, and each stream that it names; by copy what else it names. What it declares itself isn't from around it.
+-- How a text takes a variable of that sort. A variable that the text declares isn't taken. One that it writes, or a stream that it names, is taken by reference, and any other that it names as a copy.
 abbrev pub taken_as : Sort → Bool → Bool → Bool → Capture
 taken_as sort declared written named = outer declared (referred (written || (is_stream sort && named)) (copied named))
 

@@ -1,4 +1,4 @@
--- The function whose branches are lifted, in the code, as the definitions name it.
+-- The code's `LiftContext` as the `LiftContext` of the definitions.
 use Rattle.shim_units.specs.Parts as parts
 use Rattle.shim_units.specs.declared.lift_context.LiftContext.{LiftContext}
 

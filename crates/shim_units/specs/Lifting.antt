@@ -38,7 +38,7 @@ number_or_zero (Some n) = n
 abbrev pub name_of : RFunction → ℕ → ℕ
 name_of f x = number_or_zero (slice_get f.slot_names x)
 
--- the `try` statements are numbered behind the `throws`
+-- The number of the name that the `try` statement of exception x catches, and 0 where the function has no name for it. Exceptions of `try` statements are numbered after those of the `throws`, and x has to be one of a `try` statement.
 abbrev pub try_name : RFunction → ℕ → ℕ
 try_name f x = number_or_zero (slice_get f.tries (x - length f.throws))
 
@@ -97,7 +97,7 @@ branch_param f t x = record { sort = sort_of f x; by_ref = is_reference (t x); n
 abbrev pub branch_arg : List ℕ → Captures → ℕ → Arg
 branch_arg slots t x = by_mode (is_reference (t x)) (slot_index_of slots x)
 
--- the name of a unit that is lifted out of a function
+-- the name of the unit of number n that is lifted out of a function: the function's name, a dot, and how many units are lifted out of the function before it
 abbrev pub branch_title : LiftContext → ℕ → List ℕ
 branch_title context n = context.name ++ (codes "." ++ decimal (n - context.first))
 
@@ -118,7 +118,7 @@ made_unit context title params throws w tries body = record {
   body = body;
 }
 
--- the call of the unit that a branch becomes, which has that number
+-- the call of the unit of number n that a branch becomes; t has how the branch takes each variable
 abbrev pub branch_call : SlotMap → ℕ → Captures → List ℕ → List ℕ → UCall
 branch_call w n t slots exceptions = record {
   unit = n;

@@ -3,7 +3,7 @@ use Rattle.std.specs.Prelude.{ℕ, ◌+◌, List, [], ◌∷◌, map}
 use Rattle.shim_units.specs.declared.unit.UStmt.{UStmt, fold-UStmt}
 use Rattle.shim_units.specs.declared.unit.UWhat.{UWhat-F}
 
--- Statements are numbered from 0 in the order of the text, each before what stands in it, and the step of a `for` behind its body. A block has no number of its own, and a `for` stands behind its first part.
+-- Statements are numbered from 0 in the order of the text, each before what stands in it. A block has no number of its own. A `for` has its number after those of its first statement, and the step is numbered after the body.
 
 abbrev total : List ℕ → ℕ
 total [] = 0

@@ -1,4 +1,4 @@
--- The units of a program that has a text and obeys the sharing rule, and what they have for that.
+-- The units of a program that has a text and obeys the sharing rule, and what an accepted program keeps of them.
 use Rattle.std.specs.Prelude.{◌≡◌, ◌<◌, ◌^◌, ℕ, List, Option, Some, None, Ok, length}
 use Rattle.shim_syntax.specs.declared.tree.Program.{Program}
 use Rattle.shim_syntax.specs.Text.{IsText}
@@ -17,7 +17,7 @@ pub record IsUnitsOfText (form : Form) : Type 0 where
   pub obeys : Obeys resolved
   pub meant : lifted resolved ≡ form
 
--- what is kept of them: that they are such units, that the numbers of their statements fit, and that `main` throws few exceptions
+-- What an accepted program keeps of its form. The units are those of a text, as above. The numbers of the statements of each unit fit a signed number of 32 bits. `main` throws fewer than 2^21 exceptions.
 pub record IsAcceptedForm (form : Form) : Type 0 where
   pub of_text : ∥ IsUnitsOfText form ∥₁
   pub fit : AreFit form.units

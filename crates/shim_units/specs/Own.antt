@@ -9,7 +9,7 @@ abbrev pub branch_what_raises : {S T U V : Type 0} → RBranchWhat-F (ℕ → Pa
 branch_what_raises (RBranchWhat-F.RBranchWhat::Block body) = all_raises body
 branch_what_raises (RBranchWhat-F.RBranchWhat::Call c) = c.throws
 
--- the exceptions that a statement throws or passes on, with those of its block branches
+-- The exceptions that a statement throws or passes on, with those in its blocks and branches. Those that a `try` in it catches count, too.
 abbrev pub what_raises : {S T U V : Type 0} → RWhat-F (ℕ → Part S) (ℕ → Part T) (Part U) (Part V) → List ℕ
 what_raises (RWhat-F.If e first other) = all_raises first ++ all_raises other
 what_raises (RWhat-F.While e body) = all_raises body
@@ -36,7 +36,7 @@ what_declares (RWhat-F.RWhat::Block body) = all_declares body
 what_declares (RWhat-F.Try body x y handler) = all_declares body ++ (some_slot y ++ all_declares handler)
 what_declares _ = []
 
--- the `try` statements, without those in block branches
+-- the exceptions of the `try` statements, without those in block branches
 abbrev pub what_tries : {S T U V : Type 0} → RWhat-F (ℕ → Part S) (ℕ → Part T) (Part U) (Part V) → List ℕ
 what_tries (RWhat-F.If e first other) = all_tries first ++ all_tries other
 what_tries (RWhat-F.While e body) = all_tries body

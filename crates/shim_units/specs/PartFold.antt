@@ -16,7 +16,7 @@ use Rattle.shim_units.specs.Places.{what_places, branch_what_places}
 use Rattle.shim_units.specs.Own.{what_raises, branch_what_raises, what_declares, what_tries}
 use Rattle.shim_units.specs.Lifting.{on_tree, lift_all, lift_what, lift_branch_what}
 
--- What there is to what a branch in that line does, by what there is to its statements. It declares no variable for the unit around it, and has no `try` there.
+-- The `Part` of what a branch in that line does, from the `Part`s of its statements. A branch declares no variable of the unit around it, and has no `try` of that unit.
 abbrev pub branch_what_step : RBranchWhat-F (ℕ → Part UCall) (ℕ → Part UWhat) (Part UBranch) (Part UStmt) → ℕ → Part UCall
 branch_what_step b line = record {
   uses = λ fs. branch_what_uses fs b;
@@ -27,7 +27,7 @@ branch_what_step b line = record {
   lift = lift_branch_what b;
 }
 
--- what there is to what a statement in that line does, by what there is to its parts
+-- the `Part` of what a statement in that line does, from the `Part`s of its statements and branches
 abbrev pub what_step : RWhat-F (ℕ → Part UCall) (ℕ → Part UWhat) (Part UBranch) (Part UStmt) → ℕ → Part UWhat
 what_step s line = record {
   uses = λ fs. what_uses fs s;
@@ -49,14 +49,14 @@ in_line g p = record {
   lift = λ context w n. on_tree g (p.lift context w n);
 }
 
--- What there is to a branch, by what there is to what it does. `stmt_step` is the same of a statement.
+-- The `Part` of a branch, from the `Part` of what it does. `stmt_step` is the same of a statement.
 abbrev pub branch_step : RBranch-F (ℕ → Part UCall) (ℕ → Part UWhat) (Part UBranch) (Part UStmt) → Part UBranch
 branch_step b = in_line (λ c. record { line = b.line; call = c }) (b.what b.line)
 
 abbrev pub stmt_step : RStmt-F (ℕ → Part UCall) (ℕ → Part UWhat) (Part UBranch) (Part UStmt) → Part UStmt
 stmt_step s = in_line (λ t. record { line = s.line; what = t }) (s.what s.line)
 
--- What there is to a statement. `branch_part` is the same of a branch.
+-- The `Part` of a statement. `branch_part` is the same of a branch.
 abbrev pub part : RStmt → Part UStmt
 part = fold-RStmt (ℕ → Part UCall) (ℕ → Part UWhat) (Part UBranch) (Part UStmt) branch_what_step what_step branch_step stmt_step
 

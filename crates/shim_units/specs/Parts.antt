@@ -58,7 +58,7 @@ abbrev pub all_tries : {T : Type 0} → List (Part T) → List ℕ
 all_tries [] = []
 all_tries (p ∷ ps) = p.tries ++ all_tries ps
 
--- the uses in each
+-- the uses of variables in each of the parts, one list for each part
 abbrev pub each_uses : {T : Type 0} → List RFunction → List (Part T) → List (List Use)
 each_uses fs [] = []
 each_uses fs (p ∷ ps) = p.uses fs ∷ each_uses fs ps

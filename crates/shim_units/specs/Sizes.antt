@@ -177,18 +177,18 @@ stmt_size = fold-UStmt ℕ ℕ what_counts (λ s. s.what)
 abbrev pub stmts_size : List UStmt → ℕ
 stmts_size body = sum_of (map stmt_size body)
 
--- with the arguments of its calls, be it of functions or of lifted branches
+-- One for the unit, one for each parameter, and the sizes of its statements. The arguments of its calls count, those of lifted branches, too.
 abbrev pub unit_size : UnitOf → ℕ
 unit_size u = suc (length u.params + stmts_size u.body)
 
 abbrev pub units_size : List UnitOf → ℕ
 units_size us = sum_of (map unit_size us)
 
--- the numbers that the statements of all units have in them
+-- how many numbers the statements of all units take
 abbrev pub units_points : List UnitOf → ℕ
 units_points us = sum_of (map (λ (u : UnitOf). size_all u.body) us)
 
--- how many units there are, how many numbers their statements have, and how large they are, all of them together
+-- there are fewer than 2^21 units, their statements take fewer than 2^21 numbers, and the size of all units together is below 2^28
 pub record AreSmall (us : List UnitOf) : Type 0 where
   pub count : length us < 2 ^ 21
   pub points : units_points us < 2 ^ 21

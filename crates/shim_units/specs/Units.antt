@@ -40,12 +40,12 @@ lift_function names all number next f =
     let r = lift_in f.body context w next in
     record { own = made_unit context context.name f.params (length f.throws) w (tries_in f.body) r.tree; lifted = r.units }
 
--- the functions' units, and behind them all that are lifted out of them
+-- the functions' own units, and all units that are lifted out of the functions
 pub record LiftedFunctions : Type 0 where
   pub own : List UnitOf
   pub lifted : List UnitOf
 
--- of the functions from that number on, the first lifted unit of which has the number `next`
+-- The units of the functions of the last list. The first of them has that number, and the first unit that is lifted out of them has the number `next`.
 abbrev pub lift_functions : List (List ℕ) → List RFunction → ℕ → ℕ → List RFunction → LiftedFunctions
 lift_functions names all number next [] = record { own = []; lifted = [] }
 lift_functions names all number next (f ∷ fs) =

@@ -35,7 +35,7 @@ taken_with None m = Nothing
 taken_with (Some sort) None = Nothing
 taken_with (Some sort) (Some m) = taken_as sort m.declared m.written m.named
 
--- the captures of so many variables, by their slots
+-- the list has n captures: for each slot below n, how a branch with these uses takes its variable
 pub record TakesBelow (ts : List Capture) (n : ℕ) (sorts : List Sort) (us : List Use) : Type 0 where
   pub long : length ts ≡ n
   pub each : (x : ℕ) → x < n → slice_get ts x ≡ Some (captures sorts us x)

@@ -68,8 +68,8 @@ impl Accepted {
         }
     }
 
-    /// The units of the functions, as they come in the source. Behind them all stand those of the
-    /// block branches, as these begin in it. The statements of each have less than 2 ^ 31 numbers.
+    /// The units of the functions, in the order of the source. After them all come the units of the block
+    /// branches, in the order in which these begin. The statements of each unit take fewer than 2 ^ 31 numbers.
     pub fn units(&self) -> &[Unit]
         ensures value { result.now ≡ self.now.units }
         ensures of_text { ∥ IsUnitsOfText self.now ∥₁ }
@@ -78,7 +78,7 @@ impl Accepted {
         self.form.units.as_slice()
     }
 
-    /// The names of the source, none of them twice, in the order in which they come up.
+    /// The names of the source, none of them twice, in the order of their first occurrences.
     pub fn names(&self) -> &[Name]
         ensures { result.now ≡ self.now.names }
     {
@@ -92,7 +92,7 @@ impl Accepted {
         self.form.main
     }
 
-    /// The names behind the `throws` of `main`, of which there are less than 2 ^ 21.
+    /// The numbers of the names in the `throws` of `main`, of which there are fewer than 2 ^ 21.
     pub fn main_throws(&self) -> &[u32]
         ensures value { result.now ≡ self.now.main_throws }
         ensures few { length result.now < 2 ^ 21 }

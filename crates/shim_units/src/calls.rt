@@ -18,14 +18,14 @@ pub fn is_stream(sort: Sort) -> bool
     }
 }
 
-// A stream is always given by reference.
+// Whether the parameter takes its argument by reference; a parameter that is a stream always does.
 fn is_lent(param: &UParam) -> bool
     ensures { result ≡ lends param.now }
 {
     param.by_ref || is_stream(param.sort)
 }
 
-// Whether the first of the parameters is given by reference.
+// Whether the first parameter takes its argument by reference; without parameters none does.
 pub fn lends_first(params: &[UParam]) -> bool
     ensures { result ≡ lends_first params.now }
 {
@@ -35,7 +35,7 @@ pub fn lends_first(params: &[UParam]) -> bool
     }
 }
 
-/// The parameters behind the first.
+/// The parameters after the first.
 pub fn behind_first(params: &[UParam]) -> &[UParam]
     ensures { result.now ≡ behind_first params.now }
 {
@@ -81,6 +81,7 @@ pub fn find_bare(expr: &UExpr) -> Option<u32>
     }
 }
 
+/// The arguments of a call, each as its parameter takes it.
 pub fn give(alloc: Global, params: &[UParam], args: &[UExpr]) -> Result<List<Given>, NoMemory>
     ensures { IfOk result (λ made. made ≡ paired_arguments params.now args.now) }
 {

@@ -64,7 +64,7 @@ fn take(sort: Sort, usage: Usage) -> Capture
     }
 }
 
-// Usages of so many variables that nothing is found of.
+// The usages of `count` variables of which no use was found.
 fn make_usages(alloc: Global, count: usize) -> Result<Vec<Usage>, NoMemory>
     ensures { IfOk result (λ usages. ShowUses usages.items count []) }
 {
@@ -90,7 +90,7 @@ fn add_use(usages: &mut Vec<Usage>, found: Use)
     }
 }
 
-// For each of so many variables what is found of it.
+// The usage of each of the slots below `count`, from these uses.
 fn usages_of(alloc: Global, count: usize, uses: &[Use]) -> Result<List<Usage>, NoMemory>
     ensures { IfOk result (λ usages. ShowUses usages count uses.now) }
 {
@@ -136,6 +136,7 @@ pub fn capture_at(captures: &[Capture], slot: usize) -> Capture
     }
 }
 
+/// Whether a variable is captured by reference.
 pub fn is_reference(capture: Capture) -> bool
     ensures { result ≡ is_reference capture }
 {

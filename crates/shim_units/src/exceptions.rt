@@ -62,7 +62,7 @@ impl ExceptionList {
         Ok(made)
     }
 
-    /// Those that are thrown or passed on, in their order.
+    /// The exceptions of this list that are among `raises`, in the order of the list.
     pub fn give(&self, alloc: Global, raises: &[u32]) -> Result<List<u32>, NoMemory>
         ensures { IfOk result (λ made. made ≡ given_exceptions raises.now self.now) }
     {
@@ -113,7 +113,7 @@ fn mark(marks: &mut Vec<bool>, one: u32) -> Result<bool, NoMemory>
     Ok(fresh)
 }
 
-// Each of some numbers once. They aren't sorted for that: calls in forks in each other raise the same few
+// Each of some numbers once. The numbers aren't sorted for that: the calls of nested forks may raise the same few
 // exceptions some hundred million times.
 fn distinct(alloc: Global, numbers: &[u32]) -> Result<Vec<u32>, NoMemory>
     ensures { IfOk result (λ made. (x : ℕ) → is_among made.items x ≡ is_among numbers.now x) }

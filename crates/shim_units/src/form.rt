@@ -4,7 +4,7 @@ use shim_base::{List, Name};
 
 /// The units, the program's list of names, the number of the unit of `main`, and the numbers of the names that
 /// `main` throws.
-#[derive(Debug, Drop)]
+#[derive(Drop)]
 pub struct Form {
     pub units: List<Unit>,
     pub names: List<Name>,

@@ -24,7 +24,7 @@ pub enum Capture {
     Reference,
 }
 
-/// An argument of a call: whether its parameter takes it by reference, and the variable that it is.
+/// An argument of a call: whether its parameter takes it by reference, and the variable that it is, where it is bare.
 #[derive(Clone, Copy, Debug, PartialEq, Eq)]
 pub struct Given {
     pub lent: bool,

@@ -1,4 +1,5 @@
-//! What a program's units are made of: what a text uses and takes, and block branches as units of their own; the sharing rule as a definition, and accepted programs.
+//! What a program's units are made of: what a text uses and takes, and block branches as units of their own; the
+//! sharing rule as a definition, and accepted programs.
 #![tactic(auto)]
 
 mod accepted;

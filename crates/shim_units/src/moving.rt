@@ -20,7 +20,7 @@ fn find_index(all: &[u32], one: u32) -> Option<usize>
 #[tactic(auto, unfolding(crate::specs::Moving::slot_index_of))]
 pub fn index_in(all: &[u32], one: u32) -> usize
     ensures is { result ≡ slot_index_of all.now one }
-    ensures slot_map { result ≤ length all.now }
+    ensures within { result ≤ length all.now }
 {
     match find_index(all, one) {
         Some(at) => at,
@@ -28,7 +28,7 @@ pub fn index_in(all: &[u32], one: u32) -> usize
     }
 }
 
-/// The number that one of the function's has among those that a unit has.
+/// The place of one of the function's numbers among those that a unit has; their count where it isn't among them.
 pub fn slot_index(all: &[u32], one: u32) -> u32
     requires { length all.now < 2 ^ 32 }
     ensures { result ≡ slot_index_of all.now one }
@@ -36,6 +36,7 @@ pub fn slot_index(all: &[u32], one: u32) -> u32
     number(index_in(all, one))
 }
 
+/// The expression with the place of each of its slots in the list in place of the slot.
 #[tactic(auto, unfolding(crate::specs::Moving::renumbered))]
 pub fn move_expr(alloc: Global, slots: &[u32], expr: &UExpr) -> Result<UExpr, NoMemory>
     requires { length slots.now < 2 ^ 32 }
@@ -56,6 +57,7 @@ pub fn move_expr(alloc: Global, slots: &[u32], expr: &UExpr) -> Result<UExpr, No
     }
 }
 
+/// The same of an expression, if there is one.
 pub fn move_option(
     alloc: Global,
     slots: &[u32],

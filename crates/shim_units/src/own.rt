@@ -79,7 +79,7 @@ fn push_variable(slots: &mut List<u32>, variable: &Option<u32>) -> Result<(), No
     }
 }
 
-/// The variables that statements declare, without those in block branches, in textual order.
+/// The variables of declarations and of handlers in statements, without those in block branches, in textual order.
 pub fn declares_in(alloc: Global, body: &[RStmt]) -> Result<List<u32>, NoMemory>
     ensures { IfOk result (λ made. made ≡ declares_in body.now) }
 {

@@ -7,7 +7,7 @@ use shim_syntax::Sort;
 /// are numbers in the program's list of names; its own name is a text.
 #[derive(Debug, Drop)]
 pub struct Unit {
-    /// The function's name; behind it, for a lifted branch, a dot and the branch's number there.
+    /// The function's name; after it, for a lifted branch, a dot and the branch's number in the function.
     pub title: List<u8>,
     /// The number of the function in whose text it stands.
     pub function: u32,
@@ -19,7 +19,8 @@ pub struct Unit {
     pub slot_names: List<u32>,
     /// How many exceptions it is given, which are the first ones.
     pub throws: u32,
-    /// The names of the `try` statements of its own text, whose numbers follow those.
+    /// The names of the `try` statements of its own text, whose exceptions have the numbers after those that it is
+    /// given.
     pub tries: List<u32>,
     pub body: List<UStmt>,
 }
@@ -75,6 +76,6 @@ pub enum Arg {
     Ref(u32),
     /// A bare variable by value.
     Pass(u32),
-    /// In a box, since a fork may have many arguments that are variables.
+    /// An expression that is computed. The box keeps `Ref` and `Pass` small, of which a fork may have many.
     Fresh(Boxed<UExpr>),
 }

@@ -14,7 +14,7 @@ pub fn number(count: usize) -> u32
     count as u32
 }
 
-/// The number that stands so many behind another.
+/// The number `first` and the count, added.
 pub fn number_after(first: u32, count: usize) -> u32
     requires { first + count < 2 ^ 32 }
     ensures { result ≡ first + count }
@@ -22,7 +22,7 @@ pub fn number_after(first: u32, count: usize) -> u32
     first + number(count)
 }
 
-// What the slot of a function holds.
+// What the slot of a function holds, and a `bool` where the function has no such slot.
 pub fn sort_of(function: &RFunction, slot: u32) -> Sort
     ensures { result ≡ sort_of function.now slot }
 {
@@ -32,7 +32,7 @@ pub fn sort_of(function: &RFunction, slot: u32) -> Sort
     }
 }
 
-/// The number of the name of a function's slot.
+/// The number of the name of a function's slot, and 0 where the function has no name for it.
 pub fn name_of(function: &RFunction, slot: usize) -> u32
     ensures { result ≡ name_of function.now slot }
 {
@@ -42,7 +42,7 @@ pub fn name_of(function: &RFunction, slot: usize) -> u32
     }
 }
 
-// The number of the name that a function's `try` statement catches.
+// The number of the name that the `try` statement of this exception catches, and 0 where there is none.
 pub fn try_name(function: &RFunction, exception: u32) -> u32
     ensures { result ≡ try_name function.now exception }
 {

@@ -24,7 +24,7 @@ impl Same for UParam {
     }
 }
 
-// Whether they have the same parameters and slots.
+// Whether they have the same parameters, slots and names of slots.
 fn same_head(one: &Unit, other: &Unit) -> bool
     ensures { IsTrue result ↔ ((one.now.params ≡ other.now.params) × (one.now.slots ≡ other.now.slots) × (one.now.slot_names ≡ other.now.slot_names)) }
 {
@@ -33,7 +33,7 @@ fn same_head(one: &Unit, other: &Unit) -> bool
         && same_all(one.slot_names.as_slice(), other.slot_names.as_slice())
 }
 
-// Whether they have the same title, function and exceptions.
+// Whether they have the same title and function, as many given exceptions, and the same names of `try` statements.
 fn same_title(one: &Unit, other: &Unit) -> bool
     ensures { IsTrue result ↔ ((one.now.title ≡ other.now.title) × (one.now.function ≡ other.now.function) × (one.now.throws ≡ other.now.throws) × (one.now.tries ≡ other.now.tries)) }
 {
@@ -68,7 +68,7 @@ fn have_same_text(one: &Accepted, other: &Accepted) -> bool
     }
 }
 
-// Whether they have the same units.
+// Whether they have the same `main`, exceptions that it throws, names and units.
 fn same_units(one: &Accepted, other: &Accepted) -> bool
     ensures { IsTrue result ↔ (one.now ≡ other.now) }
 {

@@ -84,7 +84,7 @@ fn same_stmt(one: &UStmt, other: &UStmt) -> bool
     one.line == other.line && same_what(&one.what, &other.what)
 }
 
-/// Whether two texts are the same.
+/// Whether two lists of statements are the same.
 #[cycle(same)]
 pub fn same_stmts(one: &[UStmt], other: &[UStmt]) -> bool
     ensures { IsTrue result ↔ (one.now ≡ other.now) }

@@ -24,7 +24,8 @@ pub fn up(alloc: Global, program: &Program) -> Result<Program, NoMemory>
     with_name(alloc, &name, program)
 }
 
-// With the word itself as the name this is a copy of what has version 2.
+// The program in version 2, with this name for the word of the new type. With that word itself as the name it is a
+// copy of a program of version 2.
 fn with_name(alloc: Global, name: &Name, program: &Program) -> Result<Program, NoMemory>
     ensures { IfOk result (λ q. q ≡ with_name_for_word name.now program.now) }
 {
@@ -35,7 +36,7 @@ fn with_name(alloc: Global, name: &Name, program: &Program) -> Result<Program, N
     })
 }
 
-// The least number whose name no function of the program has.
+// The least number whose name is no identifier in the functions.
 fn least_new(alloc: Global, functions: &[Function]) -> Result<u64, NoMemory>
     ensures { IfOk result (λ number. IsLeastNew (identifiers functions.now) number) }
 {

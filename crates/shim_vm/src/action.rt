@@ -32,7 +32,7 @@ pub enum Action {
     Trapped(Trap),
 }
 
-// The place behind one. One that no number holds counts as out of memory: no code is so long.
+// The place after this one. If that is too large for its type, this counts as out of memory: no code is so long.
 fn behind(place: usize) -> Result<usize, NoMemory>
     ensures { IfOk result (λ next. next ≡ place + 1) }
 {

@@ -11,7 +11,7 @@ ghost use Rattle.shim_process.specs.Steps.{line_of};
 ghost use Rattle.shim_locations.specs.Given.{arguments_of};
 ghost use Rattle.shim_locations.specs.Lendings.{remainder_of};
 ghost use Rattle.shim_locations.specs.declared.argument_fault.ArgumentFault.TheVariants as fault;
-ghost use Rattle.shim_machine.specs.Forking.{behind_fork, child_of, lending_by};
+ghost use Rattle.shim_machine.specs.Forking.{after_fork, child_of, lending_by};
 ghost use Rattle.shim_machine.specs.Machine.{CodedUnit, GatheredBranch};
 ghost use Rattle.shim_vm.specs.Gathering.{ComesToFork, Gathered, Gathers, NextBranch, branch_of, is_fork_instr};
 
@@ -117,8 +117,8 @@ fn is_fork_instr(instr: Option<&MachineInstr>) -> bool
 }
 
 /// The place behind the first fork that is at a place or later.
-pub fn behind_fork(code: &[MachineInstr], place: usize) -> usize
-    ensures { result ≡ behind_fork place (drop place code.now) }
+pub fn after_fork(code: &[MachineInstr], place: usize) -> usize
+    ensures { result ≡ after_fork place (drop place code.now) }
 {
     let mut place = place;
     while place < code.len() {

@@ -13,13 +13,13 @@ ghost use Rattle.shim_machine.specs.Simulation.{NextSuits};
 ghost use Rattle.shim_machine.specs.Machine.{CodedUnit};
 ghost use Rattle.shim_machine.specs.Correspondence.{HasAt, IsPlaceOf};
 ghost use Rattle.shim_vm.specs.Actions.{EndAgrees};
-ghost use Rattle.shim_vm.specs.Computing.{Computation, Computed, Computes, computes_value};
+ghost use Rattle.shim_vm.specs.Computing.{Computation, Computed, Computes, ComputesValue};
 ghost use Rattle.shim_vm.specs.Gathering.{ComesToFork};
 
 /// The code of an expression, wherever it stands, computes its value, and leaves all else as it was; or
 /// it traps as the expression does.
 pub fn expressions_are_computed()
-    ensures { (u : CodedUnit) (env : Env) (slots : List ℕ) (e : UExpr) (c : Computation) (n : ℕ) → HasAt u n c.place (machine_expr e c.place) → computes_value env slots u.code c (c.place + length (machine_expr e c.place)) (value e env) }
+    ensures { (u : CodedUnit) (env : Env) (slots : List ℕ) (e : UExpr) (c : Computation) (n : ℕ) → HasAt u n c.place (machine_expr e c.place) → ComputesValue env slots u.code c (c.place + length (machine_expr e c.place)) (value e env) }
 {}
 
 /// From the mark at which a process stands its code computes, and comes to an instruction that does what

@@ -11,7 +11,7 @@ use shim_locations::location::Location;
 use shim_locations::locations::value_in;
 
 /// The number that is put or thrown, and the place behind the instruction that does it.
-#[derive(Clone, Copy, Debug)]
+#[derive(Clone, Copy)]
 pub struct Putting {
     pub place: usize,
     pub value: i64,

@@ -14,7 +14,7 @@ use crate::instrs::instr_at;
 use shim_code::MachineInstr;
 
 /// What an instruction is to a process that goes on.
-#[derive(Clone, Copy, Debug, PartialEq, Eq)]
+#[derive(Clone, Copy, PartialEq, Eq)]
 pub enum Rest {
     /// A statement of this number begins, or its second part.
     Mark(u32, bool),
@@ -26,7 +26,7 @@ pub enum Rest {
 }
 
 /// Where a unit goes on, and how many of its exception places are in force then, the outermost ones.
-#[derive(Clone, Copy, Debug, PartialEq, Eq)]
+#[derive(Clone, Copy, PartialEq, Eq)]
 pub enum ResumePoint {
     /// At the mark at this place, of the statement of this number, or of its second part.
     At(usize, u32, bool, usize),

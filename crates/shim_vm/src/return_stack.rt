@@ -34,7 +34,7 @@ impl ReturnPlace {
     }
 }
 
-/// Contracts see the innermost first.
+/// The return places of a process's callers. Contracts see the innermost first.
 #[derive(Drop)]
 pub struct ReturnStack {
     items: Vec<ReturnPlace>,

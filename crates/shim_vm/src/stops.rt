@@ -19,7 +19,7 @@ use shim_walk::next_action::StatementContext;
 
 /// At what a process is, so that it can be kept beside the process: a rendezvous has the number of the
 /// location whose channel it is on.
-#[derive(Clone, Copy, Debug)]
+#[derive(Clone, Copy)]
 pub enum KeptStop {
     Quiet,
     Next(usize),
@@ -89,7 +89,7 @@ fn at_put(holds_output: bool) -> KeptStop
     }
 }
 
-// At a fork. One without branches has nothing before it.
+// At a fork, or at the end if the fork's own instruction comes at once after the mark: it then has no branches.
 fn at_fork(behind: Option<&MachineInstr>) -> KeptStop
     ensures { (locations : Locations) → kept_view locations result ≡ fork_stop (option_copied behind.entry) }
 {

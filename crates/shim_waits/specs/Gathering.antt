@@ -21,7 +21,7 @@ any_child_shares o c (Dead l d) = false
 abbrev pub holder_in : BTreeMap NamedChannel Holder → Channel → Option Holder
 holder_in holders c = get_by (λ k. channel_order c k.channel) holders
 
--- a node that is found, with the number of live processes before it
+-- the holder of a found node: the path of its process, with the number of live processes before the node
 abbrev pub holder_of : {S : Type 0} → Ops S → Node S × ℕ → Holder
 holder_of o x = record { path = o.path (state x.0); number = x.1 }
 
@@ -29,24 +29,24 @@ holder_of o x = record { path = o.path (state x.0); number = x.1 }
 abbrev pub holder_where : {S : Type 0} → Ops S → Node S → ℕ → Bool → Option Holder
 holder_where o n number test = cond test (Some (holder_of o (n, number))) None
 
--- The process of the node is kept for this channel, if it holds it up and nobody is kept for it before.
+-- The process of the node is kept for the channel c, if it holds up whoever waits at c and nobody was kept for c before. For other channels nothing changes.
 abbrev pub KeepsOne : {S : Type 0} → Ops S → Node S → ℕ → Channel → BTreeMap NamedChannel Holder → BTreeMap NamedChannel Holder → Type 0
-KeepsOne o n number c before behind = (q : Channel) → holder_in behind q ≡ or_else (holder_in before q) (holder_where o n number (same_channel c q && holds_up o q n))
+KeepsOne o n number c before after = (q : Channel) → holder_in after q ≡ or_else (holder_in before q) (holder_where o n number (same_channel c q && holds_up o q n))
 
--- For each channel that the process of the node was given and holds up, that process is kept, unless another was kept before.
+-- For each channel that the process of the node was given and at which it holds up whoever waits, it is kept, unless another was kept before.
 abbrev pub KeepsGiven : {S : Type 0} → Ops S → Node S → ℕ → BTreeMap NamedChannel Holder → BTreeMap NamedChannel Holder → Type 0
-KeepsGiven o n number before behind = (q : Channel) → holder_in behind q ≡ or_else (holder_in before q) (holder_where o n number (holds_given o q n))
+KeepsGiven o n number before after = (q : Channel) → holder_in after q ≡ or_else (holder_in before q) (holder_where o n number (holds_given o q n))
 
--- Where no process was kept for a channel, the first one at and below the node that holds it up is kept. Only processes that were given the channel are asked.
+-- Where no process was kept for a channel, the first one at and below the node is kept that was given the channel and holds up whoever waits at it.
 abbrev pub KeepsFirst : {S : Type 0} → Ops S → Node S → ℕ → BTreeMap NamedChannel Holder → BTreeMap NamedChannel Holder → Type 0
-KeepsFirst o n number before behind = (q : Channel) → holder_in behind q ≡ or_else (holder_in before q) (option_map (holder_of o) (first_with (holds_given o q) number n))
+KeepsFirst o n number before after = (q : Channel) → holder_in after q ≡ or_else (holder_in before q) (option_map (holder_of o) (first_with (holds_given o q) number n))
 
--- of a wait that leads to the live process of a number: its holder is kept, and that process stands at a channel
+-- the wait of l at c by the holder h and the live process b, with the holder's number, if b stands at a channel
 abbrev pub wait_to : {S : Type 0} → Ops S → S → NamedChannel → Holder → S → Option NamedChannel → Option (Wait × ℕ)
 wait_to o l c h b None = None
 wait_to o l c h b (Some d) = Some (record { path = o.path l; chan = c; holder = h.path; by = o.path b; at = d }, h.number)
 
--- the wait of l at c by the holder h and the process b, if there is b and it waits at a channel
+-- the same, if there is a process b
 abbrev pub wait_on : {S : Type 0} → Ops S → S → NamedChannel → Holder → Option S → Option (Wait × ℕ)
 wait_on o l c h None = None
 wait_on o l c h (Some b) = wait_to o l c h b (next_channel (o.stop b))
@@ -65,7 +65,7 @@ numbered_wait_at o lives holders l (Some c) = wait_by_holder o lives l c (holder
 abbrev pub numbered_wait : {S : Type 0} → Ops S → List S → BTreeMap NamedChannel Holder → S → Option (Wait × ℕ)
 numbered_wait o lives holders l = numbered_wait_at o lives holders l (next_channel (o.stop l))
 
--- the two apart
+-- The wait alone. `number_found` is the number alone.
 abbrev pub wait_found : {S : Type 0} → Ops S → List S → BTreeMap NamedChannel Holder → S → Option Wait
 wait_found o lives holders l = option_map (λ w. w.0) (numbered_wait o lives holders l)
 

@@ -19,7 +19,7 @@ WaitsThere {S} o root p c = (l : S) × StandsAt o root p (Live l) × StandsAtNex
 abbrev pub IsHolder : {S : Type 0} → Ops S → Node S → Path → NamedChannel → Type 0
 IsHolder {S} o root p c = (n : Node S) × StandsAt o root p n × (holds_up o c.channel n ≡ true)
 
--- the second path goes on from the first
+-- the second path begins with the first, or is the first
 abbrev pub IsAtOrBelow : Path → Path → Type 0
 IsAtOrBelow front p = (r : Path) × (p ≡ front ++ r)
 
@@ -28,7 +28,7 @@ abbrev pub first_place : List Wait → Path → Option ℕ
 first_place [] p = None
 first_place (w ∷ ws) p = cond (same_path w.path p) (Some 0) (option_map suc (first_place ws p))
 
--- each path has in the map the place of its first wait
+-- each path has in the map the place of its first wait, and a path without a wait isn't in the map
 abbrev pub IsEntryIndex : BTreeMap Path ℕ → List Wait → Type 0
 IsEntryIndex index ws = (p : Path) → get path_order index p ≡ first_place ws p
 

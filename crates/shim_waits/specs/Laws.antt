@@ -31,7 +31,7 @@ pub record IsHeldUp {S : Type 0} (o : Ops S) (root : Node S) (l : S) : Type 0 wh
   pub waits : IsWait o root wait
   pub other : wait.by ≢ wait.path
 
--- each path comes before those behind it
+-- each path is less than those after it in the list
 abbrev pub PathsAscend : List Path → Type 0
 PathsAscend [] = Unit {0}
 PathsAscend (p ∷ ps) = AllOf (λ q. path_order p q ≡ Less) ps × PathsAscend ps
@@ -39,13 +39,13 @@ PathsAscend (p ∷ ps) = AllOf (λ q. path_order p q ≡ Less) ps × PathsAscend
 -- What holds of the explanation of a blocked tree: each live process has one wait, by another process. One cycle is reached from the first wait.
 pub record BlockedIsExplained {S : Type 0} (o : Ops S) : Type 0 where
   pub held_up : (t : Tree S) (l : S) → IsBlockedTree o t → IsAmong l (lives t.root) → IsHeldUp o t.root l
-  -- so each has one wait, and these are in the order of paths
+  -- each live process has one wait, and the waits stand in the order of the paths
   pub each : (t : Tree S) → IsBlockedTree o t → map (λ w. w.path) (explained o t.root).waits ≡ map o.path (lives t.root)
   pub in_order : (t : Tree S) → IsSoundTree o t → PathsAscend (map o.path (lives t.root))
   pub cycle : (t : Tree S) → IsBlockedTree o t → IsCycle (explained o t.root).waits (explained o t.root).cycle
-  -- and there is no other cycle to which one comes from the first
+  -- no other cycle is reached from the first wait
   pub one : (t : Tree S) (c : List Path) → IsBlockedTree o t → IsCycle (explained o t.root).waits c → c ≡ (explained o t.root).cycle
-  -- who holds up those that wait at a channel was given it by its fork
+  -- if a live process waits at a channel, each process that holds it up was given the channel by the fork that made it
   pub given : (t : Tree S) (l : S) (d : NamedChannel) (m : Node S) (q : List ℕ) → IsSoundTree o t → IsAmong l (lives t.root) → o.stop l ≡ AtNext d
       → at q t.root ≡ Some m → holds_up o d.channel m ≡ true → IsGiven o (state m) d.channel
 
@@ -62,7 +62,7 @@ EndsAreExplainedAlike {S} o = (t u w : Tree S) (es fs : List Event) → IsSoundT
 abbrev pub HasTwo : List Path → Type 0
 HasTwo ps = (p : Path) × (q : Path) × IsAmong p ps × IsAmong q ps × (p ≢ q)
 
--- Nobody waits for himself, through whomever. So on the cycle of each explanation there are two.
+-- In a blocked tree no process waits for itself, whichever process holds it up. So the cycle of each explanation has two different paths.
 pub record NobodyWaitsForHimself {S : Type 0} (o : Ops S) : Type 0 where
   pub other : (t : Tree S) (w : Wait) → IsBlockedTree o t → IsWait o t.root w → w.by ≢ w.path
   pub two : (t : Tree S) (e : Explained) → IsBlockedTree o t → IsExplanation o t.root e → HasTwo e.cycle

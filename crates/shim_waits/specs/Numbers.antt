@@ -36,6 +36,6 @@ is_one_of c (d ∷ ds) = same_channel d.channel c || is_one_of c ds
 abbrev pub holds_given : {S : Type 0} → Ops S → Channel → Node S → Bool
 holds_given o c n = is_one_of c (o.given (state n)) && holds_up o c n
 
--- Where somebody waits at a channel, it is enough to ask those for it that were given it.
+-- Where a live process of a sound tree waits at a channel, the first process that holds it up is the first that was given the channel and holds it up.
 abbrev pub AskingGivenSuffices : {S : Type 0} → Ops S → Type 0
 AskingGivenSuffices {S} o = (t : Tree S) (l : S) (d : NamedChannel) → IsSoundTree o t → IsAmong l (lives t.root) → o.stop l ≡ AtNext d → first_of (holds_given o d.channel) t.root ≡ first_of (holds_up o d.channel) t.root

@@ -18,7 +18,7 @@ abbrev pub from_number : (ℕ → List ℕ) → Option ℕ → List ℕ
 from_number f None = []
 from_number f (Some i) = f i
 
--- Each number leads to the number at its place in `next`. From i on the numbers are passed until one is passed a second time. The ring is the numbers from the first passing of that one on.
+-- Each number leads to the number at its place in `next`. From i on at most n further numbers are passed, until one is passed a second time. The ring is the numbers from the first passing of that one on. Where a number has no place in `next`, the ring is empty.
 abbrev pub number_ring : ℕ → List ℕ → List ℕ → ℕ → List ℕ
 number_ring zero next passed i = numbers_since i passed []
 number_ring (suc n) next passed i = cond (was_passed i passed) (numbers_since i passed []) (from_number (number_ring n next (i ∷ passed)) (slice_get next i))
@@ -43,6 +43,6 @@ pub record IsLeastAt (is : List ℕ) (m : ℕ) : Type 0 where
 abbrev pub path_of_wait : List Wait → ℕ → Path
 path_of_wait ws i = get_or (map (λ w. w.path) ws) i []
 
--- what replaces the numbers of a ring, from the least one on
+-- the cycle has what f gives for the numbers of the ring: first from the least number on, then for the numbers before it
 abbrev pub IsTurned : (ℕ → Path) → List ℕ → List Path → Type 0
 IsTurned f ring cycle = (m : ℕ) × IsLeastAt ring m × (cycle ≡ map f (drop m ring) ++ map f (take m ring))

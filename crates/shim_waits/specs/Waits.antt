@@ -14,7 +14,7 @@ use Rattle.shim_waits.specs.declared.explained.Explained.{Explained}
 abbrev pub StandsAtNext : {S : Type 0} → Ops S → S → NamedChannel → Type 0
 StandsAtNext o l c = (d : NamedChannel) × (o.stop l ≡ AtNext d) × (d.channel ≡ c.channel)
 
--- The process of the wait's path stands at its channel. It waits for the live process `by` through the process `holder`, which holds it up: that lies at or below the channel's home, and `by` at or below that.
+-- The process of the wait's path stands at the wait's channel, and the process `holder` holds it up. The holder lies at or below the channel's home. The live process `by` lies at or below the holder, and stands at the channel `at`.
 pub record IsWait {S : Type 0} (o : Ops S) (root : Node S) (w : Wait) : Type 0 where
   pub process : S
   pub in_tree : StandsAt o root w.path (Live process)
@@ -28,7 +28,7 @@ pub record IsWait {S : Type 0} (o : Ops S) (root : Node S) (w : Wait) : Type 0 w
   pub below : (r : Path) × (w.by ≡ w.holder ++ r)
   pub other_waits : StandsAtNext o other w.at
 
--- the wait of the process of this path at this channel, by the process f and the live process b, as far as there are these
+-- the wait of the process of path p at the channel c by the processes of the paths f and b, if b stands at a channel
 abbrev pub wait_by : Path → NamedChannel → Path → Path → Option NamedChannel → Option Wait
 wait_by p c f b None = None
 wait_by p c f b (Some d) = Some (record { path = p; chan = c; holder = f; by = b; at = d })
@@ -48,11 +48,11 @@ abbrev pub wait_at_next : {S : Type 0} → Ops S → Node S → Path → Option 
 wait_at_next o root p None = None
 wait_at_next o root p (Some c) = wait_held o p c (first_of (holds_up o c.channel) root)
 
--- The wait of a live process that waits at a `next`. The holder is the first process that holds it up. It waits for the leftmost live process at and below the holder.
+-- The wait of a live process, if it waits at a `next`. The holder is the first process that holds it up. The live process waits for the leftmost live process at and below the holder.
 abbrev pub wait_of_process : {S : Type 0} → Ops S → Node S → S → Option Wait
 wait_of_process o root l = wait_at_next o root (o.path l) (next_channel (o.stop l))
 
--- what is there
+-- the values in the list, in its order, without the places that have `None`
 abbrev pub present : {A : Type 0} → List (Option A) → List A
 present [] = []
 present (None ∷ xs) = present xs
@@ -62,6 +62,6 @@ present (Some x ∷ xs) = x ∷ present xs
 abbrev pub waits : {S : Type 0} → Ops S → Node S → List Wait
 waits o root = present (map (wait_of_process o root) (lives root))
 
--- why each live process waits, and the cycle that is reached from the first one
+-- the waits of all live processes, and the cycle that is reached from the first wait
 abbrev pub explained : {S : Type 0} → Ops S → Node S → Explained
 explained o root = record { waits = waits o root; cycle = cycle_of (waits o root) }

@@ -7,7 +7,8 @@ use shim_base::Path;
 use shim_local::Local;
 use shim_tree::{NodeRef, Tree};
 
-// The process to which these pairs of a path lead from this one, if there is one.
+// The node to which the branches of these pairs lead from this one, if there is one. The pairs' fork numbers don't
+// count.
 fn node_at<'a, L: Local>(node: NodeRef<'a, L>, pairs: &[(u32, u32)]) -> Option<NodeRef<'a, L>>
     ensures { result ≡ at (branches pairs.now) node.entry }
 {
@@ -20,7 +21,7 @@ fn node_at<'a, L: Local>(node: NodeRef<'a, L>, pairs: &[(u32, u32)]) -> Option<N
     }
 }
 
-// What is left of the pairs behind the first so many.
+// The pairs without the first `front` of them.
 fn behind(pairs: &[(u32, u32)], front: usize) -> &[(u32, u32)]
     requires { front ≤ length pairs.now }
     ensures { result.now ≡ drop front pairs.now }
@@ -35,7 +36,7 @@ fn is_of<L: Local>(process: &L, path: &Path) -> bool
     process.path() == path
 }
 
-/// The process of this path in the tree, if there is one. It takes no memory.
+/// The process of this path in the tree, if there is one. The look-up takes no memory.
 pub(crate) fn found_by<'a, L: Local>(tree: &'a Tree<L>, path: &Path) -> Option<NodeRef<'a, L>>
     requires sound { SoundBelow L.ops tree.now.root }
     ensures { result ≡ its_node L.ops tree.now.root path.now }

@@ -13,8 +13,8 @@ use shim_tree::Tree;
 use std::alloc::Global;
 use std::collections::BTreeMap;
 
-/// A process that waits at a channel, a process that holds it up there, and a live process at or below that one, with the channel
-/// at which it stands itself.
+/// A process that waits at a channel, a process that holds it up there, and a live process at or below that one, for
+/// which it waits, with the channel at which that live process stands.
 #[derive(Drop)]
 pub struct Wait {
     pub path: Path,
@@ -24,7 +24,8 @@ pub struct Wait {
     pub at: Chan,
 }
 
-/// Each process that waits, by path, and a cycle of waits: each path on it waits for the next, and the last one for the first.
+/// The waits of the live processes, and a cycle of these waits: each process on it waits for the next, and the last
+/// one for the first.
 #[derive(Drop)]
 pub struct Explained {
     pub waits: List<Wait>,
@@ -32,7 +33,8 @@ pub struct Explained {
 }
 
 /// Why each live process waits, in a tree in which nothing can happen and whose root has neither ended nor died, and
-/// the cycle of waits that is reached from the first of them. It goes over the tree once.
+/// the cycle of waits that is reached from the first of them. One walk over the tree finds the live processes and who
+/// holds them up.
 pub fn explain<L: Local>(alloc: Global, tree: &Tree<L>) -> Result<Explained, NoMemory>
     requires rests { IsQuiescent L.ops tree.now }
     requires goes { nodes.goes tree.now.root ≡ true }

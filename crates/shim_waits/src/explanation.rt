@@ -56,7 +56,7 @@ fn is_holder<L: Local>(tree: &Tree<L>, path: &Path, c: &Chan) -> bool
     }
 }
 
-// Whether the second path goes on from the first.
+// Whether the second path begins with the first, or is the first.
 fn goes_on(front: &Path, path: &Path) -> bool
     ensures { IsTrue result ↔ IsAtOrBelow front.now path.now }
 {
@@ -75,7 +75,7 @@ fn is_wait<L: Local>(tree: &Tree<L>, w: &Wait) -> bool
         && goes_on(&w.holder, &w.by)
 }
 
-// Whether each entry is one.
+// Whether each entry is a wait of the tree.
 fn are_waits<L: Local>(tree: &Tree<L>, waits: &[Wait]) -> bool
     requires sound { SoundBelow L.ops tree.now.root }
     ensures { IsTrue result ↔ AllOf (IsWait L.ops tree.now.root) waits.now }
@@ -157,7 +157,7 @@ fn waits_for(
     }
 }
 
-// Whether each process on the cycle waits for the next, and the last one for the first.
+// Whether there is a process on the cycle, each waits for the next, and the last one for the first.
 fn is_ring(index: &BTreeMap<Path, usize, Global>, waits: &[Wait], cycle: &[Path]) -> bool
     requires index { IsEntryIndex index.now waits.now }
     ensures { IsTrue result ↔ IsRing waits.now cycle.now }

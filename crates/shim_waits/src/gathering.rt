@@ -17,7 +17,7 @@ pub(crate) struct Holder {
     pub(crate) number: usize,
 }
 
-// Keeps the process for this channel, if it holds it up and none is kept for it yet.
+// Keeps the process for this channel, if it holds up whoever waits there and none is kept for the channel yet.
 fn keep_one<L: Local>(
     node: &NodeRef<'_, L>,
     number: usize,
@@ -37,7 +37,8 @@ fn keep_one<L: Local>(
     Ok(())
 }
 
-// Keeps it so for each channel that it was given. It can hold up nobody at another one.
+// Keeps the process so for each channel that it was given. In a sound tree it holds up no process at another channel
+// (law `blocked`).
 fn keep_given<L: Local>(
     node: &NodeRef<'_, L>,
     number: usize,

@@ -8,7 +8,7 @@ use shim_base::Chan;
 use shim_local::{Local, Stop};
 use shim_tree::NodeRef;
 
-// Whether the process stands at a channel, which is another one.
+// Whether the process stands at a channel, and that isn't `c`.
 fn is_elsewhere<L: Local>(process: &L, c: &Chan) -> bool
     ensures { result ≡ holding.is_elsewhere (L.ops.stop process.now) c.now.channel }
 {
@@ -47,8 +47,8 @@ fn any_child_shares<L: Local>(node: &NodeRef<'_, L>, c: &Chan) -> bool
     false
 }
 
-/// Whether the process holds up those that wait at the channel: it shares it, and lives and waits at another
-/// one, or has forked and no child that goes on shares it.
+/// Whether the process holds up those that wait at the channel: it shares the channel, and lives and waits at another
+/// one, or has forked and no child that goes on shares the channel.
 pub(crate) fn holds_up<L: Local>(node: &NodeRef<'_, L>, c: &Chan) -> bool
     ensures { result ≡ holding.holds_up L.ops c.now.channel node.now }
 {

@@ -6,7 +6,8 @@ use crate::explained::Wait;
 use shim_base::{List, NoMemory, Path};
 use std::alloc::Global;
 
-// The numbers that are passed from 0 on, where each leads to the one at its place, and the one that comes again.
+// The numbers that are passed from 0 on, where each leads to the one at its place in `next`, and the one that comes
+// again.
 fn follow(alloc: Global, next: &[usize]) -> Result<(Vec<usize>, usize), NoMemory>
     requires inside { AllBelow (length next.now) next.now }
     ensures ring { IfOk result (λ r. numbers_since r.1 (backwards (length r.0.items) r.0.items) [] ≡ number_ring (length next.now) next.now [] 0) }
@@ -26,7 +27,7 @@ fn follow(alloc: Global, next: &[usize]) -> Result<(Vec<usize>, usize), NoMemory
     Ok((passed, at))
 }
 
-// Where among these the last of that number stands, from which on they go round.
+// The last place of the number `again` among the passed ones, at which the ring begins; 0 where it isn't there.
 fn ring_place(passed: &[usize], again: usize) -> usize
     ensures inside { result ≤ length passed.now }
     ensures ring { drop result passed.now ≡ numbers_since again (backwards (length passed.now) passed.now) [] }
@@ -65,8 +66,8 @@ fn push_paths(waits: &[Wait], numbers: &[usize], paths: &mut List<Path>) -> Resu
     Ok(())
 }
 
-/// The paths of the cycle that is reached from the first of these waits, from the least one on, where each leads
-/// to the one at the number at its place.
+/// The paths of the cycle that is reached from the first of these waits, from the wait with the least number on. Each
+/// wait leads to that whose number `next` has at its place.
 pub(crate) fn cycle_of(
     alloc: Global,
     waits: &[Wait],

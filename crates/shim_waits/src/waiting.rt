@@ -12,7 +12,7 @@ use shim_local::{Local, Stop};
 use std::alloc::Global;
 use std::collections::BTreeMap;
 
-/// The channel at which the process stands.
+/// The channel at which the process stands, if it stands at one.
 pub(crate) fn stands_at<L: Local>(process: &L) -> Option<&Chan>
     ensures { option_copied result ≡ next_channel (L.ops.stop process.now) }
 {

@@ -12,7 +12,7 @@ use Rattle.shim_process.specs.Unwinding.{catching}
 use Rattle.shim_walk_frames.specs.FrameViews.{FrameView, exception_place_of}
 use Rattle.shim_walk_frames.specs.Depths.{shown, unit_stmts}
 use Rattle.shim_walk_frames.specs.Pieces.{left_all}
-use Rattle.shim_walk_frames.specs.Unwinding.{catching_in, serial_of, taking_in, untaken_behind, untaken_without, variable_of}
+use Rattle.shim_walk_frames.specs.Unwinding.{catching_in, serial_of, taking_in, untaken_after, untaken_without, variable_of}
 use Rattle.shim_walk_frames.proofs.Unwinds.{catches, caught_is, untaken_here}
 
 -- one more place of a frame
@@ -53,7 +53,7 @@ catches_here l top next i v y serial locations runs ef ey en el es er =
     let left : runs ≡ untaken_without (variable_of (slice_get top.places i)) l.untaken = er ∙ ap (λ s. without_some s l.untaken) es ∙ ap (λ z. untaken_without z l.untaken) ey in
     ap (λ f. record l { frame = f; locations = locations; untaken = runs }) own
     ∙ ap (λ (x : Locations). record l { frame = record l.frame { places = take i l.frame.places }; locations = x; untaken = runs }) (kept ∙ catches units top i v l.locations ∙ at_frame ef)
-    ∙ ap (λ rs. record l { frame = record l.frame { places = take i l.frame.places }; locations = catching_of l.frame; untaken = rs }) (left ∙ untaken_here units top i l.untaken ∙ ap (λ (f : Frame). untaken_behind (slice_get f.places i) l.untaken) (sym ef))
+    ∙ ap (λ rs. record l { frame = record l.frame { places = take i l.frame.places }; locations = catching_of l.frame; untaken = rs }) (left ∙ untaken_here units top i l.untaken ∙ ap (λ (f : Frame). untaken_after (slice_get f.places i) l.untaken) (sym ef))
     ∙ sym (ap (λ (m : LocalState). record m { frame = record l.frame { places = take i l.frame.places } }) (caught_is (slice_get l.frame.places i) v l.frame l))
   where
     catching_of : Frame → Locations

@@ -9,8 +9,8 @@ use Rattle.shim_walk_frames.specs.Pieces.{left_all}
 use Rattle.shim_walk_frames.proofs.Goes.{ends, one_place}
 
 -- behind the last number of a text nothing is left, from whichever
-pub both_behind : (body : List UStmt) (p q : ℕ) → size_all body ≤ p → size_all body ≤ q → left_all body p ≡ left_all body q
-both_behind body p q hp hq = ends body p hp ∙ sym (ends body q hq)
+pub both_after : (body : List UStmt) (p q : ℕ) → size_all body ≤ p → size_all body ≤ q → left_all body p ≡ left_all body q
+both_after body p q hp hq = ends body p hp ∙ sym (ends body q hq)
 
 -- where the same is left from two numbers, these are one, or both behind the last
 pub same_left : (body : List UStmt) (p q : ℕ) → left_all body p ≡ left_all body q → p ≢ q → (size_all body ≤ p) × (size_all body ≤ q)
@@ -32,13 +32,13 @@ same_left body p q e differ =
     one_out : p < size_all body → size_all body ≤ q → ⊥
     one_out lp lq =
         let hp : p ≤ size_all body = omega arith in
-        let z = one_place body p (size_all body) hp least (e ∙ both_behind body q (size_all body) lq least) in
+        let z = one_place body p (size_all body) hp least (e ∙ both_after body q (size_all body) lq least) in
         omega arith
 
     other_out : size_all body ≤ p → q < size_all body → ⊥
     other_out lp lq =
         let hq : q ≤ size_all body = omega arith in
-        let z = one_place body (size_all body) q least hq (both_behind body (size_all body) p least lp ∙ e) in
+        let z = one_place body (size_all body) q least hq (both_after body (size_all body) p least lp ∙ e) in
         omega arith
 
 module _ {A B : Type 0} (f : A → B) where

@@ -8,7 +8,7 @@ use Rattle.shim_process.specs.Forks.{child, lending}
 use Rattle.shim_locations.specs.declared.argument_fault.ArgumentFault.{ArgumentFault}
 use Rattle.shim_locations.specs.declared.argument_fault.ArgumentFault.TheVariants as fault
 
--- The children of the branches from number `i` on. `l` is the process before the fork, and `remainder` is what the branches before number `i` have left of it.
+-- The children of the branches from number `i` on, or the first trap of their arguments. `l` is the process before the fork, in which the arguments are computed. `remainder` is what the branches before number `i` have left of it.
 abbrev pub children_made : LocalState → LocalState → ℕ → List UBranch → Result (List LocalState) Trap
 children_made l remainder i [] = Ok []
 children_made l remainder i (b ∷ branches) =

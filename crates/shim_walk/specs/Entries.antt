@@ -1,4 +1,4 @@
--- What is made for a call: the frame of the called unit, and the locations that come behind the others.
+-- What is made for a call: the frame of the called unit, and the locations that come after the others.
 use Rattle.std.specs.Prelude.{◌≡◌, ℕ, ◌+◌, List, ◌++◌, length, slice_get}
 use Rattle.shim_base.specs.Paths.{Path}
 use Rattle.shim_units.specs.declared.unit.Unit.{Unit as UnitOf}

@@ -14,7 +14,7 @@ abbrev pub trapped_at_of : Option CodeTrappedAt → Option TrappedAt
 trapped_at_of None = None
 trapped_at_of (Some s) = Some (record { kind = s.kind; line = s.line })
 
--- of a process in units of this program
+-- the state of a process in the units of this program, from what the code keeps
 abbrev pub state_of : Path → ℕ → ℕ → ℕ → List SerialRun → List NamedChannel → FrameView → List FrameView → Locations → Option ℕ → Bool → Option CodeTrappedAt → Form → List ℕ → LocalState
 state_of path base made forks untaken given top callers locations input_at holds_output trap program input = record {
   path = path;

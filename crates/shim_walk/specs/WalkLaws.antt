@@ -1,4 +1,4 @@
--- The laws of a process hold of each state of a walk.
+-- The laws of a process, which the type `Walk` gives to the trait `Local`.
 use Rattle.shim_local.specs.Laws.{LocalLaws}
 use Rattle.shim_process.specs.Ops.{process_ops}
 use Rattle.shim_process.proofs.AllLaws.{process_laws}

@@ -8,7 +8,7 @@ use shim_walk_frames::successors::Successor;
 pub enum Action {
     Go(Successor),
     Store(u32, i64),
-    /// The second part of the statement comes next.
+    /// The value is stored, and the second part of the statement comes next.
     StoreFirst(u32, i64),
     /// The slot gets a new location, on a new channel.
     Make(Ty, u32, i64),
@@ -20,6 +20,6 @@ pub enum Action {
     /// this slot, where it has one.
     Install(u32, u32, Option<u32>),
     Trapped(Trap),
-    /// It isn't quiet.
+    /// No action: the statement isn't quiet, or there is no statement.
     Wait,
 }

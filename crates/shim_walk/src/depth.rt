@@ -19,7 +19,8 @@ use shim_walk_frames::frame::Frame;
 use shim_walk_frames::successors::Successor;
 use shim_walk_frames::text::text_of;
 
-/// Past the ends of called units, whose locations go.
+/// Goes past the ends of called units: as long as the innermost unit is over and has a caller, its locations are
+/// dropped, and the caller goes on after its call.
 #[tactic(auto, using(shim_walk_frames::proofs::Returns::stays_in, shim_walk_frames::proofs::Returns::ends_here, shim_walk_frames::proofs::Returns::comes_back, shim_walk_frames::proofs::Returns::text_fits))]
 pub fn settle(units: &[Unit], top: &mut Frame, callers: &mut CallStack, locations: &mut Locations)
     requires fit { AllFit units.now }
@@ -39,7 +40,7 @@ pub fn settle(units: &[Unit], top: &mut Frame, callers: &mut CallStack, location
     }
 }
 
-/// On from a statement, with the ends that follow.
+/// Goes on from the statement at which the innermost frame stands to this successor, and past the ends that follow.
 #[tactic(auto, using(shim_walk_frames::proofs::Returns::text_fits))]
 pub fn go_on(
     units: &[Unit],
@@ -75,8 +76,8 @@ fn handle(units: &[Unit], top: &mut Frame, place: u32) -> Option<HandlerVariable
     top.handle(text_of(units, unit), index as usize)
 }
 
-/// The number is kept in a handler's variable, on the channel that its `try` made for it. Gives the serial
-/// number of that one.
+/// The number is kept in the handler's variable, where there is one, on the channel that its `try` made for it. Gives
+/// the serial number of that channel.
 pub fn keep(
     locations: &mut Locations,
     slots: &[usize],
@@ -116,8 +117,9 @@ fn exit_frames(top: &mut Frame, callers: &mut CallStack, locations: &mut Locatio
     }
 }
 
-/// At the handler of an exception place, counted from the outermost of the process, which is given the
-/// number. Gives the serial number of the channel that its variable is on, where it has one.
+/// Goes to the handler of an exception place, which is counted from the outermost of the process. The handler's
+/// variable, where it has one, gets the number. Gives the serial number of the variable's channel, where there is a
+/// variable.
 pub fn unwind_to(
     units: &[Unit],
     top: &mut Frame,

@@ -17,7 +17,7 @@ use shim_walk_frames::text::{declared_of, text_of};
 use std::alloc::Global;
 use std::sync::Arc;
 
-/// A called unit at its first statement, its locations, and how many channels its caller has made then.
+/// A called unit at its first statement, its locations, and how many channels the process has made then.
 #[derive(Drop)]
 pub struct EnteredUnit {
     pub top: Frame,

@@ -37,7 +37,7 @@ pub fn first_frame(
     Ok(Frame::enter(alloc, unit, cursor, slots, labels, 0, 0))
 }
 
-/// One label after the other for each name.
+/// A label for each name, one after the other, from `first` on.
 pub fn labels_from(alloc: Global, first: u32, names: &[u32]) -> Result<List<u32>, NoMemory>
     ensures { IfOk result (λ labels. labels ≡ labels_from first names.now) }
 {
@@ -50,7 +50,7 @@ pub fn labels_from(alloc: Global, first: u32, names: &[u32]) -> Result<List<u32>
     Ok(labels)
 }
 
-/// The branches of the fork that a statement is.
+/// The branches of the fork that a statement is; none of another statement, or where there is none.
 pub fn branches_of(stmt: Option<&UStmt>) -> &[UBranch]
     ensures { result.now ≡ stmt_branches (option_copied stmt.entry) }
 {

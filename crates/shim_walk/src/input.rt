@@ -2,7 +2,7 @@
 ghost use Rattle.std.specs.Prelude.{◌≡◌, slice_get};
 ghost use Rattle.shim_process.specs.Steps as step;
 
-/// The next byte, or -1 where the input is over or elsewhere.
+/// The next byte, or -1 where the input is over or the process doesn't have it.
 pub fn next_byte(at: Option<usize>, input: &[u8]) -> i64
     ensures { result ≡ step.next_byte at input.now }
 {
@@ -21,7 +21,8 @@ fn byte_at(at: usize, input: &[u8]) -> i64
     }
 }
 
-/// How far it is read behind that byte.
+/// How many bytes of the input were read once `next_byte` gave its byte. At the end of the input the count stays;
+/// where the process doesn't have the input there is none.
 pub fn read_on(at: Option<usize>, input: &[u8]) -> Option<usize>
     ensures { result ≡ step.read_on at input.now }
 {

@@ -36,7 +36,7 @@ pub struct StatementContext<'a> {
     pub units: &'a [Unit],
     pub unit: u32,
     pub halfway: bool,
-    /// It can make no more channels and do no more forks.
+    /// The process can make no more channels and do no more forks.
     pub full: bool,
     /// No more calls can be in force.
     pub deep: bool,
@@ -77,7 +77,7 @@ fn enter(alloc: Global, call: &UCall, context: &StatementContext<'_>) -> Result<
     Ok(Action::Enter(call.unit, given, labels))
 }
 
-// What a statement asks for; a block and an end ask for nothing.
+// What a statement asks for. A `next`, a `put`, a `throw`, a fork and a block ask for `Wait`.
 fn what_action(
     alloc: Global,
     stmt: &UStmt,
@@ -110,7 +110,7 @@ fn what_action(
     }
 }
 
-// The assignment of `next x = e`.
+// The assignment of `next x = e`, or `Wait` where it is done.
 fn first_part(slot: u32, expr: &UExpr, context: &StatementContext<'_>) -> Action
     ensures { action_of result ≡ if context.now.halfway then step.Wait else step.action (step.StoreFirst slot) (value expr.now (env_of context.now.locations.now context.now.slots.now)) }
 {
@@ -121,7 +121,7 @@ fn first_part(slot: u32, expr: &UExpr, context: &StatementContext<'_>) -> Action
     }
 }
 
-// The assignment of `x = next y`.
+// The assignment of `x = next y`, or `Wait` before the rendezvous.
 fn second_part(slot: u32, other: u32, context: &StatementContext<'_>) -> Action
     ensures { action_of result ≡ if context.now.halfway then step.Store slot (env_of context.now.locations.now context.now.slots.now other) else step.Wait }
 {
@@ -132,7 +132,7 @@ fn second_part(slot: u32, other: u32, context: &StatementContext<'_>) -> Action
     }
 }
 
-// A `try`.
+// What a `try` asks for: its exception comes into force, or, where the process is full, the trap `Depth`.
 fn install(exception: u32, slot: Option<u32>, context: &StatementContext<'_>) -> Action
     ensures { action_of result ≡ step.limited context.now.full (step.Install exception (step.try_name (unit_or (slice_get context.now.units.now context.now.unit)) exception) slot) }
 {
@@ -147,7 +147,7 @@ fn install(exception: u32, slot: Option<u32>, context: &StatementContext<'_>) ->
     }
 }
 
-/// What the statement of a number asks for, if there is one.
+/// What a statement asks for; `Wait` where there is no statement.
 pub fn next_action(
     alloc: Global,
     stmt: Option<&UStmt>,

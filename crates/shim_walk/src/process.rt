@@ -250,8 +250,8 @@ impl Process {
         self.top.places().len()
     }
 
-    /// At the statement of this number, or at its second part, with so many of the unit's outermost
-    /// exception places.
+    /// Puts the process at the statement of this number in its innermost unit, or at its second part, with `kept` of
+    /// the unit's outermost exception places.
     pub fn rest(&mut self, number: u32, halfway: bool, kept: usize)
         ensures { self.new ≡ resting number halfway kept self.old }
     {
@@ -312,7 +312,7 @@ impl Process {
         self.input_at = read_on(self.input_at, self.input.as_slice());
     }
 
-    /// The slot's location is on a new channel. A refusal changes nothing.
+    /// The slot gets a new location, on a new channel, in which this value is stored. A refusal changes nothing.
     #[tactic(auto, unfolding(shim_process::specs::LocalState::unit_at))]
     pub fn make(&mut self, ty: Ty, slot: u32, value: i64) -> Result<(), NoMemory>
         ensures ok { OnOk result (self.new ≡ made_in ty slot value self.old) }
@@ -327,7 +327,7 @@ impl Process {
         Ok(())
     }
 
-    // The variable of a handler in this slot, on a channel that would be the next.
+    // The variable of a handler in this slot, on the channel that the process would make next.
     #[tactic(auto, unfolding(shim_process::specs::LocalState::unit_at))]
     fn variable_in(&self, slot: u32) -> Result<HandlerVariable, NoMemory>
         ensures { IfOk result (λ variable. variable ≡ variable_in slot self.now) }
@@ -423,7 +423,7 @@ impl Process {
         }
     }
 
-    // Past the ends of units.
+    // Goes past the ends of called units.
     fn settle(&mut self)
         ensures { self.new ≡ settled self.old.callers self.old.frame self.old }
     {
@@ -540,8 +540,8 @@ impl Process {
         stmt_thrown(self.stmt(), &self.context())
     }
 
-    /// The number of the throw at which it stands, where it goes on standing. Where the expression traps,
-    /// there is none, and the process stands trapped.
+    /// The number of the throw at which it stands; it stays at the throw. Where the expression traps, there is no
+    /// number, and the process stands trapped.
     #[tactic(auto, unfolding(shim_process::specs::Stops::throw_evaluated, shim_process::specs::Stops::thrown_number))]
     pub fn thrown(&mut self) -> Option<i64>
         ensures number { result ≡ thrown_number self.old }
@@ -563,7 +563,8 @@ impl Process {
         receiver_at(self.stmt())
     }
 
-    /// The rendezvous at which it waits gave this value; on from it.
+    /// The rendezvous at which it waits gave this value. It is stored, and the process goes on, or to the second part
+    /// of its statement. Where the statement has no rendezvous nothing changes.
     pub fn receive(&mut self, v: i64)
         ensures { self.new ≡ receive self.old v }
     {
@@ -616,7 +617,7 @@ impl Process {
         is_among(self.given.as_slice(), c) || declared(&self.path, self.made, &self.untaken, c)
     }
 
-    /// Whether the channel's own variable is one of its own.
+    /// Whether one of its locations is the channel's own variable.
     #[tactic(auto, unfolding(shim_process::specs::Sharers::carries))]
     pub fn carries(&self, c: &Chan) -> bool
         ensures { result ≡ carries self.now c.now.channel }
@@ -624,7 +625,7 @@ impl Process {
         own_of(self.locations.as_slice(), c).is_some()
     }
 
-    /// The value of the channel's own variable, where it carries that.
+    /// The value of the channel's own variable, where the process carries the channel, and else 0.
     #[tactic(auto, unfolding(shim_process::specs::Sharers::channel_value))]
     pub fn value(&self, c: &Chan) -> i64
         ensures { result ≡ channel_value self.now c.now.channel }
@@ -687,7 +688,7 @@ impl Process {
         branches_of(self.stmt())
     }
 
-    /// 64 forks are on the way from the root.
+    /// At least 64 forks lead from the root to the process.
     pub fn is_far(&self) -> bool
         ensures { result ≡ is_far self.now }
     {
@@ -705,9 +706,9 @@ impl Process {
         }
     }
 
-    /// The child of this place in a fork, at the first statement of the unit, with these arguments, where
-    /// the branches before have left so much. The unit's exceptions have the labels that these have in the
-    /// innermost unit.
+    /// The child of this place in a fork, at the first statement of the unit, with these arguments. `remainder` is
+    /// what the branches before have left of the process. The unit's exceptions have the labels that the exceptions
+    /// `throws` have in the innermost unit.
     pub fn child(
         &self,
         remainder: &Remainder,
@@ -773,7 +774,7 @@ impl Process {
         )
     }
 
-    // A branch takes its arguments of what is left.
+    // A branch takes its arguments of what is left, and the streams that its unit takes.
     fn lend_branch(&self, remainder: &mut Remainder, branch: &UBranch) -> Result<(), NoMemory>
         ensures { OnOk result (remainder_of self.now remainder.new ≡ lending (remainder_of self.now remainder.old) branch.now) }
     {
@@ -869,7 +870,9 @@ impl Process {
         self.input_at
     }
 
-    /// The location of this number comes back from a child that took the location of the slot by reference.
+    /// The value of the child's location of this number comes back into the slot's location, which the child took by
+    /// reference. The ownership comes back, too, where it was lent. Where one of the two locations isn't there
+    /// nothing changes.
     pub fn restore_from(&mut self, slot: u32, child: &Process, number: usize)
         ensures { self.new ≡ record self.old { locations = slice_set self.old.locations (number_of self.old.frame.slots slot) (with_back (at_number child.now.locations number) (at_number self.old.locations (number_of self.old.frame.slots slot))) } }
     {
@@ -938,8 +941,8 @@ impl Process {
         })
     }
 
-    // Whether the other process came from the same fork with the same channels, and made and forked as
-    // much since.
+    // Whether both have the same path, base, given channels and untaken serial numbers, made as many channels and did
+    // as many forks.
     fn same_origin(&self, other: &Process) -> bool
         ensures { IsTrue result ↔ ((self.now.path ≡ other.now.path) × (self.now.base ≡ other.now.base) × (self.now.made ≡ other.now.made) × (self.now.forks ≡ other.now.forks) × (self.now.untaken ≡ other.now.untaken) × (self.now.given ≡ other.now.given)) }
     {
@@ -978,8 +981,8 @@ impl Process {
             && self.input.as_slice() == other.input.as_slice()
     }
 
-    /// Whether the other process is in the same state. Takes no memory. Where all else is the same it takes time
-    /// for the input, and for the program's text, or for all its units where the two don't keep the same.
+    /// Whether the other process is in the same state. Takes no memory. Where all else is the same it takes time for
+    /// the input and for the program: for its text, or for all its units where the two don't keep the same text.
     #[tactic(auto, using(crate::proofs::SameStates::one_state))]
     pub fn same(&self, other: &Process) -> bool
         ensures { IsTrue result ↔ (self.now ≡ other.now) }
@@ -990,7 +993,7 @@ impl Process {
             && self.same_sources(other)
     }
 
-    /// On from the statement at which it stands, with the ends that follow.
+    /// Goes on from the statement at which it stands to this successor, and past the ends that follow.
     fn go(&mut self, successor: Successor)
         ensures { self.new ≡ gone (successor_of successor) self.old }
     {

@@ -19,7 +19,7 @@ fn what_put(stmt: &UStmt, context: &StatementContext<'_>) -> Result<i64, Trap>
     }
 }
 
-/// The number that is put, or the trap.
+/// The number that a `put` puts, or the trap; 0 of another statement, or where there is none.
 pub fn stmt_put(stmt: Option<&UStmt>, context: &StatementContext<'_>) -> Result<i64, Trap>
     ensures { result ≡ stmt_put (option_copied stmt.entry) (context_view context.now) }
 {

@@ -15,7 +15,7 @@ pub enum Receiver {
     Whole(u32),
     /// The statement's second part comes then.
     First(u32),
-    /// It meets nobody.
+    /// The statement has no rendezvous, or there is no statement.
     Nothing,
 }
 
@@ -30,7 +30,7 @@ fn what_receiver(stmt: &UStmt) -> Receiver
     }
 }
 
-/// The receiver of a statement, if there is one.
+/// The receiver of a statement; `Nothing` where there is no statement.
 pub fn receiver_at(stmt: Option<&UStmt>) -> Receiver
     ensures { (v : ℤ) (l : LocalState) → received result v l ≡ stmt_receive (option_copied stmt.entry) v l }
 {

@@ -14,8 +14,8 @@ use shim_walk_frames::handler::Handler;
 use shim_walk_frames::successors::size_all;
 use shim_walk_frames::text::text_of;
 
-// Whether the same is left to do from two numbers of a text: nothing is from each behind its last.
-#[tactic(auto, using(crate::proofs::SamePlaces::both_behind, crate::proofs::SamePlaces::same_left))]
+// Whether the same is left to do from two numbers of a text. From each number past its last one nothing is left.
+#[tactic(auto, using(crate::proofs::SamePlaces::both_after, crate::proofs::SamePlaces::same_left))]
 fn same_place(body: &[UStmt], one: u32, other: u32) -> bool
     requires { size_all body.now < 2 ^ 32 }
     ensures { IsTrue result ↔ (left_all body.now one ≡ left_all body.now other) }
@@ -27,7 +27,7 @@ fn same_place(body: &[UStmt], one: u32, other: u32) -> bool
     size <= one && size <= other
 }
 
-// Whether they are the same exception place of a text.
+// Whether the two handlers are the same exception place of a text.
 fn same_handler(body: &[UStmt], one: &Handler, other: &Handler) -> bool
     requires { size_all body.now < 2 ^ 32 }
     ensures { IsTrue result ↔ (exception_place_of body.now one.now ≡ exception_place_of body.now other.now) }
@@ -68,7 +68,7 @@ fn same_places(body: &[UStmt], one: &[Handler], other: &[Handler]) -> bool
     remainder.is_empty()
 }
 
-// Whether they have the same slots and labels, and the same floor and outer places.
+// Whether the two frames have the same slots and labels, the same floor and as many outer places.
 fn same_holdings(one: &Frame, other: &Frame) -> bool
     ensures { IsTrue result ↔ ((one.now.slots ≡ other.now.slots) × (one.now.labels ≡ other.now.labels) × (one.now.floor ≡ other.now.floor) × (one.now.outer ≡ other.now.outer)) }
 {
@@ -78,7 +78,7 @@ fn same_holdings(one: &Frame, other: &Frame) -> bool
         && one.outer() == other.outer()
 }
 
-/// Whether they are the same in a program of these units.
+/// Whether the two frames are the same in a program of these units.
 #[tactic(auto, using(shim_walk_frames::proofs::Returns::text_fits))]
 pub fn same_frame(units: &[Unit], one: &Frame, other: &Frame) -> bool
     requires { AllFit units.now }
@@ -94,7 +94,7 @@ pub fn same_frame(units: &[Unit], one: &Frame, other: &Frame) -> bool
     same_place(body, one.at(), other.at()) && same_places(body, one.places(), other.places())
 }
 
-// Whether they are the same, one by one.
+// Whether the two lists of frames are the same, one by one, in a program of these units.
 fn same_frames(units: &[Unit], one: &[Frame], other: &[Frame]) -> bool
     requires { AllFit units.now }
     ensures { IsTrue result ↔ (map (shown units.now) one.now ≡ map (shown units.now) other.now) }

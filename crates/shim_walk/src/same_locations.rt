@@ -21,7 +21,7 @@ fn same_location(one: &Location, other: &Location) -> bool
         && one.chan().same(other.chan())
 }
 
-// Whether both are empty, or they are the same.
+// Whether both are empty, or both have the same location.
 fn same_option(one: &Option<Location>, other: &Option<Location>) -> bool
     ensures { IsTrue result ↔ (one.now ≡ other.now) }
 {
@@ -32,7 +32,7 @@ fn same_option(one: &Option<Location>, other: &Option<Location>) -> bool
     }
 }
 
-/// Whether they are the same, one by one.
+/// Whether the two lists of locations are the same, one by one.
 pub fn same_locations(one: &[Option<Location>], other: &[Option<Location>]) -> bool
     ensures { IsTrue result ↔ (one.now ≡ other.now) }
 {

@@ -10,7 +10,7 @@ fn same_run(one: SerialRun, other: SerialRun) -> bool
     one.first == other.first && one.more == other.more
 }
 
-// Whether they are the same, one by one.
+// Whether the two lists of runs are the same, one by one.
 fn same_slices(one: &[SerialRun], other: &[SerialRun]) -> bool
     ensures { IsTrue result ↔ (one.now ≡ other.now) }
 {

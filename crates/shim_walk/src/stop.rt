@@ -15,7 +15,7 @@ use shim_local::Stop;
 use shim_locations::locations::{location_at, number_of};
 use shim_units::{UBranch, UStmt, UWhat};
 
-/// At a `next` of a variable.
+/// The stop at a `next` of the variable in this slot; the end where the slot has no location.
 pub fn next_of<'a>(context: &StatementContext<'a>, slot: u32) -> Stop<'a>
     ensures { stop_view result ≡ stops.at_next (location_of context.now.locations.now context.now.slots.now slot) }
 {
@@ -25,7 +25,7 @@ pub fn next_of<'a>(context: &StatementContext<'a>, slot: u32) -> Stop<'a>
     }
 }
 
-// At the meeting behind an assignment, or at the assignment.
+// The stop at `next x = e`: quiet before the assignment, and at the meeting after it.
 fn meets_second<'a>(context: &StatementContext<'a>, slot: u32) -> Stop<'a>
     ensures { stop_view result ≡ if context.now.halfway then stops.at_next (location_of context.now.locations.now context.now.slots.now slot) else AtQuiet }
 {
@@ -36,7 +36,7 @@ fn meets_second<'a>(context: &StatementContext<'a>, slot: u32) -> Stop<'a>
     }
 }
 
-// At the meeting before an assignment, or at the assignment.
+// The stop at `x = next y`: at the meeting, and quiet once it is done, before the assignment.
 fn meets_first<'a>(context: &StatementContext<'a>, slot: u32) -> Stop<'a>
     ensures { stop_view result ≡ if context.now.halfway then AtQuiet else stops.at_next (location_of context.now.locations.now context.now.slots.now slot) }
 {
@@ -47,7 +47,7 @@ fn meets_first<'a>(context: &StatementContext<'a>, slot: u32) -> Stop<'a>
     }
 }
 
-/// At a `put`, if the process has the output.
+/// The stop at a `put`, if the process has the output, and else the end.
 pub fn at_put<'a>(holds_output: bool) -> Stop<'a>
     ensures { stop_view result ≡ stops.at_put holds_output }
 {
@@ -58,7 +58,7 @@ pub fn at_put<'a>(holds_output: bool) -> Stop<'a>
     }
 }
 
-// At a fork, if it has branches.
+// The stop at a fork, if it has branches, and else the end.
 fn at_fork<'a>(branches: &[UBranch]) -> Stop<'a>
     ensures { stop_view result ≡ stops.at_fork branches.now }
 {
@@ -84,7 +84,7 @@ fn what_stop<'a>(stmt: &UStmt, context: &StatementContext<'a>) -> Stop<'a>
     }
 }
 
-/// At the statement of a number, or at the end.
+/// The stop at a statement, or the end where there is none.
 pub fn stop_at<'a>(stmt: Option<&UStmt>, context: &StatementContext<'a>) -> Stop<'a>
     requires { context.now.first + length context.now.places.now < 2 ^ 32 }
     ensures { stop_view result ≡ stops.stmt_stop (option_copied stmt.entry) (context_view context.now) }

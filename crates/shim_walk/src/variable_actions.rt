@@ -15,7 +15,7 @@ use shim_locations::value::evaluate;
 use shim_scopes::UExpr;
 use shim_walk_frames::successors::Successor;
 
-/// A declaration; an absent start is 0.
+/// What a declaration asks for; an absent start is 0. A full process is trapped, after the start is computed.
 pub fn declare_action(
     ty: Ty,
     slot: u32,
@@ -82,7 +82,7 @@ fn tested(value: Result<i64, Trap>, other: Successor) -> Action
     }
 }
 
-/// A test, which leads elsewhere where it is 0.
+/// What a test asks for: a 0 leads to the successor `other`, and another number into the first block.
 pub fn test(
     other: Successor,
     expr: &UExpr,

@@ -14,8 +14,7 @@ use shim_units::Accepted;
 use std::alloc::Global;
 use std::marker::Model;
 
-/// A process over the syntax of its units. Contracts see its state, and its type keeps that this is a
-/// state which a process comes to.
+/// A process over the syntax of its units. Contracts see its state, and its type keeps that this state is sound.
 #[derive(Drop)]
 pub struct Walk {
     process: Process,
@@ -49,7 +48,7 @@ impl Walk {
         Ok(Walk::of(Process::main(alloc, program, input)?))
     }
 
-    // The process in a state that one comes to.
+    // The process, whose state is sound.
     fn of(process: Process) -> Walk
         requires { Sound process }
         ensures { result ≡ process }
@@ -185,7 +184,7 @@ impl Local for Walk {
         Ok(Walk::of(self.process.copy()?))
     }
 
-    // of a small program
+    // the cost for a process of a small program
     fn hand_over_cost(&self) -> u64 {
         200
     }
@@ -193,7 +192,7 @@ impl Local for Walk {
     ghost laws = { walk_laws };
 }
 
-// The processes, each in a state that one comes to.
+// The processes, whose states are sound.
 fn walks(processes: List<Process>) -> Result<List<Walk>, NoMemory>
     requires { AllOf Sound processes }
     ensures { IfOk result (λ walks. walks ≡ processes) }

@@ -9,11 +9,11 @@ use Rattle.shim_process.specs.Ends.{went, is_over}
 use Rattle.shim_walk_frames.specs.FrameViews.{FrameView, frame_of}
 use Rattle.shim_walk_frames.specs.Successors.{size_all}
 
--- the text of a unit
+-- the text of the unit of this number, or the empty text where no unit has it
 abbrev pub unit_stmts : List UnitOf → ℕ → List UStmt
 unit_stmts units n = (unit_or (slice_get units n)).body
 
--- a frame, in a program of these units
+-- the frame that the view shows in a program of these units
 abbrev pub shown : List UnitOf → FrameView → Frame
 shown units s = frame_of (unit_stmts units s.unit) s
 
@@ -23,7 +23,7 @@ pub record Depth : Type 0 where
   pub callers : List Frame
   pub locations : Locations
 
--- the frames and the locations after returns from the innermost frame, as long as nothing is left to do in it
+-- the frames and the locations after returns from the innermost frame, as long as nothing is left to do in it and it has a caller
 abbrev pub returned : List Frame → Frame → Locations → Depth
 returned [] f locations = record { frame = f; callers = []; locations = locations }
 returned (caller ∷ callers) f locations =

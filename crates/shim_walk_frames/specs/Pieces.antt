@@ -5,14 +5,14 @@ use Rattle.shim_units.specs.declared.unit.UWhat.{UWhat, UWhat-F}
 use Rattle.shim_process.specs.Todo.{Item, Do, Leave, items}
 use Rattle.shim_walk_frames.specs.Successors.{Successors, none, one_successor, in_sequence, two, loop_successors, successors}
 
--- A piece of text: its numbers, what is to be done for it where its first number is this, what is left to do from a number on, counted within it, with what comes behind it, and the statement of a number.
+-- A piece of text, with its numbers and their successors. `items` is what is to be done for the piece, from its first number. `left` is what is left to do, from the piece's first number, a number counted within the piece, and what comes after the piece. `at` is the statement of a number counted within the piece.
 pub record StmtPiece : Type 0 where
   pub successors : Successors
   pub items : ℕ → List Item
   pub left : ℕ → ℕ → List Item → List Item
   pub at : ℕ → Option UStmt
 
--- the ends of so many `try` blocks
+-- the ends of n `try` blocks, and k after them
 abbrev pub leaves : ℕ → List Item → List Item
 leaves zero k = k
 leaves (suc n) k = Leave ∷ leaves n k
@@ -111,7 +111,7 @@ piece s = whole_piece (successors s) (items s) (stmt_part_of s)
 abbrev pub piece_all : List UStmt → StmtPiece
 piece_all ss = block_piece (map piece ss)
 
--- the statement of a number
+-- the statement of a number that is counted within a statement
 abbrev pub stmt_at : UStmt → ℕ → Option UStmt
 stmt_at s = (stmt_part_of s).at
 

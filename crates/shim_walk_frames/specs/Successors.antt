@@ -6,7 +6,7 @@ use Rattle.shim_walk_frames.specs.declared.successors.Successor.{Successor}
 use Rattle.shim_walk_frames.specs.declared.successors.Successor.TheVariants.{On, First, Second}
 use Rattle.shim_walk_frames.specs.declared.successors.Position.{Position}
 
--- how many numbers a piece of text takes, and for each successor of one of them the next, with the `try` blocks that end between
+-- how many numbers a piece of text takes, and the position of each successor of each of these numbers
 pub record Successors : Type 0 where
   pub size : ℕ
   pub go : Successor → ℕ → Position
@@ -19,7 +19,7 @@ to n u = record { at = n; left = u }
 abbrev pub shifted : ℕ → Position → Position
 shifted n p = to (n + p.at) p.left
 
--- the position in a block that begins at `from`, or `past` where the block is over
+-- the position p in a block of this size that begins at `from`; where the block is over it is `past`, with the count of ended `try` blocks of p added
 abbrev pub inside : ℕ → ℕ → Position → Position → Position
 inside from size past p = if nat_lt p.at size then shifted from p else to past.at (past.left + p.left)
 
@@ -34,7 +34,7 @@ none = record { size = 0; go = λ c n. to 0 0 }
 abbrev pub one_successor : Successors
 one_successor = record { size = 1; go = λ c n. to 1 0 }
 
--- one piece behind the other
+-- the position of a successor of a number in two pieces, the second after the first
 abbrev pub joined_go : Successors → Successors → Successor → ℕ → Position
 joined_go a b c n = if nat_lt n a.size then a.go c n else shifted a.size (b.go c (n - a.size))
 
@@ -46,7 +46,7 @@ abbrev block : List Successors → Successors
 block [] = none
 block (w ∷ ws) = in_sequence w (block ws)
 
--- from a statement of two blocks of these sizes, where so many `try` blocks end behind the first one
+-- the position of a successor of a statement of two blocks, with sizes a and b, where u `try` blocks end after the first
 abbrev pub two_start : ℕ → ℕ → ℕ → Successor → Position
 two_start u a b On = to (1 + a + b) 0
 two_start u a b First = into 1 a (to (1 + a + b) u)
@@ -63,7 +63,7 @@ two_go u a b c (suc n) =
 abbrev pub two : ℕ → Successors → Successors → Successors
 two u a b = record { size = 1 + a.size + b.size; go = two_go u a b }
 
--- from the test of a loop with a body of this size, which leads back to the test
+-- the position of a successor of a loop's test, where the body has size a and leads back to the test
 abbrev pub loop_start : ℕ → Successor → Position
 loop_start a On = to (1 + a) 0
 loop_start a First = into 1 a (to 0 0)

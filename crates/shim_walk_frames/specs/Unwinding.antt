@@ -10,7 +10,7 @@ use Rattle.shim_walk_frames.specs.declared.handler.Handler.{Handler}
 use Rattle.shim_walk_frames.specs.FrameViews.{FrameView}
 use Rattle.shim_walk_frames.specs.Depths.{Depth, returned}
 
--- what a handler's variable changes of the locations, in a frame of these slots
+-- the locations after a handler's variable, where there is one, got the number v, in a frame of these slots
 abbrev pub taking_in : Option HandlerVariable → ℤ → List ℕ → Locations → Locations
 taking_in None v slots locations = locations
 taking_in (Some y) v slots locations = slice_set locations (number_of slots y.slot) (Some (caught_location y.channel v))
@@ -27,19 +27,19 @@ unwound_in (caller ∷ callers) f n v locations =
     if nat_lt n f.outer then unwound_in callers caller n v (take f.floor locations)
     else returned (caller ∷ callers) (handling (slice_get f.places (n - f.outer)) (n - f.outer) f) (catching_in (slice_get f.places (n - f.outer)) v f locations)
 
--- the serial number of a handler's variable
+-- the serial number of the channel of a handler's variable, where there is a variable
 abbrev pub serial_of : Option HandlerVariable → Option ℕ
 serial_of None = None
 serial_of (Some y) = Some y.channel.channel.serial
 
--- the runs of serial numbers without the number of a handler's variable
+-- the runs of serial numbers without that of the channel of the handler's variable, where there is a variable
 abbrev pub untaken_without : Option HandlerVariable → List SerialRun → List SerialRun
 untaken_without y runs = without_some (serial_of y) runs
 
--- the serial numbers that no handler has taken, behind a catch at this place
-abbrev pub untaken_behind : Option ExceptionPlace → List SerialRun → List SerialRun
-untaken_behind None runs = runs
-untaken_behind (Some p) runs = untaken_without p.variable runs
+-- the runs of serial numbers that no handler has taken, after a catch at this place
+abbrev pub untaken_after : Option ExceptionPlace → List SerialRun → List SerialRun
+untaken_after None runs = runs
+untaken_after (Some p) runs = untaken_without p.variable runs
 
 -- the variable of a handler in force
 abbrev pub variable_of : Option Handler → Option HandlerVariable

@@ -10,7 +10,7 @@ use shim_base::{List, NoMemory};
 use std::alloc::{AllocFailed, Global};
 use std::marker::Model;
 
-/// Contracts see the innermost first.
+/// The frames that wait, each for the unit that it called. Contracts see the innermost first.
 #[derive(Drop)]
 pub struct CallStack {
     items: Vec<Frame>,
@@ -40,14 +40,14 @@ impl CallStack {
         self.items.len()
     }
 
-    /// The outermost first.
+    /// The frames that wait, the outermost first.
     pub fn as_slice(&self) -> &[Frame]
         ensures { reverse result.now ≡ self.now }
     {
         self.items.as_slice()
     }
 
-    /// Other ones of the same meaning.
+    /// Another call stack of the same meaning.
     pub fn copy(&self, alloc: Global) -> Result<CallStack, NoMemory>
         ensures { IfOk result (λ copy. copy ≡ self.now) }
     {

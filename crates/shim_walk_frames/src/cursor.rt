@@ -23,7 +23,7 @@ fn stmt_of(body: &[UStmt], cursor: Cursor) -> Option<&UStmt>
     body.get(cursor.index)
 }
 
-/// The cursor of a number, which stands in this statement or behind it.
+/// The cursor of a number, looked for from the statement of the given cursor on.
 pub fn advance(body: &[UStmt], cursor: Cursor, at: u32) -> Cursor
     requires bound { size_all body.now < 2 ^ 32 }
     requires begins { BeginsBefore body.now cursor at }
@@ -51,7 +51,7 @@ pub fn cursor_of(body: &[UStmt], at: u32) -> Cursor
     advance(body, Cursor { index: 0, first: 0 }, at)
 }
 
-/// The statement of a number, of which this is the cursor.
+/// The statement of a number, of which this is the cursor; `None` where the list is over.
 pub fn find_at(body: &[UStmt], cursor: Cursor, at: u32) -> Option<&UStmt>
     requires bound { size_all body.now < 2 ^ 32 }
     requires cursor { IsCursor body.now cursor at }

@@ -46,7 +46,7 @@ impl Model for Frame {
 }
 
 impl Frame {
-    /// At the first statement of a unit, of which this is the cursor.
+    /// The frame of a unit at its first statement, with this cursor.
     pub fn enter(
         alloc: Global,
         unit: u32,
@@ -86,7 +86,7 @@ impl Frame {
         self.at
     }
 
-    /// In which statement of the unit's own list, which is this text, that one is.
+    /// The cursor of the number at which it stands, in this text, which is the unit's own list.
     pub fn cursor(&self, body: &[UStmt]) -> Cursor
         requires bound { size_all body.now < 2 ^ 32 }
         requires cursor { IsRightCursor body.now self.now.cursor self.now.at }
@@ -107,7 +107,7 @@ impl Frame {
         self.cursor(body).index >= body.len()
     }
 
-    /// Whether the first part of that statement is done.
+    /// Whether the first part of the statement at which it stands is done.
     pub fn halfway(&self) -> bool
         ensures { result ≡ self.now.halfway }
     {
@@ -150,7 +150,7 @@ impl Frame {
         self.places.as_slice()
     }
 
-    /// How many exception places of the process are in force.
+    /// How many exception places of the process are in force in this frame and in those that wait for it.
     pub fn handlers(&self) -> u32
         ensures value { result ≡ self.now.outer + length self.now.places }
         ensures bound { result < 2 ^ 31 }
@@ -174,7 +174,7 @@ impl Frame {
         many
     }
 
-    /// The first part of the statement is done.
+    /// The first part of the statement at which it stands is done from now on.
     pub fn halve(&mut self)
         ensures { self.new ≡ record self.old { halfway = true } }
     {
@@ -207,8 +207,8 @@ impl Frame {
         Ok(())
     }
 
-    // So many of the outermost exception places stay. Most steps leave all of them in force, so what drops one
-    // is kept out of their code.
+    // `kept` of the outermost exception places stay. Most steps leave all of them in force, so what drops one is kept
+    // out of their code.
     #[inline(never)]
     fn leave_places(&mut self, kept: usize)
         ensures { self.new ≡ record self.old { places = take kept self.old.places } }
@@ -216,8 +216,8 @@ impl Frame {
         self.places.truncate(kept);
     }
 
-    /// At the statement of this number, or at its second part, with so many of the outermost exception
-    /// places. Where that statement stands in the text is looked for only if it is asked.
+    /// Puts the frame at the statement of this number, or at its second part, with `kept` of its outermost exception
+    /// places. The cursor is looked for only when a later call needs it.
     #[tactic(auto, using(crate::proofs::Unwinds::takes_none))]
     pub fn rest(&mut self, at: u32, halfway: bool, kept: usize)
         ensures { self.new ≡ record self.old { at = at; cursor = None; halfway = halfway; places = take kept self.old.places } }
@@ -255,7 +255,8 @@ impl Frame {
         self.places.get(index)
     }
 
-    // The place, which goes out of force, with those inside it.
+    // Takes the place of this index out of force, with those inside it, and gives it. Where there is no such place
+    // nothing changes.
     #[tactic(auto, using(crate::proofs::Unwinds::takes_none, crate::proofs::Unwinds::takes_last))]
     fn take_place(&mut self, index: usize) -> Option<Handler>
         ensures place { result ≡ slice_get self.old.places index }
@@ -281,8 +282,8 @@ impl Frame {
         variable
     }
 
-    /// At the handler of the `try` of this place, which goes out of force. Gives the variable of that
-    /// handler.
+    /// Goes on with the handler of the `try` of this place, which goes out of force, with those inside it. Gives the
+    /// variable of that handler. Where there is no such place nothing changes.
     #[tactic(auto, using(crate::proofs::Unwinds::handles_none))]
     pub fn handle(&mut self, body: &[UStmt], index: usize) -> Option<HandlerVariable>
         requires bound { size_all body.now < 2 ^ 32 }
@@ -303,7 +304,8 @@ impl Frame {
         variable
     }
 
-    /// On from the statement at which it stands.
+    /// Goes on from the statement at which it stands to this successor, and past the ends of `try` blocks that
+    /// follow.
     pub fn go(&mut self, body: &[UStmt], successor: Successor)
         requires bound { size_all body.now < 2 ^ 32 }
         requires cursor { IsRightCursor body.now self.old.cursor self.old.at }

@@ -45,7 +45,7 @@ fn copied_variable(variable: &Option<HandlerVariable>) -> Result<Option<HandlerV
     }
 }
 
-/// Other ones of the same meaning.
+/// Other handlers of the same meaning.
 pub fn copied(alloc: Global, handlers: &[Handler]) -> Result<List<Handler>, NoMemory>
     ensures { IfOk result (λ copies. copies ≡ handlers.now) }
 {

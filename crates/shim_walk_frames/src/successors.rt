@@ -27,7 +27,7 @@ fn reach(at: u32, left: u32) -> Position
     Position { at, left }
 }
 
-/// A position further on.
+/// The position that is `by` numbers further on.
 pub fn shifted(by: u32, position: Position) -> Position
     requires { by + position.at < 2 ^ 32 }
     ensures { result ≡ shifted by position }
@@ -38,7 +38,8 @@ pub fn shifted(by: u32, position: Position) -> Position
     }
 }
 
-// The position in a block that begins at `from`, or `past` where the block is over.
+// The position in a block of this size that begins at `from`. Where the block is over it is `past`, with the count of
+// ended `try` blocks of `position` added.
 fn inside(from: u32, size: u32, past: Position, position: Position) -> Position
     requires at_fits { from + position.at < 2 ^ 32 }
     requires left_fits { past.left + position.left < 2 ^ 32 }
@@ -101,7 +102,8 @@ pub fn size_all(body: &[UStmt]) -> u32
     size
 }
 
-// From a statement of two blocks of these sizes, where `ends` blocks of a `try` end behind the first.
+// The position of a successor of a statement of two blocks of these sizes, where `ends` blocks of a `try` end after
+// the first.
 fn two_start(ends: u32, first: u32, second: u32, successor: Successor) -> Position
     requires bound { 1 + first + second < 2 ^ 32 }
     ensures { result ≡ two_start ends first second successor }
@@ -114,7 +116,7 @@ fn two_start(ends: u32, first: u32, second: u32, successor: Successor) -> Positi
     }
 }
 
-// From the test of a loop with a body of this size.
+// The position of a successor of the test of a loop with a body of this size.
 fn loop_start(size: u32, successor: Successor) -> Position
     requires bound { 1 + size < 2 ^ 32 }
     ensures { result ≡ loop_start size successor }
@@ -215,7 +217,7 @@ fn go_all(body: &[UStmt], successor: Successor, at: u32) -> Position
     reach(passed, 0)
 }
 
-/// The statement of a number.
+/// The statement of a number counted within this statement.
 #[tactic(auto, using(crate::proofs::Rolls::part_out, crate::proofs::Rolls::at_if_start, crate::proofs::Rolls::at_if_first, crate::proofs::Rolls::at_if_second, crate::proofs::Rolls::at_try_start, crate::proofs::Rolls::at_try_first, crate::proofs::Rolls::at_try_second, crate::proofs::Rolls::at_while_start, crate::proofs::Rolls::at_while, crate::proofs::Rolls::at_block, crate::proofs::Rolls::at_for_first, crate::proofs::Rolls::at_for_start, crate::proofs::Rolls::at_for_body, crate::proofs::Rolls::at_for_step))]
 #[cycle(find)]
 pub fn find(stmt: &UStmt, at: u32) -> Option<&UStmt>
@@ -272,7 +274,8 @@ pub fn find(stmt: &UStmt, at: u32) -> Option<&UStmt>
     }
 }
 
-// The statement of a number in a list of statements; `None` exactly where the list takes fewer numbers.
+// The statement of a number in a list of statements; `None` exactly where the number isn't less than how many numbers
+// the list takes.
 #[tactic(auto, using(crate::proofs::Rolls::part_out, crate::proofs::Rolls::at_if_start, crate::proofs::Rolls::at_if_first, crate::proofs::Rolls::at_if_second, crate::proofs::Rolls::at_try_start, crate::proofs::Rolls::at_try_first, crate::proofs::Rolls::at_try_second, crate::proofs::Rolls::at_while_start, crate::proofs::Rolls::at_while, crate::proofs::Rolls::at_block, crate::proofs::Rolls::at_for_first, crate::proofs::Rolls::at_for_start, crate::proofs::Rolls::at_for_body, crate::proofs::Rolls::at_for_step))]
 #[cycle(find)]
 fn find_all(body: &[UStmt], at: u32) -> Option<&UStmt>

@@ -14,7 +14,7 @@ use shim_scopes::UParam;
 use shim_syntax::Sort;
 use shim_units::{UStmt, Unit};
 
-/// The text of a unit.
+/// The text of a unit; empty where no unit has the number.
 pub fn text_of(units: &[Unit], unit: u32) -> &[UStmt]
     ensures { result.now ≡ (unit_or (slice_get units.now unit)).body }
 {
@@ -24,7 +24,7 @@ pub fn text_of(units: &[Unit], unit: u32) -> &[UStmt]
     }
 }
 
-/// The statement at which a unit stands.
+/// The statement at which this frame stands; `None` where nothing is left to do in it.
 #[tactic(auto, using(crate::proofs::Returns::text_fits))]
 pub fn stmt_in<'a>(units: &'a [Unit], top: &Frame) -> Option<&'a UStmt>
     requires fit { AllFit units.now }
@@ -35,7 +35,7 @@ pub fn stmt_in<'a>(units: &'a [Unit], top: &Frame) -> Option<&'a UStmt>
     find_at(body, top.cursor(body), top.at())
 }
 
-/// The line of a statement.
+/// The line of a statement; 0 where there is none.
 pub fn line_of(stmt: Option<&UStmt>) -> u32
     ensures { result ≡ stmt_line (option_copied stmt.entry) }
 {
@@ -45,7 +45,7 @@ pub fn line_of(stmt: Option<&UStmt>) -> u32
     }
 }
 
-/// What a unit's slots hold.
+/// What a unit's slots hold; empty where no unit has the number.
 pub fn slots_of(units: &[Unit], unit: u32) -> &[Sort]
     ensures { result.now ≡ (unit_or (slice_get units.now unit)).slots }
 {
@@ -55,7 +55,7 @@ pub fn slots_of(units: &[Unit], unit: u32) -> &[Sort]
     }
 }
 
-/// The parameters of a unit.
+/// The parameters of a unit; none where no unit has the number.
 pub fn params_of(units: &[Unit], unit: u32) -> &[UParam]
     ensures { result.now ≡ (unit_or (slice_get units.now unit)).params }
 {
@@ -65,7 +65,7 @@ pub fn params_of(units: &[Unit], unit: u32) -> &[UParam]
     }
 }
 
-/// The slots of a unit's own declarations.
+/// The slots of a unit's own declarations; none where no unit has the number.
 pub fn declared_of(units: &[Unit], unit: u32) -> &[Sort]
     ensures { result.now ≡ declared_slots (unit_or (slice_get units.now unit)) }
 {
@@ -96,7 +96,7 @@ pub fn nth_label(labels: &[u32], at: u32) -> u32
     }
 }
 
-/// The name of a slot.
+/// The name of a slot; 0 where no unit has the number or the unit has no such slot.
 #[tactic(auto, unfolding(shim_process::specs::LocalState::number_of))]
 pub fn slot_name(units: &[Unit], unit: u32, slot: u32) -> u32
     ensures { result ≡ number_of (unit_or (slice_get units.now unit)).slot_names slot }

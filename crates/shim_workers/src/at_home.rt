@@ -12,7 +12,7 @@ use shim_net::{Gate, Net};
 /// How many processes run in place in a turn, before others may bring back what they did.
 pub(crate) const RUNS_IN_A_TURN: u64 = 256;
 
-// What a process did in place, and whether it is next again: else it came to another stop.
+// What a process did in place, and whether it is next again: else it came to another stop, or the budget is spent.
 #[derive(Clone, Copy)]
 struct RunInPlace {
     steps: u64,
@@ -92,8 +92,9 @@ impl AtHome {
         self.steps > 0
     }
 
-    // The process that is next at home runs in place: all its steps where no other can go on beside it, and
-    // else as many as handing it over would cost. Tells what is to be handed out of one that did all these.
+    // The process that is next at home runs in place: all its steps where no other can go on beside it, and else at
+    // most as many as handing it over would cost, or 64 if that is more. If the process did all these, the answer is
+    // what is to be handed out of it.
     fn run_one<L: Local, G: Gate>(
         &mut self,
         net: &mut Net<L>,
@@ -121,13 +122,13 @@ impl AtHome {
         }
         Ok(Some(HandOut {
             some: 1,
-            most: lengths.behind_those(),
+            most: lengths.after_those(),
             mine: 0,
         }))
     }
 
-    /// Lets processes at home go on in place, with all other events behind each, until pieces are to be handed
-    /// out. `None` where the turn is to be left.
+    /// Lets processes at home go on in place, and settles the net after each, until pieces are to be handed out.
+    /// `None` where the turn is to be left.
     pub(crate) fn run<L: Local, G: Gate>(
         &mut self,
         net: &mut Net<L>,

@@ -16,7 +16,7 @@ use shim_net::{Absorbed, Net};
 enum SlotOutcome {
     /// Nothing has come back.
     Empty,
-    /// A piece came back, and its process is at home.
+    /// A piece came back, and no other one went out in its place.
     Returned,
     /// A piece came back and was used up, and another one is out in its place.
     Reissued,
@@ -38,8 +38,8 @@ fn redo_lost<L: Local>(net: &mut Net<L>, slot: u64, round: u64) -> Result<(), No
     Ok(())
 }
 
-// Takes in a piece that has come back. One that ran out of memory is `NoMemory`, and one that is of no
-// open grant is dropped.
+// Takes in a piece that has come back. One that ran out of memory is `NoMemory`. One that fits no open grant is
+// dropped; if a grant of its slot and round is open, the work of open grants is done here until that one is closed.
 fn absorb_or_redo<L: Local>(net: &mut Net<L>, finished: Finished<L>) -> Result<(), NoMemory>
     ensures { SameName net.old net.new }
 {
@@ -58,7 +58,8 @@ fn is_next<L: Local>(net: &mut Net<L>, pid: u64) -> bool
 }
 
 /// Takes in a piece that has come back. A process that used it up mostly stands before a quiet step again, and needs
-/// no other event; so its next piece may go out at once, and it is answered how many steps that is to have.
+/// no other event; so its next piece may go out at once. The answer is how many steps that is to have, and `None`
+/// unless the process used the piece up and is next at home.
 pub(crate) fn take_in<L: Local>(
     net: &mut Net<L>,
     finished: Finished<L>,

@@ -4,11 +4,11 @@ ghost use Rattle.shim_net.specs.Nets.{IsNet};
 ghost use Rattle.shim_net.specs.Standings.{IsQuiescentNet, IsSpentNet};
 ghost use Rattle.shim_workers.specs.Workers.{SameName};
 
+use crate::in_rounds::rounds;
 use crate::lengths::{LONGEST_OUT, Lengths};
 use crate::over_board::run_over_board;
 use crate::over_lanes::run_over_lanes;
 use crate::shared_state::SharedState;
-use crate::turns::rounds;
 use shim_base::NoMemory;
 use shim_local::Local;
 use shim_net::{Gate, Net};
@@ -75,14 +75,14 @@ fn run_by_workers<L: Local, G: Gate, R: Threads + Wait + Sync>(
     rounds(rt, alloc, over, workers, quantum, gate)
 }
 
-/// Runs a net until no event is enabled in it or its budget is spent, as `rounds` does, but without
-/// rounds: each worker claims a piece where there is one, does it behind the gate and gives it back; where
-/// it finds none, it takes in what has come back and gives out what can be, if no other worker is at that.
-/// The first piece of a process has at most `quantum` steps, and one that follows a piece which was used up
-/// may be longer. Once pieces stop early, processes are tried where they stand, and only what runs long is given
-/// out. One worker needs no board, and does the pieces where the processes stand; and so it is where handing a
-/// process over costs more than the longest piece. Where a worker is out of memory all of them end, and so does the
-/// run. Workers try again where there is nothing to do, so this returns only if they do.
+/// Runs a net until no event is enabled in it or its budget is spent, as `rounds` does, but without rounds: each
+/// worker claims a piece where there is one, does it behind the gate and gives it back; where it finds none, it takes
+/// in what has come back and gives out what can be, if no other worker is at that. The first piece of a process has
+/// at most `quantum` steps, and one that follows a piece which was used up may be longer. Once pieces stop early,
+/// processes are tried where they stand, and only what runs long is given out. One worker needs no board, and does
+/// the pieces where the processes stand; and so it is where handing a process over costs more than the longest piece.
+/// Where a worker is out of memory all of them end, and so does the run. Workers try again where there is nothing to
+/// do, so this returns only if all workers come to an end.
 pub fn drive<L: Local, G: Gate, R: Threads + Wait + Sync>(
     rt: &R,
     alloc: Global,
@@ -102,8 +102,8 @@ pub fn drive<L: Local, G: Gate, R: Threads + Wait + Sync>(
 }
 
 /// Runs a net as `drive` does, but the pieces lie in lanes: each worker pushes those that it gives out into its own
-/// lane, takes the next one from there, and where that is empty from the lanes of the others. What it did it keeps
-/// until it finds no piece and gets the turn, and takes it in then.
+/// lane, takes the next one from there, and where that is empty from the lanes of the others. It keeps what it did
+/// until it gets the turn, which it tries where it finds no piece or has done 64; then it takes that in.
 pub fn drive_steal<L: Local, G: Gate, R: Threads + Wait + Sync>(
     rt: &R,
     alloc: Global,

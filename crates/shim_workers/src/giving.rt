@@ -1,4 +1,4 @@
-// Giving out the work of a turn.
+// Giving out the work of a round.
 ghost use Rattle.std.specs.Prelude.{◌≡◌, ◌≤◌, ◌<◌, ◌+◌, [], true, false, length, IfOk, OnOk};
 ghost use Rattle.shim_semantics.specs.Trees.{steps};
 ghost use Rattle.shim_net.specs.Progress.{GoesOn, CanGive};

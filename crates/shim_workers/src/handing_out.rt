@@ -16,7 +16,7 @@ const LAST_ROUND: u64 = (1 << 62) - 1;
 pub(crate) enum Handed {
     /// A piece lies there.
     Put,
-    /// It isn't vacant, or is left alone in this turn.
+    /// No piece was put there, though a process may still be at home.
     NotPut,
     /// No process can be given out.
     NoneLeft,
@@ -30,9 +30,9 @@ pub(crate) fn redo<L: Local>(net: &mut Net<L>) -> Result<bool, NoMemory>
     net.redo()
 }
 
-/// Gives out a piece of the process that is next at home, into a slot that is vacant. Where the net has an
-/// open grant of this slot and round, no other may have these numbers, so that one is done, and the slot is
-/// left alone in this turn.
+/// Gives out a piece of the process that is next at home, into a slot that is vacant. Where the net has an open grant
+/// of this slot and round, no other may have these numbers; so this call does the work of the first open grant
+/// instead, and puts nothing there.
 pub(crate) fn hand_out<L: Local>(
     board: &NetBoard<L>,
     chair: &mut NetChair<L>,

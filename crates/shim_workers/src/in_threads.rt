@@ -8,9 +8,9 @@ use shim_base::NoMemory;
 use std::thread;
 use std::thread::Threads;
 
-/// Calls a function with each job, each call in a thread of its own, or in this one where none can be made, and returns
-/// the results in the order of the jobs. This thread starts all others, one after another, and then waits: so no job
-/// waits for threads that another one has to start.
+/// Calls a function with each job, each call in a thread of its own, or in this one where none can be made, and
+/// returns the results in the order of the jobs. This thread starts all others, one after another, and then waits: so
+/// no job waits for threads that another one has to start.
 ///
 /// # Errors
 ///

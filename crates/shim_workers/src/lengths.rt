@@ -49,7 +49,7 @@ impl Lengths {
         }
     }
 
-    /// The first piece of a process, in place or not.
+    /// How many steps the first piece of a process has at most, in place or not.
     pub(crate) fn first(&self) -> u64
         ensures { 1 ≤ result }
     {
@@ -62,8 +62,9 @@ impl Lengths {
         self.in_place
     }
 
-    /// The first piece that is handed out of a process which did all these.
-    pub(crate) fn behind_those(&self) -> u64
+    /// How many steps the first piece has that is handed out of a process which did as many in place as `in_place`
+    /// says.
+    pub(crate) fn after_those(&self) -> u64
         ensures { 1 ≤ result }
     {
         self.first.max(longer_out(self.in_place))

@@ -22,7 +22,7 @@ const MOST_OUT: u64 = 64;
 #[derive(Drop)]
 pub(crate) struct Pieces<L: Local> {
     lane: Lane<Parcel<L>>,
-    // how many grants it gave out, which is the round of the next one
+    // how often it began to give a piece out, which is the round of the next grant
     grants: u64,
     // the piece that its lane refused
     refused: Option<Parcel<L>>,
@@ -30,8 +30,8 @@ pub(crate) struct Pieces<L: Local> {
     done: Vec<Finished<L>>,
 }
 
-// The first piece of another lane. The lane behind the own one is looked at first, so that not all workers begin
-// at the same one.
+// The first piece of another lane. The lane after the own one is looked at first, so that not all workers begin at
+// the same one.
 fn steal<L: Local, R: Wait>(rt: &R, lane: &mut Lane<Parcel<L>>) -> Option<Parcel<L>> {
     let home = lane.home();
     let count = lane.count();
@@ -62,7 +62,7 @@ fn next_piece<L: Local, R: Wait>(
 }
 
 impl<L: Local> Pieces<L> {
-    /// None, and a lane for them.
+    /// No pieces, and a lane for them.
     pub(crate) fn new(alloc: Global, lane: Lane<Parcel<L>>) -> Result<Pieces<L>, NoMemory> {
         Ok(Pieces {
             lane,
@@ -91,9 +91,9 @@ impl<L: Local> Pieces<L> {
         true
     }
 
-    // Gives out a piece of the process that is next at home, into the own lane. Where the net has an open grant
-    // of this lane and round, no other may have these numbers, so that one is done instead. A piece that the lane
-    // refuses stays with this worker, and until it is done no other one is given out.
+    // Gives out a piece of the process that is next at home, into the own lane. Where the net has an open grant of
+    // this lane and round, no other may have these numbers; so this call does the work of the first open grant
+    // instead. A piece that the lane refuses stays with this worker, and until it is done no other one is given out.
     fn hand_out(&mut self, net: &mut Net<L>, most: u64) -> Result<Handed, NoMemory>
         requires most { 1 ≤ most }
         ensures net { SameName net.old net.new }
@@ -117,7 +117,7 @@ impl<L: Local> Pieces<L> {
         Ok(Handed::Put)
     }
 
-    /// Gives out pieces of processes that are at home, at most so many. Answers how many.
+    /// Gives out pieces of processes that are at home, at most so many, and at most 64. Answers how many.
     pub(crate) fn hand_out_some(
         &mut self,
         net: &mut Net<L>,
@@ -138,7 +138,8 @@ impl<L: Local> Pieces<L> {
         Ok(put)
     }
 
-    /// Hands the net all pieces that were done. Processes that used up their pieces go on at once.
+    /// Hands the net all pieces that were done. For a process that used up its piece and is next at home, another one
+    /// may go out at once.
     pub(crate) fn take_in_all(
         &mut self,
         net: &mut Net<L>,

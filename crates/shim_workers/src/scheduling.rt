@@ -13,8 +13,9 @@ use shim_local::Local;
 use shim_net::{Gate, Net, Standing};
 
 /// Settles the net after pieces were taken in, and wakes a worker for each piece that went out in their place. If no
-/// process is at home, it wakes one worker less: this worker then does one of the pieces itself.
-pub(crate) fn settle_behind<L: Local>(
+/// process is at home, or nothing is left of the budget, it wakes one worker less: this worker then does one of the
+/// pieces itself.
+pub(crate) fn settle_after<L: Local>(
     net: &mut Net<L>,
     collected: Collected,
     shared_state: &SharedState,
@@ -74,7 +75,7 @@ fn schedule_net<L: Local, G: Gate>(
     ensures net { SameName net.old net.new }
 {
     let collected = collect_all(board, chair, net, slots, shared_state)?;
-    settle_behind(net, collected, shared_state)?;
+    settle_after(net, collected, shared_state)?;
     let mut home = AtHome::new();
     let mut found = collected.back > 0;
     for _ in 0..RUNS_IN_A_TURN {

@@ -44,7 +44,7 @@ pub(crate) struct SharedState {
     // goes up with all that may concern an idle worker, and these sleep on it
     epoch: AtomicU64,
     asleep: AtomicU64,
-    // pieces that came back without being used up, and how many of them it takes
+    // how many pieces came back without being used up, and from how many on each process is tried in place first
     early: AtomicU64,
     patience: u64,
 }
@@ -73,7 +73,7 @@ impl SharedState {
         self.begun.fetch_add(1, Ordering::SeqCst)
     }
 
-    // The run has come to this. Idle workers wake, so that they end, too.
+    // The run has come to this state. All idle workers wake, so that they end, too.
     fn stop(&self, state: u64) {
         self.state.store(state, Ordering::SeqCst);
         let _before = self.epoch.fetch_add(1, Ordering::SeqCst);
@@ -160,8 +160,8 @@ impl SharedState {
         tries.min(SPINS)
     }
 
-    /// How many times in a row a worker has found nothing to do, behind one more look; before that it was so many
-    /// times. Where it found nothing again it rests.
+    /// How many times in a row a worker has found nothing to do, after one more look; `tries` is how many they were
+    /// before it. Where it found nothing again it rests.
     pub(crate) fn after_look<R: Wait>(&self, rt: &R, epoch: u64, tries: u64, found: bool) -> u64 {
         if found {
             return 0;

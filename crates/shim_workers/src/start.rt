@@ -11,7 +11,7 @@ use std::alloc::Global;
 /// A worker's chair, and its pieces.
 pub(crate) type Start<L> = (NetChair<L>, Pieces<L>);
 
-/// Each chair with a lane. There are as many lanes as chairs.
+/// Each chair with a lane. Callers give as many lanes as chairs; with fewer the answer is `NoMemory`.
 pub(crate) fn starts<L: Local>(
     alloc: Global,
     chairs: Vec<NetChair<L>>,

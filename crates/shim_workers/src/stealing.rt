@@ -6,7 +6,7 @@ ghost use Rattle.shim_workers.specs.Workers.{HasTurn, SameName};
 use crate::at_home::{AtHome, RUNS_IN_A_TURN};
 use crate::load::{NetBoard, NetChair};
 use crate::pieces::Pieces;
-use crate::scheduling::{end_turn, settle_behind};
+use crate::scheduling::{end_turn, settle_after};
 use crate::shared_state::SharedState;
 use crate::start::Start;
 use shim_base::NoMemory;
@@ -25,7 +25,7 @@ fn schedule_net<L: Local, G: Gate>(
     ensures net { SameName net.old net.new }
 {
     let taken = pieces.take_in_all(net, shared_state)?;
-    settle_behind(net, taken, shared_state)?;
+    settle_after(net, taken, shared_state)?;
     let mut home = AtHome::new();
     let mut found = taken.back > 0;
     for _ in 0..RUNS_IN_A_TURN {
@@ -39,8 +39,8 @@ fn schedule_net<L: Local, G: Gate>(
     Ok(found || home.has_run())
 }
 
-// Does a piece of the own lane or of another one; where there is none, tries the turn. False where there was
-// nothing to do.
+// Does a piece of the own lane or of another one. Where there is none, or 64 are done that no net has taken in, tries
+// the turn. False where there was nothing to do.
 fn work_once<L: Local, G: Gate, R: Wait>(
     rt: &R,
     board: &NetBoard<L>,

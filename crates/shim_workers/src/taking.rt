@@ -1,4 +1,4 @@
-// Taking back the work of a turn.
+// Taking back the work of a round.
 ghost use Rattle.std.specs.Prelude.{OnOk};
 ghost use Rattle.shim_net.specs.Progress.{GoesOn};
 ghost use Rattle.shim_workers.specs.Progress.{HaveSteps};

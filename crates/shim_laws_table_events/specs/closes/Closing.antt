@@ -14,7 +14,7 @@ use Rattle.shim_records.specs.Recomputing.{IsRecomputed}
 use Rattle.shim_records.specs.declared.pair.Pair.{Pair}
 use Rattle.shim_records.specs.declared.record.Record.{Record}
 
--- what a record says beside what came of its process
+-- a record without its status
 pub record RecordWithoutStatus : Type 0 where
   pub first : ℕ
   pub parent : Option ℕ
@@ -22,43 +22,43 @@ pub record RecordWithoutStatus : Type 0 where
   pub running_children : ℕ
   pub pairs : List Pair
 
--- what this record says beside that
+-- this record without its status
 abbrev pub without_status : Record → RecordWithoutStatus
 without_status r = record { first = r.first; parent = r.parent; path = r.path; running_children = r.running_children; pairs = r.pairs.items }
 
 -- from the number g on n records are free, and nothing else has changed
-pub record AreFreed (g n : ℕ) (before behind : List Record) : Type 0 where
-  pub freed : IsFreed g n before behind
-  pub beside : map without_status behind ≡ map without_status before
+pub record AreFreed (g n : ℕ) (before after : List Record) : Type 0 where
+  pub freed : IsFreed g n before after
+  pub beside : map without_status after ≡ map without_status before
 
 -- the record of a process whose fork has closed, which has this status now
-pub record HasCome (before behind : Record) (k : ProcessStatus) : Type 0 where
+pub record HasCome (before after : Record) (k : ProcessStatus) : Type 0 where
   pub first : ℕ
-  pub view_is : record_view behind ≡ used first k
-  pub parent : behind.parent ≡ before.parent
-  pub path : behind.path ≡ before.path
-  pub no_pairs : behind.pairs.items ≡ []
+  pub view_is : record_view after ≡ used first k
+  pub parent : after.parent ≡ before.parent
+  pub path : after.path ≡ before.path
+  pub no_pairs : after.pairs.items ≡ []
 
 -- if this status is an end or a death, the record of the parent counts one child less that goes on
 abbrev pub CountsOffIfOver : ProcessStatus → ℕ → List Record → List Record → Type 0
-CountsOffIfOver lives x before behind = behind ≡ before
-CountsOffIfOver (forks n) x before behind = behind ≡ before
-CountsOffIfOver ends x before behind = HasCountedOff x before behind
-CountsOffIfOver (dies d) x before behind = HasCountedOff x before behind
+CountsOffIfOver lives x before after = after ≡ before
+CountsOffIfOver (forks n) x before after = after ≡ before
+CountsOffIfOver ends x before after = HasCountedOff x before after
+CountsOffIfOver (dies d) x before after = HasCountedOff x before after
 
 -- For each of these channels the labels above the record x were read off again.
 pub data AllRecomputed {S : Type 0} (o : Ops S) (states : List S) (n x : ℕ) : List Channel → List Record → List Record → Type 0 where
   none_left : (rs : List Record) → AllRecomputed o states n x [] rs rs
-  one_more : (c : Channel) (cs : List Channel) (before between behind : List Record) → IsRecomputed o c states n x before between → AllRecomputed o states n x cs between behind → AllRecomputed o states n x (c ∷ cs) before behind
+  one_more : (c : Channel) (cs : List Channel) (before between after : List Record) → IsRecomputed o c states n x before between → AllRecomputed o states n x cs between after → AllRecomputed o states n x (c ∷ cs) before after
 
 -- For each channel that the process s was given and shares, the labels above the record x were read off again.
-pub record GivenRecomputed {S : Type 0} (o : Ops S) (states : List S) (s : S) (n x : ℕ) (before behind : List Record) : Type 0 where
+pub record GivenRecomputed {S : Type 0} (o : Ops S) (states : List S) (s : S) (n x : ℕ) (before after : List Record) : Type 0 where
   pub chans : List Channel
-  pub recomputed : AllRecomputed o states n x chans before behind
+  pub recomputed : AllRecomputed o states n x chans before after
   pub all : (c : Channel) → IsGiven o s c → o.shares s c ≡ true → IsAmong c chans
   pub shared : (c : Channel) → IsAmong c chans → o.shares s c ≡ true
 
 -- If a child of the fork died, these labels were read off again (`GivenRecomputed`); else no record has changed.
 abbrev pub RecomputedIf : {S : Type 0} → Option Death → Ops S → List S → S → ℕ → ℕ → List Record → List Record → Type 0
-RecomputedIf None o states s n x before behind = behind ≡ before
-RecomputedIf (Some d) o states s n x before behind = GivenRecomputed o states s n x before behind
+RecomputedIf None o states s n x before after = after ≡ before
+RecomputedIf (Some d) o states s n x before after = GivenRecomputed o states s n x before after

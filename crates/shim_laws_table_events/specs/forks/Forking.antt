@@ -50,12 +50,12 @@ ready_chans (p ∷ ps) = cond (tally_ready (tally p)) (p.chan.channel ∷ ready_
 -- For each of these channels the counts above the record x were updated, of a process that wasn't ready on it and is.
 pub data EachUpdatedAbove (n x : ℕ) : List Channel → List Record → List Record → Type 0 where
   none_left : (rs : List Record) → EachUpdatedAbove n x [] rs rs
-  one_more : (c : Channel) (cs : List Channel) (was is : ChildStatus) (before between behind : List Record)
+  one_more : (c : Channel) (cs : List Channel) (was is : ChildStatus) (before between after : List Record)
       → child_status_of was ≡ live_child_status false → child_status_of is ≡ live_child_status true
-      → IsUpdatedAbove c n x was is before between → EachUpdatedAbove n x cs between behind → EachUpdatedAbove n x (c ∷ cs) before behind
+      → IsUpdatedAbove c n x was is before between → EachUpdatedAbove n x cs between after → EachUpdatedAbove n x (c ∷ cs) before after
 
 -- The process with the number x forked and is as p: its children's states and records were put together from the number g on, in place of free ones or behind all others, and the counts above follow.
-pub record ForksAt {S : Type 0} (o : Ops S) (x g : ℕ) (p : S) (ks : List S) (before behind : TableView S) : Type 0 where
+pub record ForksAt {S : Type 0} (o : Ops S) (x g : ℕ) (p : S) (ks : List S) (before after : TableView S) : Type 0 where
   pub was : Record
   pub is : Record
   pub born : List Record
@@ -65,13 +65,13 @@ pub record ForksAt {S : Type 0} (o : Ops S) (x g : ℕ) (p : S) (ks : List S) (b
   pub few : length ks ≤ 4294967295
   pub children : AreOfChildren o x ks born
   pub parent : IsOfFork o g p ks was is
-  pub states : behind.states ≡ with_block g ks (slice_set before.states x p)
-  pub records : EachUpdatedAbove 4294967295 x (ready_chans is.pairs.items) (with_block g born (slice_set before.records x is)) behind.records
+  pub states : after.states ≡ with_block g ks (slice_set before.states x p)
+  pub records : EachUpdatedAbove 4294967295 x (ready_chans is.pairs.items) (with_block g born (slice_set before.records x is)) after.records
 
 -- Where a live process forks and the states and records change with it (`ForksAt`), they perform its own step (`Performs`).
 abbrev pub ForkPreserves : {S : Type 0} → Ops S → Type 0
-ForkPreserves {S} o = (x g f : ℕ) (l p : S) (ks : List S) (before behind : TableView S) → HasProcessState before x f l lives → o.stop l ≡ AtFork → o.fork l ≡ Parted p ks → ForksAt o x g p ks before behind
-    → Performs o (Own (o.path l)) before behind
+ForkPreserves {S} o = (x g f : ℕ) (l p : S) (ks : List S) (before after : TableView S) → HasProcessState before x f l lives → o.stop l ≡ AtFork → o.fork l ≡ Parted p ks → ForksAt o x g p ks before after
+    → Performs o (Own (o.path l)) before after
 
 -- Where a fork traps, the process lives on in another state and no record changes. That performs its own step, too.
 abbrev pub ForkTrapPreserves : {S : Type 0} → Ops S → Type 0

@@ -16,7 +16,7 @@ use Rattle.shim_laws_table_events.specs.keeping.Tables.{HasProcessState}
 use Rattle.shim_laws_table_events.specs.keeping.Moves.{Performs}
 use Rattle.shim_laws_table_events.specs.keeping.Propagating.{PropagatesStop}
 
--- the event by which a process of this path that stands so does what it can do by itself
+-- the event by which a process of this path does at this stop what it can do by itself; at a `next`, where it can do nothing, it is its own step
 abbrev pub event_at_stop : StopView → Path → Event
 event_at_stop AtFinish p = End p
 event_at_stop AtQuiet p = Own p
@@ -26,7 +26,7 @@ event_at_stop (AtNext c) p = Own p
 event_at_stop (AtThrow label) p = Own p
 event_at_stop (AtTrap kind line) p = Own p
 
--- the node of a process with this state that has ended or died so; by any other status that of a live one
+-- the node of a process with this state and status, if that is an end or a death; by each other status the node of a live process
 abbrev pub left_by : {S : Type 0} → S → Status → Node S
 left_by l code.Ended = Ended l
 left_by l (code.Dead d) = Dead l d
@@ -40,28 +40,28 @@ with_status k r = record { status = k; first = r.first; parent = r.parent; path 
 
 -- the label of a death is taken in above, and where there is none nothing is done
 abbrev pub TakesIn : {S : Type 0} → Ops S → S → Status → ℕ → ℕ → List Record → List Record → Type 0
-TakesIn o s (code.Dead d) n x before behind = IsTaken o s d.label n x before behind
-TakesIn o s code.Ended n x before behind = behind ≡ before
-TakesIn o s code.Free n x before behind = behind ≡ before
-TakesIn o s code.Live n x before behind = behind ≡ before
-TakesIn o s (code.Forked m) n x before behind = behind ≡ before
+TakesIn o s (code.Dead d) n x before after = IsTaken o s d.label n x before after
+TakesIn o s code.Ended n x before after = after ≡ before
+TakesIn o s code.Free n x before after = after ≡ before
+TakesIn o s code.Live n x before after = after ≡ before
+TakesIn o s (code.Forked m) n x before after = after ≡ before
 
 -- The process of the record x ends or dies: the record says so, then the labels above are brought up to date, then the counts, and then its fork has one child less that goes on.
-pub record Terminates {S : Type 0} (o : Ops S) (s : S) (k : Status) (n x : ℕ) (before behind : List Record) : Type 0 where
+pub record Terminates {S : Type 0} (o : Ops S) (s : S) (k : Status) (n x : ℕ) (before after : List Record) : Type 0 where
   pub was : Record
   pub there : slice_get before x ≡ Some was
   pub labelled : List Record
   pub counted : List Record
   pub takes : TakesIn o s k n x (slice_set before x (with_status k was)) labelled
   pub updated : AllUpdated o s (process_status_of k) n x labelled counted
-  pub left : HasCountedOff x counted behind
+  pub left : HasCountedOff x counted after
 
 -- Where a live process did something by itself that leaves it alive, and the counts above were updated for the stop to which it came, the tree moves by that event.
 abbrev pub StepPreserves : {S : Type 0} → Ops S → Type 0
-StepPreserves {S} o = (states : List S) (rs behind : List Record) (x f : ℕ) (l s : S) (effects : Effects) → HasProcessState (record { states = states; records = rs }) x f l lives → act_live o l (o.stop l) ≡ Some (record { node = Live s; effects = effects })
-    → PropagatesStop o s 4294967295 x rs behind → Performs o (event_at_stop (o.stop l) (o.path l)) (record { states = states; records = rs }) (record { states = slice_set states x s; records = behind })
+StepPreserves {S} o = (states : List S) (rs after : List Record) (x f : ℕ) (l s : S) (effects : Effects) → HasProcessState (record { states = states; records = rs }) x f l lives → act_live o l (o.stop l) ≡ Some (record { node = Live s; effects = effects })
+    → PropagatesStop o s 4294967295 x rs after → Performs o (event_at_stop (o.stop l) (o.path l)) (record { states = states; records = rs }) (record { states = slice_set states x s; records = after })
 
 -- Where a live process did something by itself by which it ends or dies, and the records say so, the tree moves by that event.
 abbrev pub ExitPreserves : {S : Type 0} → Ops S → Type 0
-ExitPreserves {S} o = (states : List S) (rs behind : List Record) (x f : ℕ) (l : S) (k : Status) (effects : Effects) → HasProcessState (record { states = states; records = rs }) x f l lives → act_live o l (o.stop l) ≡ Some (record { node = left_by l k; effects = effects })
-    → goes (left_by l k) ≡ false → Terminates o l k 4294967295 x rs behind → Performs o (event_at_stop (o.stop l) (o.path l)) (record { states = states; records = rs }) (record { states = states; records = behind })
+ExitPreserves {S} o = (states : List S) (rs after : List Record) (x f : ℕ) (l : S) (k : Status) (effects : Effects) → HasProcessState (record { states = states; records = rs }) x f l lives → act_live o l (o.stop l) ≡ Some (record { node = left_by l k; effects = effects })
+    → goes (left_by l k) ≡ false → Terminates o l k 4294967295 x rs after → Performs o (event_at_stop (o.stop l) (o.path l)) (record { states = states; records = rs }) (record { states = states; records = after })

@@ -19,6 +19,6 @@ pub record Knows {S : Type 0} (o : Ops S) (c : Channel) (l : S) (ks : Nodes S) (
   pub kept_own : o.carries l c ≡ true → how_many_nodes ks ≤ k.source
   pub handed_on : (b : ℕ) (m : Node S) → child_at b [] ks ≡ Some m → 1 ≤ carriers o c m → k.source ≡ b
 
--- What records know of a channel: a number's knowledge, if it has any. It is that of the node in its place.
+-- If the record of a fork knows anything of the channel (`Sharing`), it is true of the node at the record's place.
 abbrev pub AreKnown : {S : Type 0} → Ops S → Path → List S → List RecordView → Channel → (ℕ → Option Sharing) → Node S → Type 0
 AreKnown {S} o rp records views c known root = (i f n : ℕ) (s : S) (k : Sharing) (l : S) (ks : Nodes S) → Has records views i f s (forks n) → known i ≡ Some k → at (place o rp s) root ≡ Some (Forked l ks) → Knows o c l ks k

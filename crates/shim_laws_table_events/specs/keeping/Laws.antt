@@ -16,7 +16,7 @@ use Rattle.shim_laws_table_events.specs.keeping.Propagating.{PropagatesStop}
 abbrev pub StartEstablishes : {S : Type 0} → Ops S → Type 0
 StartEstablishes {S} o = (root : S) (r : Record) → IsOfRoot o root r → o.sound root → o.path root ≡ [] → SharesItsOwn o root → TableInvariant o [] (record { states = root ∷ []; records = r ∷ [] }) (Live root)
 
--- Where a live process is before a quiet step, it can do so many as lead on from its state; and where its state is the last one, and the counts above were updated for the channel to which it came, the records represent the tree behind them.
+-- A live process before a quiet step can do the n steps that lead from its state to `last`. Let `last` be put in place of its state, and the counts above be updated for the channel to which it came. Then the table invariant holds for the tree after the steps.
 abbrev pub QuietStepsPreserve : {S : Type 0} → Ops S → Type 0
-QuietStepsPreserve {S} o = (rp : Path) (t : Tree S) (states : List S) (rs behind : List Record) (n x f : ℕ) (l last : S) → TableInvariant o rp (record { states = states; records = rs }) t.root → HasProcessState (record { states = states; records = rs }) x f l lives
-    → o.stop l ≡ AtQuiet → QuietSteps o n l last → PropagatesStop o last 4294967295 x rs behind → (u : Tree S) × Advances o (o.path l) n t u × TableInvariant o rp (record { states = slice_set states x last; records = behind }) u.root
+QuietStepsPreserve {S} o = (rp : Path) (t : Tree S) (states : List S) (rs after : List Record) (n x f : ℕ) (l last : S) → TableInvariant o rp (record { states = states; records = rs }) t.root → HasProcessState (record { states = states; records = rs }) x f l lives
+    → o.stop l ≡ AtQuiet → QuietSteps o n l last → PropagatesStop o last 4294967295 x rs after → (u : Tree S) × Advances o (o.path l) n t u × TableInvariant o rp (record { states = slice_set states x last; records = after }) u.root

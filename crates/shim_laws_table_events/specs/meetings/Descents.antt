@@ -24,6 +24,6 @@ pub data Descends {S : Type 0} (o : Ops S) (v : TableView S) (c : Channel) : Lis
   passes : (i : ℕ) (ahead found : List ℕ) → ((f : ℕ) (s : S) (k : ProcessStatus) → HasProcessState v i f s k → o.shares s c ≡ false) → Descends o v c ahead found → Descends o v c (i ∷ ahead) found
   finds : (i f : ℕ) (s : S) (k : ProcessStatus) (ahead found : List ℕ) → HasProcessState v i f s k → o.shares s c ≡ true → Descends o v c (numbers_of_length f (children k) ++ ahead) found → Descends o v c (i ∷ ahead) (i ∷ found)
 
--- what is found from one process on are all that share it there
+-- what a descent from one process finds are all that share the channel at and below it, if it shares the channel itself
 abbrev pub DescentsFind : {S : Type 0} → Ops S → Type 0
 DescentsFind {S} o = (v : TableView S) (c : Channel) (i : ℕ) (found : List ℕ) → Descends o v c (i ∷ []) found → ListsSharers o v c i found

@@ -13,11 +13,11 @@ abbrev pub dead_record : Record → ℕ → Record
 dead_record r label = record { status = Dead (death label); first = r.first; parent = r.parent; path = r.path; running_children = r.running_children; pairs = r.pairs }
 
 -- The process of the record x has died: first its record has the death with this label. Then the counts above are updated, and then the label is taken in, each through at most n forks. Last, its fork counts one child less that goes on.
-pub record DiesAt {S : Type 0} (o : Ops S) (s : S) (label n x : ℕ) (before behind : List Record) : Type 0 where
+pub record DiesAt {S : Type 0} (o : Ops S) (s : S) (label n x : ℕ) (before after : List Record) : Type 0 where
   pub old_record : Record
   pub there : slice_get before x ≡ Some old_record
   pub counted : List Record
   pub labelled : List Record
   pub killed : IsKilled o s n x (slice_set before x (dead_record old_record label)) counted
   pub taken : IsTaken o s label n x counted labelled
-  pub left : HasCountedOff x labelled behind
+  pub left : HasCountedOff x labelled after

@@ -13,17 +13,17 @@ use Rattle.shim_laws_table_events.specs.meetings.Receiving.{MovesOn}
 use Rattle.shim_laws_table_events.specs.meetings.Sharers.{ListsSharers, ListsReceivers}
 
 -- the process with this number has received the value, if it lives and is at the channel
-pub data ReceivesOne {S : Type 0} (o : Ops S) (c : Channel) (v : ℤ) (i : ℕ) (before behind : TableView S) : Type 0 where
-  not_at_channel : ((f : ℕ) (l : S) → HasProcessState before i f l lives → is_next (o.stop l) c ≡ false) → behind ≡ before → ReceivesOne o c v i before behind
-  received : (f : ℕ) (l : S) (d : NamedChannel) → HasProcessState before i f l lives → o.stop l ≡ AtNext d → d.channel ≡ c → behind.states ≡ slice_set before.states i (o.receive l v)
-      → MovesOn o (o.receive l v) d.channel 4294967295 i before.records behind.records → ReceivesOne o c v i before behind
+pub data ReceivesOne {S : Type 0} (o : Ops S) (c : Channel) (v : ℤ) (i : ℕ) (before after : TableView S) : Type 0 where
+  not_at_channel : ((f : ℕ) (l : S) → HasProcessState before i f l lives → is_next (o.stop l) c ≡ false) → after ≡ before → ReceivesOne o c v i before after
+  received : (f : ℕ) (l : S) (d : NamedChannel) → HasProcessState before i f l lives → o.stop l ≡ AtNext d → d.channel ≡ c → after.states ≡ slice_set before.states i (o.receive l v)
+      → MovesOn o (o.receive l v) d.channel 4294967295 i before.records after.records → ReceivesOne o c v i before after
 
--- all of them, one after the other
+-- `ReceivesOne` holds for each of these numbers, one after the other
 pub data ReceiveAll {S : Type 0} (o : Ops S) (c : Channel) (v : ℤ) : List ℕ → TableView S → TableView S → Type 0 where
   none_left : (w : TableView S) → ReceiveAll o c v [] w w
-  one_more : (i : ℕ) (is : List ℕ) (before between behind : TableView S) → ReceivesOne o c v i before between → ReceiveAll o c v is between behind → ReceiveAll o c v (i ∷ is) before behind
+  one_more : (i : ℕ) (is : List ℕ) (before between after : TableView S) → ReceivesOne o c v i before between → ReceiveAll o c v is between after → ReceiveAll o c v (i ∷ is) before after
 
--- in the tree that is shown the event is enabled
+-- in each tree for which the table invariant holds the event is enabled
 abbrev pub IsEnabled : {S : Type 0} → Ops S → Event → TableView S → Type 0
 IsEnabled {S} o e v = (rp : Path) (t : Tree S) → TableInvariant o rp v t.root → Can o t e
 
@@ -39,15 +39,15 @@ pub record Declares {S : Type 0} (o : Ops S) (v : TableView S) (i : ℕ) (c : Ch
 abbrev pub HasValue : {S : Type 0} → Ops S → TableView S → Channel → ℤ → Type 0
 HasValue {S} o v c x = (rp : Path) (root : Node S) → TableInvariant o rp v root → x ≡ value_of o c (source o c root)
 
--- each live process that was at the channel has received the value, and nothing else has changed of what is shown
+-- each live process that was at the channel has received the value, and no other state and no status has changed
 abbrev pub AllReceived : {S : Type 0} → Ops S → Channel → ℤ → TableView S → TableView S → Type 0
-AllReceived {S} o c x before behind = (rp : Path) (root : Node S) → TableInvariant o rp before root → (views behind ≡ views before) × HaveReceived o c x (views before) before.states behind.states
+AllReceived {S} o c x before after = (rp : Path) (root : Node S) → TableInvariant o rp before root → (views after ≡ views before) × HaveReceived o c x (views before) before.states after.states
 
 -- Where a meeting is enabled, and all that are at the channel receive the value of its source one after the other, the tree moves by the meeting.
 abbrev pub MeetingPreserves : {S : Type 0} → Ops S → Type 0
-MeetingPreserves {S} o = (before behind : TableView S) (c : Channel) (numbers : List ℕ) (x : ℤ) → IsEnabled o (Meet c) before → ListsReceivers o before c numbers → HasValue o before c x → ReceiveAll o c x numbers before behind
-    → Performs o (Meet c) before behind × AllReceived o c x before behind
+MeetingPreserves {S} o = (before after : TableView S) (c : Channel) (numbers : List ℕ) (x : ℤ) → IsEnabled o (Meet c) before → ListsReceivers o before c numbers → HasValue o before c x → ReceiveAll o c x numbers before after
+    → Performs o (Meet c) before after × AllReceived o c x before after
 
--- Where a meeting is enabled, all that share the channel at and below its home are receivers enough.
+-- Where a meeting is enabled, all that share the channel at and below its home include each live process that is at the channel, and none twice.
 abbrev pub SharersReceive : {S : Type 0} → Ops S → Type 0
 SharersReceive {S} o = (v : TableView S) (c : Channel) (i : ℕ) (numbers : List ℕ) → Declares o v i c → IsEnabled o (Meet c) v → ListsSharers o v c i numbers → ListsReceivers o v c numbers

@@ -12,7 +12,7 @@ use Rattle.shim_laws_table_events.specs.meetings.Descents.{numbers_of_length}
 use Rattle.shim_laws_table_events.specs.meetings.Sharers.{ListsReceivers}
 use Rattle.shim_laws_table_events.specs.meetings.Meetings.{IsEnabled, Declares, HasValue}
 
--- so many branches lie from the first one that shares it to the last one
+-- how many branches there are from the first to the last one between which all children lie that share the channel
 abbrev pub how_many_between : Sharing → ℕ
 how_many_between k = (k.last + 1) - k.first
 
@@ -54,7 +54,7 @@ ValueAt {S} o v c i x = (s : S) → slice_get v.states i ≡ Some s → x ≡ co
 pub record SourcesLead {S : Type 0} (o : Ops S) : Type 0 where
   -- it begins at the home
   pub begins : (v : TableView S) (c : Channel) (i : ℕ) → Declares o v i c → IsEnabled o (Meet c) v → CarriedFrom o v c i
-  -- leads to the child that took the variable
+  -- it leads on to the child that took the variable
   pub goes_on : (v : TableView S) (c : Channel) (i j : ℕ) → CarriedFrom o v c i → SourceChild v c i (Some j) → CarriedFrom o v c j
   -- and where none did, the value there is that of the channel's source
   pub value : (v : TableView S) (c : Channel) (i : ℕ) (x : ℤ) → CarriedFrom o v c i → SourceChild v c i None → ValueAt o v c i x → HasValue o v c x

@@ -22,7 +22,7 @@ pub record SharesFrom {S : Type 0} (o : Ops S) (rp : Path) (v : TableView S) (c 
 abbrev pub Precedes : {S : Type 0} → Ops S → Path → TableView S → ℕ → ℕ → Type 0
 Precedes {S} o rp v i j = (f g : ℕ) (s t : S) (k h : ProcessStatus) → HasProcessState v i f s k → HasProcessState v j g t h → is_before (place o rp s) (place o rp t) ≡ true
 
--- each of these stands so to those behind it
+-- each element of the list has the relation R to each one after it
 abbrev pub InOrder : {A : Type 0} → (A → A → Type 0) → List A → Type 0
 InOrder R [] = Unit {0}
 InOrder {A} R (x ∷ xs) = ((y : A) → IsAmong y xs → R x y) × InOrder R xs

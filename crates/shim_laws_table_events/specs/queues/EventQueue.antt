@@ -28,8 +28,8 @@ pub record QueueStaysComplete {S : Type 0} (o : Ops S) : Type 0 where
   -- one that lists each record in use
   pub all : (v : TableView S) (t : Tree S) (flags : List Bool) → ((i f : ℕ) (s : S) (k : ProcessStatus) → HasProcessState v i f s k → is_listed flags i ≡ true) → AreListed o v t flags
   -- where something has happened, one that lists what such a list did, and each record by which more can happen than before
-  pub moves : (rp : Path) (before behind : TableView S) (t u : Tree S) (flags now : List Bool) → TableInvariant o rp before t.root → TableInvariant o rp behind u.root → AreListed o before t flags
-      → ((i : ℕ) → is_listed flags i ≡ true → is_listed now i ≡ true) → ((i f : ℕ) (s : S) (k : ProcessStatus) → HasProcessState behind i f s k → (is_listed now i ≡ true) ⊎ AllowsNoMore o before behind i) → AreListed o behind u now
+  pub moves : (rp : Path) (before after : TableView S) (t u : Tree S) (flags now : List Bool) → TableInvariant o rp before t.root → TableInvariant o rp after u.root → AreListed o before t flags
+      → ((i : ℕ) → is_listed flags i ≡ true → is_listed now i ≡ true) → ((i f : ℕ) (s : S) (k : ProcessStatus) → HasProcessState after i f s k → (is_listed now i ≡ true) ⊎ AllowsNoMore o before after i) → AreListed o after u now
   -- such a list without a record by which nothing but a quiet step can happen
   pub drops : (rp : Path) (v : TableView S) (t : Tree S) (i : ℕ) (flags now : List Bool) → TableInvariant o rp v t.root → AreListed o v t flags → HasNothingDue o v i → ((j : ℕ) → j ≢ i → is_listed flags j ≡ true → is_listed now j ≡ true) → AreListed o v t now
   -- and where such a list lists nothing, only quiet steps are enabled

@@ -13,7 +13,7 @@ use Rattle.shim_laws_table_events.specs.queues.RecordDecisions.{IsReady, CanHapp
 
 -- whatever event but a quiet step can happen now by the record with this number, could happen by it before, and was no quiet step then
 abbrev pub AllowsNoMore : {S : Type 0} → Ops S → TableView S → TableView S → ℕ → Type 0
-AllowsNoMore o before behind i = (e : Event) → CanHappenAt o behind i e → (IsQuietStepAt o behind i e → ⊥) → CanHappenAt o before i e × (IsQuietStepAt o before i e → ⊥)
+AllowsNoMore o before after i = (e : Event) → CanHappenAt o after i e → (IsQuietStepAt o after i e → ⊥) → CanHappenAt o before i e × (IsQuietStepAt o before i e → ⊥)
 
 -- a process with this number and the path of this one was ready on the channel
 pub record WasReady {S : Type 0} (o : Ops S) (before : TableView S) (c : Channel) (j : ℕ) (s : S) : Type 0 where
@@ -25,18 +25,18 @@ pub record WasReady {S : Type 0} (o : Ops S) (before : TableView S) (c : Channel
   pub ready_on : IsReady o before c j process status
 
 -- The state with this number is that before; the record says what it said of its process, and has the labels that it had. By its counts it is ready on no channel on which it wasn't; and on a channel for which it has a label no child is ready that wasn't.
-pub record IsNoReadier {S : Type 0} (o : Ops S) (before behind : TableView S) (i : ℕ) : Type 0 where
-  pub state : slice_get behind.states i ≡ slice_get before.states i
-  pub rest : option_map rest_of (slice_get behind.records i) ≡ option_map rest_of (slice_get before.records i)
-  pub labels : (c : Channel) → min_labels_in c behind.records i ≡ min_labels_in c before.records i
-  pub counts : (c : Channel) → counts_ready (counts_in c behind.records i) ≡ true → counts_ready (counts_in c before.records i) ≡ true
-  pub children : (c : Channel) (j f : ℕ) (s : S) (k : ProcessStatus) → HasProcessState behind j f s k → up_in behind.records j ≡ Some i → min_labels_in c behind.records i ≢ None → IsReady o behind c j s k → WasReady o before c j s
+pub record IsNoReadier {S : Type 0} (o : Ops S) (before after : TableView S) (i : ℕ) : Type 0 where
+  pub state : slice_get after.states i ≡ slice_get before.states i
+  pub rest : option_map rest_of (slice_get after.records i) ≡ option_map rest_of (slice_get before.records i)
+  pub labels : (c : Channel) → min_labels_in c after.records i ≡ min_labels_in c before.records i
+  pub counts : (c : Channel) → counts_ready (counts_in c after.records i) ≡ true → counts_ready (counts_in c before.records i) ≡ true
+  pub children : (c : Channel) (j f : ℕ) (s : S) (k : ProcessStatus) → HasProcessState after j f s k → up_in after.records j ≡ Some i → min_labels_in c after.records i ≢ None → IsReady o after c j s k → WasReady o before c j s
 
 -- Where the table invariant holds, no more can happen by a record than before:
 pub record NoMoreCanHappen {S : Type 0} (o : Ops S) : Type 0 where
   -- where nothing but a quiet step can happen by it
-  pub idle : (before behind : TableView S) (i : ℕ) → HasNothingDue o behind i → AllowsNoMore o before behind i
+  pub idle : (before after : TableView S) (i : ℕ) → HasNothingDue o after i → AllowsNoMore o before after i
   -- where neither it nor a child has become ready
-  pub no_readier : (rp : Path) (before behind : TableView S) (root : Node S) (i : ℕ) → TableInvariant o rp behind root → IsNoReadier o before behind i → AllowsNoMore o before behind i
+  pub no_readier : (rp : Path) (before after : TableView S) (root : Node S) (i : ℕ) → TableInvariant o rp after root → IsNoReadier o before after i → AllowsNoMore o before after i
   -- and where it needn't be looked at again
-  pub as_before : (rp : Path) (before behind : TableView S) (root : Node S) (again : ℕ → Bool) (i : ℕ) → TableInvariant o rp behind root → CoversChanges before behind again → again i ≡ false → AllowsNoMore o before behind i
+  pub as_before : (rp : Path) (before after : TableView S) (root : Node S) (again : ℕ → Bool) (i : ℕ) → TableInvariant o rp after root → CoversChanges before after again → again i ≡ false → AllowsNoMore o before after i

@@ -15,23 +15,23 @@ abbrev pub IsAtNumber : {S : Type 0} → Ops S → TableView S → Event → ℕ
 IsAtNumber o v e i = IsAt o v.states (views v) e i
 
 -- The state with this number is that before, and the record says what it said: of the process, and for each channel.
-pub record IsAsBefore {S : Type 0} (before behind : TableView S) (i : ℕ) : Type 0 where
-  pub state : slice_get behind.states i ≡ slice_get before.states i
-  pub rest : option_map rest_of (slice_get behind.records i) ≡ option_map rest_of (slice_get before.records i)
-  pub counts : (c : Channel) → counts_in c behind.records i ≡ counts_in c before.records i
-  pub labels : (c : Channel) → min_labels_in c behind.records i ≡ min_labels_in c before.records i
+pub record IsAsBefore {S : Type 0} (before after : TableView S) (i : ℕ) : Type 0 where
+  pub state : slice_get after.states i ≡ slice_get before.states i
+  pub rest : option_map rest_of (slice_get after.records i) ≡ option_map rest_of (slice_get before.records i)
+  pub counts : (c : Channel) → counts_in c after.records i ≡ counts_in c before.records i
+  pub labels : (c : Channel) → min_labels_in c after.records i ≡ min_labels_in c before.records i
 
 -- Some numbers are to be looked at again. Whatever record in use isn't as before is among them, and so is its parent:
-pub record CoversChanges {S : Type 0} (before behind : TableView S) (again : ℕ → Bool) : Type 0 where
+pub record CoversChanges {S : Type 0} (before after : TableView S) (again : ℕ → Bool) : Type 0 where
   -- a record that isn't among them is as before
-  pub itself : (i f : ℕ) (s : S) (k : ProcessStatus) → HasProcessState behind i f s k → again i ≡ false → IsAsBefore before behind i
+  pub itself : (i f : ℕ) (s : S) (k : ProcessStatus) → HasProcessState after i f s k → again i ≡ false → IsAsBefore before after i
   -- and so is each child of one that isn't
-  pub children : (i j f : ℕ) (s : S) (k : ProcessStatus) → HasProcessState behind j f s k → up_in behind.records j ≡ Some i → again i ≡ false → IsAsBefore before behind j
+  pub children : (i j f : ℕ) (s : S) (k : ProcessStatus) → HasProcessState after j f s k → up_in after.records j ≡ Some i → again i ≡ false → IsAsBefore before after j
 
--- What can happen behind, and is looked for at a number that isn't among them, could happen before, and was looked for there.
+-- What can happen after the change, and is looked for at a number that isn't to be looked at again, could happen before, and was looked for there.
 abbrev pub RequeueingSuffices : {S : Type 0} → Ops S → Type 0
-RequeueingSuffices {S} o = (rp : Path) (before behind : TableView S) (t u : Tree S) (again : ℕ → Bool) (e : Event) (i : ℕ) → TableInvariant o rp before t.root → TableInvariant o rp behind u.root → CoversChanges before behind again
-    → Can o u e → IsAtNumber o behind e i → again i ≡ false → IsAtNumber o before e i × Can o t e
+RequeueingSuffices {S} o = (rp : Path) (before after : TableView S) (t u : Tree S) (again : ℕ → Bool) (e : Event) (i : ℕ) → TableInvariant o rp before t.root → TableInvariant o rp after u.root → CoversChanges before after again
+    → Can o u e → IsAtNumber o after e i → again i ≡ false → IsAtNumber o before e i × Can o t e
 
 -- Where events are looked for:
 pub record EventHasOneOwner {S : Type 0} (o : Ops S) : Type 0 where

@@ -144,7 +144,7 @@ pub(super) fn push_end(
     text.extend_from_slice(b"\n")
 }
 
-// Adds the word of an outcome, and the name of an uncaught exception, with the space behind them.
+// Adds the word of an outcome, and the name of an uncaught exception, with a space after each.
 fn push_outcome(text: &mut List<u8>, names: &[Name], outcome: Outcome) -> Result<(), NoMemory>
     ensures { OnOk result (text.new ≡ text.old ++ outcome_text names.now outcome) }
 {

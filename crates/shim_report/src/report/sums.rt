@@ -10,7 +10,7 @@ use std::alloc::Global;
 // A sum is printed as its residue modulo this.
 const MODULUS: u64 = 1000000;
 
-// How many values all channels have been given. A count past 64 bits is `NoMemory`.
+// How many values the rendezvous on all channels gave. A count past 64 bits is `NoMemory`.
 fn value_count(histories: &[History]) -> Result<u64, NoMemory>
     ensures { IfOk result (λ count. count ≡ length (all_values histories.now)) }
 {

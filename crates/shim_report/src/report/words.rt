@@ -12,7 +12,7 @@ fn hex_digit(n: u8) -> u8
     if n < 10 { b'0' + n } else { b'a' - 10 + n }
 }
 
-// Adds each byte as two digits.
+// Adds each byte as two hexadecimal digits.
 fn push_digits(text: &mut List<u8>, bytes: &[u8]) -> Result<(), NoMemory>
     ensures { OnOk result (text.new ≡ text.old ++ flat_map hex_byte bytes.now) }
 {
@@ -23,7 +23,7 @@ fn push_digits(text: &mut List<u8>, bytes: &[u8]) -> Result<(), NoMemory>
     Ok(())
 }
 
-/// Adds the bytes as digits behind a space, or nothing where there are none.
+/// Adds a space and then the bytes as hexadecimal digits, or nothing where there are no bytes.
 pub(super) fn push_hex_part(text: &mut List<u8>, bytes: &[u8]) -> Result<(), NoMemory>
     ensures { OnOk result (text.new ≡ text.old ++ hex_part bytes.now) }
 {

@@ -146,7 +146,7 @@ pub(super) fn push_block(text: &mut List<u8>, body: &[Stmt]) -> Result<(), NoMem
     text.extend_from_slice(b"}\n")
 }
 
-// Nothing where the list is empty.
+// `else` with its block, or nothing where the block has no statement.
 #[cycle(statements)]
 fn push_else(text: &mut List<u8>, body: &[Stmt]) -> Result<(), NoMemory>
     ensures { OnOk result (text.new ≡ text.old ++ pieces_text (else_pieces (map stmt_shown body.now))) }

@@ -1,4 +1,4 @@
-// The tokens of the canonical text, each with the space behind it.
+// Names, numbers and types as tokens of the canonical text, each with the space after it; operators' signs and rows.
 ghost use Rattle.std.specs.Prelude.{◌≡◌, ◌∷◌, [], ◌++◌, OnOk};
 ghost use Rattle.std.specs.Fmt.{signed_decimal};
 ghost use Rattle.shim_syntax.specs.Printing.{type_piece, sort_piece, name_piece, number_piece, row_of_operator, sign_of_operator, sign_of_unary, sign_text, pieces_text};

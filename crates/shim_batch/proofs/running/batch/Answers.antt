@@ -4,14 +4,14 @@ use Rattle.std.proofs.lemmas.Slice.Zip.{AllZip-long}
 use denote.Param.Send.{sendable}
 use Rattle.shim_net.proofs.Sends.{net_send}
 use Rattle.shim_workers.proofs.Weaker.{if_ok_weaker}
-use Rattle.shim_batch.specs.Runs.{HasRun}
+use Rattle.shim_batch.specs.Runs.{RunsToEnd}
 use Rattle.shim_batch.proofs.Joining.{zips_joined, zips_places}
 use Rattle.shim_batch.proofs.Sends.{list_send}
 use Rattle.shim_batch.proofs.running.batch.Goals as goal
 
 pub returns-clause-runs : goal.returns-clause-runs
 returns-clause-runs g c =
-    let R = HasRun g.L.Local.ops in
+    let R = RunsToEnd g.L.Local.ops in
     let parts = c.in_ok-parts.parts in
     let done = c.in_ok-done.done in
     let long : length done.items ≡ length parts.items = let len = c.in_ok-done.ensures.len in let before = parts.ok.0 in let after = done.ok.0 in omega (arith, len, before, after) in
@@ -21,7 +21,7 @@ returns-clause-runs g c =
     if_ok_weaker c.join.result _ _ (λ all joins. subst (λ nets. AllZip R nets all) c.in_ok-parts.ensures (zips_joined R parts.items done.items all each joins)) c.join.ensures
 
 pub returns-clause-many : goal.returns-clause-many
-returns-clause-many g c = if_ok_weaker c.join.result _ _ (λ all each. AllZip-long (HasRun g.L.Local.ops) c.args.nets all each) (returns-clause-runs g c)
+returns-clause-many g c = if_ok_weaker c.join.result _ _ (λ all each. AllZip-long (RunsToEnd g.L.Local.ops) c.args.nets all each) (returns-clause-runs g c)
 
 pub map_vec-requires-send-J : goal.map_vec-requires-send-J
 map_vec-requires-send-J g c κs within = search (net_send, list_send, sendable) depth 20

@@ -1,7 +1,7 @@
 use Rattle.std.proofs.Common.{rules, ◌≡◌, ◌∙◌, ap, ap₂, codes, true}
 use Rattle.clap.specs.Words.{App, app_of, new_app, rule_of, with_rule}
 use Rattle.clap.specs.Simple.{app_of_fields, on_top}
-use Rattle.shim_command.specs.Command.{command_rules, flag, positional, number_option, option, shim_app, words_behind}
+use Rattle.shim_command.specs.Command.{command_rules, flag, positional, number_option, option, shim_app, words_after}
 use Rattle.shim_command.proofs.command.command.Goals as goal
 
 abbrev without_help : App → App
@@ -19,7 +19,7 @@ returns c =
     let size : rule_of c.number-4.result ≡ number_option (codes "size") 1 100000 = search rules in
     let journal : rule_of c.option-2.result ≡ option (codes "journal") = search rules in
     let steal : rule_of c.flag.result ≡ flag (codes "steal") = search rules in
-    let inputs : rule_of c.words_behind.result ≡ words_behind (codes "INPUT") = search rules in
+    let inputs : rule_of c.words_after.result ≡ words_after (codes "INPUT") = search rules in
     let plain : app_of c.disable_help_flag-plain.result ≡ without_help (new_app (codes "shim")) =
     ap app_of_fields c.disable_help_flag-plain.ensures ∙ ap without_help c.new.ensures.app in
     c.in_ok-command.ensures.shape (search rules) ∙ ap₂ with_rule

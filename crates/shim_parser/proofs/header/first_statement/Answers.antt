@@ -21,7 +21,7 @@ returns-in_ok-alone-in-Sort-Value c = first_declare_reads c.args.level c.args.to
     c.advance-in-Sort-Value.ensures c.in_ok-name-in-Sort-Value.ensures.one c.punctuation.new.tokens _ c.in_ok-punctuation-in-Sort-Value.ensures (search rules)
 
 pub returns-in_ok-assignment-in-Name : goal.returns-in_ok-assignment-in-Name
-returns-in_ok-assignment-in-Name c = first_assign_reads c.args.level c.args.tokens.now c.enter-in-Name.new.self c.advance-in-Name.new.self c.value_behind_equal.new.tokens c.in-Name.text.now
+returns-in_ok-assignment-in-Name c = first_assign_reads c.args.level c.args.tokens.now c.enter-in-Name.new.self c.advance-in-Name.new.self c.value_after_equal.new.tokens c.in-Name.text.now
     c.in_ok-name-in-Name.name
     (record { at = c.peek-token.result.at; line = c.peek-token.result.line }) c.in_ok-value-in-Name.value _ (search rules) c.in_ok-enter-in-Name.ensures.0 c.in_ok-enter-in-Name.ensures.1
     c.advance-in-Name.ensures

@@ -4,7 +4,7 @@ use Rattle.shim_grammar.specs.declared.punctuation.Punctuation.TheVariants as pu
 use Rattle.shim_grammar.specs.Machine.{AfterEqual, AfterNext, Body, Expression, First, Fixed, Operators, Step, Test, ThrowRest, Word}
 use Rattle.shim_syntax.specs.declared.tree.What.TheVariants as st
 use Rattle.shim_syntax.specs.declared.tree.BranchWhat.TheVariants as br
-use Rattle.shim_parser.specs.Statements.{IsAssigned, IsNamed, IsBehindPar}
+use Rattle.shim_parser.specs.Statements.{IsAssigned, IsNamed, IsAfterPar}
 use Rattle.shim_parser.proofs.StmtExits.{advanced_same}
 use Rattle.shim_parser.specs.OpeningView.{opening_view}
 use Rattle.shim_parser.specs.ReaderViews.{ReaderView, Reads}
@@ -133,7 +133,7 @@ named-returns-in_err-branches t c = propagates _ _ _ _ _ _ c.from_residual-in_er
 
 pub named-returns : goal.named-returns
 named-returns t c = exits.named_fork c.args.level c.args.line c.args.text.now c.args.tokens.now c.is_sign.result c.is_sign.ensures c.if-is_sign.false c.punctuation.new.tokens c.in_ok-punctuation.ensures c.call.new.tokens c.in_ok-args.args c.in_ok-args.ensures c.is_key.result c.is_key.ensures c.branches.new.tokens c.in_ok-branches.field-0
-    (subst (λ u. IsBehindPar (record { line = c.args.line; what = br.Call (record { function = u; args = c.in_ok-args.args }) }) c.args.level c.call.new.tokens.counts c.branches.new.tokens.counts c.call.new.tokens.rest c.branches.new.tokens.rest c.in_ok-branches.field-0) c.in_ok-name.ensures c.in_ok-branches.ensures)
+    (subst (λ u. IsAfterPar (record { line = c.args.line; what = br.Call (record { function = u; args = c.in_ok-args.args }) }) c.args.level c.call.new.tokens.counts c.branches.new.tokens.counts c.call.new.tokens.rest c.branches.new.tokens.rest c.in_ok-branches.field-0) c.in_ok-name.ensures c.in_ok-branches.ensures)
 
 pub statement-returns-in-Empty : goal.statement-returns-in-Empty
 statement-returns-in-Empty t c = cases.empty_case c.args.level (record { at = c.peek-token.result.at; line = c.peek-token.result.line }) c.args.tokens.now c.enter.new.self c.advance.new.self c.in_ok-enter.ensures.0 c.in_ok-enter.ensures.1 c.advance.ensures (sym c.peek-token.ensures.is ∙ c.in-Some.ensures (record { at = c.peek-token.result.at; line = c.peek-token.result.line }) ∙ ap (λ o. opening_view o (record { at = c.peek-token.result.at; line = c.peek-token.result.line })) c.in-Empty.is) c.new.result c.new.ensures

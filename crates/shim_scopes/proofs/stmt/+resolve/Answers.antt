@@ -6,7 +6,7 @@ use Rattle.shim_syntax.specs.Sizes.{stmts_size, variable_size}
 use Rattle.shim_scopes.specs.State.{whole, HasRoom}
 use Rattle.shim_scopes.proofs.Nested.{passed_on, kept_both, for_at_first, for_at_step, for_at_body, for_whole, try_refused, try_whole}
 use Rattle.shim_scopes.proofs.Loops.{body_goes_on, body_ends, fork_goes_on, fork_ends}
-use Rattle.shim_scopes.proofs.Room.{room_for_first, room_for_stmt, room_for_branch, behind_block, behind_body, behind_stmt, behind_branch, behind_try, behind_variable, room_outside, room_in_declare, room_in_if, room_in_while, room_in_for, room_for_test, room_in_block, room_in_try, room_in_par, room_in_branch}
+use Rattle.shim_scopes.proofs.Room.{room_for_first, room_for_stmt, room_for_branch, behind_block, behind_body, behind_stmt, behind_branch, behind_try, after_variable, room_outside, room_in_declare, room_in_if, room_in_while, room_in_for, room_for_test, room_in_block, room_in_try, room_in_par, room_in_branch}
 use Rattle.shim_scopes.proofs.stmt.+resolve.Goals as goal
 
 -- statements one after another
@@ -180,7 +180,7 @@ resolve_try-resolve_body-requires t c =
         (
           c.requires.few,
           rw (c.as_slice-2.ensures)
-              (behind_variable c.args.names.now c.args.variable.now c.len-inner.result _ c.begin_handler.new.scope _ (stmts_size c.args.handler.now) c.in_ok-variable.ensures.after c.in_ok-variable.ensures.kept
+              (after_variable c.args.names.now c.args.variable.now c.len-inner.result _ c.begin_handler.new.scope _ (stmts_size c.args.handler.now) c.in_ok-variable.ensures.after c.in_ok-variable.ensures.kept
               (room_outside c.resolve_block.new.scope _ rest
               (behind_block (whole c.args.functions.now c.args.names.now) c.args.start rest c.begin_try.new.scope c.resolve_block.new.scope c.args.body.now c.in_ok-body.body
               (rw (c.as_slice.ensures) at c.in_ok-body.ensures.meant) c.in_ok-body.ensures.kept

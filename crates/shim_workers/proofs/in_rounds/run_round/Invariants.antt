@@ -2,7 +2,7 @@ use Rattle.std.proofs.Common.{◌<◌, ◌+◌, length}
 use Rattle.shim_semantics.specs.Trees.{steps}
 use Rattle.shim_net.specs.Progress.{GoesOn}
 use Rattle.shim_workers.specs.Progress.{HaveSteps}
-use Rattle.shim_workers.proofs.turns.turn.Given as goal
+use Rattle.shim_workers.proofs.in_rounds.run_round.Given as goal
 
 abbrev pub invariant-loop-one : goal.invariant-loop-one
 invariant-loop-one g l = record {

@@ -5,7 +5,7 @@ use Rattle.shim_net.specs.Progress.{GoesOn, HasSettled, CanGive}
 use Rattle.shim_net.proofs.Ends.{has_stopped}
 use Rattle.shim_net.proofs.Progress.{stays, on_and_on, gave_none, closer}
 use Rattle.shim_workers.proofs.Progress.{did_some, did_none}
-use Rattle.shim_workers.proofs.turns.run_alone.Goals as goal
+use Rattle.shim_workers.proofs.in_rounds.run_alone.Goals as goal
 
 pub loop-net-init : goal.loop-net-init
 loop-net-init g c =

@@ -1,6 +1,6 @@
 use Rattle.std.proofs.Common.{sym, ap, ◌∙◌, take, refl}
 use Rattle.shim_process_table.proofs.ClosingJoins.{joined_behind}
-use Rattle.shim_process_table.proofs.closing.join_behind.Goals as goal
+use Rattle.shim_process_table.proofs.closing.join_after.Goals as goal
 
 pub returns : goal.returns
 returns g c l e =

@@ -1,4 +1,4 @@
-// Turns: the work of all processes is given out, done side by side, and taken back.
+// Rounds of workers: the work of all processes is given out, done side by side, and taken back.
 ghost use Rattle.std.specs.Prelude.{◌≡◌, ◌≤◌, ◌<◌, ◌*◌, ◌⊎◌, min, [], true, false, IsTrue, IsFalse, IfOk, OnOk};
 ghost use Rattle.shim_semantics.specs.Trees.{steps};
 ghost use Rattle.shim_net.specs.Nets.{IsNet};
@@ -40,7 +40,7 @@ fn settle_all<L: Local>(net: &mut Net<L>) -> Result<u64, NoMemory>
 
 // Gives out a piece of each process that has quiet steps to do, has them done on at most as many threads
 // as there are workers, and takes them back.
-fn turn<L: Local, G: Gate, R: Threads + Sync>(
+fn run_round<L: Local, G: Gate, R: Threads + Sync>(
     rt: &R,
     alloc: Global,
     net: &mut Net<L>,
@@ -65,10 +65,10 @@ fn turn<L: Local, G: Gate, R: Threads + Sync>(
     Ok(())
 }
 
-// The most steps of the next round's pieces, where this round's had so many, and so many events were done
-// behind them. Behind an event they have as many as at first, since short pieces let processes meet soon.
-// Where none was done short pieces gain nothing, and they get up to twice as long: to give one out and
-// take it in costs the same, however long it is.
+// The most steps of the next round's pieces, where this round's had so many, and so many events were done after them.
+// After an event they have as many as at first, since short pieces let processes meet soon. Where none was done short
+// pieces gain nothing, and they get up to twice as long: to give one out and take it in costs the same, however long
+// it is.
 fn next_most(first: u64, most: u64, events: u64) -> u64
     requires first { (1 ≤ first) × (first ≤ 10000) }
     requires most { (1 ≤ most) × (most ≤ 10000) }
@@ -101,8 +101,8 @@ fn next_pid<L: Local>(net: &mut Net<L>) -> Option<u64>
     net.next_home()
 }
 
-// Runs a net by one worker, which gives nothing out: while a process is at home and steps are left, the one that
-// is next does its piece where it stands, and all other events are done behind it.
+// Runs a net by one worker, which gives nothing out: while a process is at home and steps are left, the one that is
+// next does its piece where it stands, and the net is settled after it.
 fn run_alone<L: Local, G: Gate>(net: &mut Net<L>, quantum: u64, gate: &G) -> Result<(), NoMemory>
     requires quantum { (1 ≤ quantum) × (quantum ≤ 10000) }
     requires home { net.old.grants ≡ [] }
@@ -153,7 +153,7 @@ pub fn rounds<L: Local, G: Gate, R: Threads + Sync>(
     let mut most = quantum;
     let mut round = 0u64;
     while is_running(&net) {
-        turn(rt, alloc, &mut net, workers, most, round, gate)?;
+        run_round(rt, alloc, &mut net, workers, most, round, gate)?;
         let events = settle_all(&mut net)?;
         most = next_most(quantum, most, events);
         round = round.saturating_add(1);

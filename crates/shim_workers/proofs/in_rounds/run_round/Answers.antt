@@ -1,6 +1,6 @@
 use Rattle.shim_net.proofs.Progress.{on_and_on}
 use Rattle.shim_workers.proofs.Progress.{more_and_on, more_steps}
-use Rattle.shim_workers.proofs.turns.turn.Goals as goal
+use Rattle.shim_workers.proofs.in_rounds.run_round.Goals as goal
 
 pub loop-one-preserved : goal.loop-one-preserved
 loop-one-preserved g c =

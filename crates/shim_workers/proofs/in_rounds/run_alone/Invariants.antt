@@ -1,7 +1,7 @@
 use Rattle.std.proofs.Common.{◌≡◌, ◌≤◌, ◌-◌, []}
 use Rattle.shim_semantics.specs.Trees.{steps}
 use Rattle.shim_net.specs.Progress.{GoesOn, HasSettled}
-use Rattle.shim_workers.proofs.turns.run_alone.Given as goal
+use Rattle.shim_workers.proofs.in_rounds.run_alone.Given as goal
 
 abbrev pub invariant-loop-net : goal.invariant-loop-net
 invariant-loop-net g l = record {
