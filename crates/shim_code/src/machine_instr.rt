@@ -5,7 +5,7 @@ use shim_syntax::Sort;
 
 /// Where a statement begins, or its second part. The small fields stand last, so that an instruction takes
 /// 16 bytes in place of 24.
-#[derive(Clone, Copy)]
+#[derive(Clone, Copy, Debug)]
 pub struct Mark {
     pub line: u32,
     /// The statement's number in its unit.
@@ -17,7 +17,7 @@ pub struct Mark {
 }
 
 /// What is called, or what a branch of a fork calls.
-#[derive(Drop)]
+#[derive(Debug, Drop)]
 pub struct Callee {
     pub unit: u32,
     /// How many arguments it gets.
@@ -28,7 +28,7 @@ pub struct Callee {
 
 /// One instruction with what running it takes of its statement: a type to store by, what a parameter holds and its
 /// name, a number. Other names, and the slots of the units that are entered, stay in the program.
-#[derive(Drop)]
+#[derive(Debug, Drop)]
 pub enum MachineInstr {
     Mark(Mark),
     Num(i64),
