@@ -137,7 +137,7 @@ class Bench:
         self.builds = [path for path in (given.shim, given.before) if path]
 
     def shim(self, *words, idle=None, limit=(), **more):
-        """A run of shim, started by the words of a limit, and the same by the other build behind it."""
+        """A run of shim, started by the words of a limit, and the same by the other build after it."""
         run, *others = [Run([*limit, build, *words], idle=idle, **more) for build in self.builds]
         for other in others:
             other.idle, other.to, run.before = idle and idle.before, run.to + ".before", other

@@ -7,7 +7,7 @@ MIB = 1 << 20
 
 def filled(head, parts, tail, size=MIB, most=MIB):
     """Text of so many bytes: the parts in turn as long as they fit, at most so many, each with a number of its own in
-    place of an @, and spaces behind."""
+    place of an @, and spaces after."""
     texts, left = [head], size - len(head) - len(tail)
     for number, part in zip(range(1000, 1000 + most), itertools.cycle([parts] if isinstance(parts, str) else parts)):
         text = part.replace("@", str(number))
@@ -38,7 +38,7 @@ TOKENS = "  level = level + (step << 3) * 0x1F; // a ramp\n  next level; /* all 
 
 
 def in_shim(body, size, main="void main() { }"):
-    """As many functions with this body as fit, and this `main` behind them."""
+    """As many functions with this body as fit, and this `main` after them."""
     return filled("", "void f@(int n, int &r) { int a; int b; " + body, main, size, 1000)
 
 
@@ -273,7 +273,7 @@ TEXTS = {
     "whole fors": nested("for(a=a;a;a=a)", ";", "", 62),
     "tries": nested("try{", "", "}catch(T){}", 63),
     "flat tries": main_of("try{}catch(T){}"),
-    "throws behind tries": main_of("throw U;", TRIES + "try{", "}catch(U){} "),
+    "throws after tries": main_of("throw U;", TRIES + "try{", "}catch(U){} "),
     "throws in a fork beside tries": ("void main() throws U {" + TRIES + "{}par{", "throw U;", "} }"),
     "forks beside tries": main_of("{}par{}", TRIES),
     "forks that throw beside tries": ("void main() throws U {" + TRIES, "{throw U;}par{}", "}"),

@@ -45,7 +45,7 @@ ODD_NAMES = ["a b", "a\nb", "\x1b[1m", "*", "日本", "it's", "\\", "%s%n", "=x"
 NO_TEXTS = [os.fsdecode(name) for name in (b"\xff", b"p\x80.shim", b"\xc3")]
 NOT_READ = [*"dangling round . p.shim/ p.shim/q /proc/self/mem / /proc ./".split(), "n" * 300, "n" * 100000]
 
-# Of words behind `run` or `ref`, in which bash finds files and redirections, the status and the text.
+# Of words after `run` or `ref`, in which bash finds files and redirections, the status and the text.
 BY_MODE = {
     # What is no regular file.
     (0, PUTS): ["link", "<(cat p.shim)", "/dev/stdin < p.shim", "/dev/fd/0 < p.shim", "/dev/stdin < <(cat p.shim)",
@@ -56,7 +56,7 @@ BY_MODE = {
     (0, EMPTY): ["copy.shim --input /dev/null"],
     (5, "refused 1 no main\n"): ["/dev/null"],
     (5, "refused 1 unexpected 0\n"): ["/proc/self/stat"],
-    # At the limit, and behind it.
+    # At the limit, and after it.
     (0, NOTHING): ["<(cat most.shim)", "none.shim --input /dev/stdin < <(cat full)"],
     (6, TOO_LONG % ("/dev/stdin", SOURCE)): ["/dev/stdin < <(cat more.shim)"],
     (6, TOO_LONG % ("/dev/stdin", INPUT)): ["none.shim --input /dev/stdin < <(cat over)"],
@@ -66,7 +66,7 @@ BY_MODE = {
     (6, FAILED % "/dev/stdin"): ["/dev/stdin <&-", "/dev/stdin < ."],
     (6, FAILED % "/dev/tty"): ["/dev/tty"],
 }
-# Output that can't be written, words behind `run` or `ref`, and words of other modes.
+# Output that can't be written, words after `run` or `ref`, and words of other modes.
 NO_OUTPUT = ["> /dev/full", ">&-", "1< p.shim", "1< .", "<&- >&-", "<&- >&- 2>&-", ">&- 2>&-"]
 NOT_TOLD = ["p.shim", "none.shim", "copy.shim --input bytes", "p.shim --budget 1", "p.shim --input nowhere", "nowhere",
             "more.shim", "/dev/null", "/proc/self/mem", ".", "--help"]

@@ -2,7 +2,7 @@
 """Whether shim answers as ever, or writes `no memory` and ends with 8, where the system refuses what it asks for.
 
 `alloc` lets the first, second, .. allocation fail, until runs make no more of them; then that allocation and each
-behind it. Runs by several workers make more or fewer allocations by chance, so ten numbers in a row have to come to
+after it. Runs by several workers make more or fewer allocations by chance, so ten numbers in a row have to come to
 nothing. Wants gcc. With WORDS it does so for this call of shim alone, and without for those below.
 
 `memory` limits the address space, from the least with which the system starts the program at all upward in small
@@ -110,7 +110,7 @@ def is_as_ever(what, answer, wanted):
 
 
 def refuse_each(words, wanted, more):
-    """Refuses allocation after allocation, each with so many behind it, until ten runs in a row make no more of them:
+    """Refuses allocation after allocation, each with so many after it, until ten runs in a row make no more of them:
     how many there were, and how many runs ended for want of memory."""
     idle = without = 0
     for number in itertools.count(1):
@@ -122,7 +122,7 @@ def refuse_each(words, wanted, more):
             without += not is_as_ever("with allocation %d refused" % number, answer, wanted)
         else:
             idle += 1
-            common.compare("with nothing refused behind %d" % number, answer, *wanted[1:3])
+            common.compare("with nothing refused after %d" % number, answer, *wanted[1:3])
         if idle == 10:
             return number - idle, without
 
@@ -132,7 +132,7 @@ def alloc(given):
                    input=REFUSE.encode(), check=True)
     for words, wanted in calls(given):
         one, each = (refuse_each(words, wanted, more) for more in (0, 1 << 60))
-        print("%s: %d allocations, of which %d ended with 8 when refused alone, and %d with each one behind them"
+        print("%s: %d allocations, of which %d ended with 8 when refused alone, and %d with each one after them"
               % (" ".join(words), *one, each[1]), flush=True)
 
 
@@ -215,5 +215,5 @@ if __name__ == "__main__":
     if given.words and given.fault in ("stack", "threads"):
         words.error("%s takes no call: %s" % (given.fault, " ".join(given.words)))
     if given.words and given.words[0].startswith("-"):
-        words.error("%s has to stand before %s: behind that stands a call of shim" % (given.words[0], given.fault))
+        words.error("%s has to stand before %s: after that stands a call of shim" % (given.words[0], given.fault))
     common.start(main, given)

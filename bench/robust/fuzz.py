@@ -9,8 +9,8 @@ the runs with --steal; the journal of `trace` is replayed, and so is one that wa
 What bench/robust/grammar.py says of the text holds: its first fault, or its text in version 2. Where no mode refuses
 it, the runs of tools/shimtools have the report, the reasons of `why`, and what `replay` answers to a journal; `trace`
 writes a journal that leads to the status of `ref`. Where the budget stops `run` or a run of `batch`, the report has
-the form of docs/FORMATS.md, and its counts add up to the budget. `code` has its form, and a refusal behind the
-grammar its own, the same in each mode. Behind `up` all is the same, but for lines and for the name `int64`.
+the form of docs/FORMATS.md, and its counts add up to the budget. `code` has its form, and a refusal after the
+grammar its own, the same in each mode. After `up` all is the same, but for lines and for the name `int64`.
 
 The same numbers make the same texts and words. Prints how many calls had each status. Keeps a text whose answers are
 wrong in the folder `found`, says what is wrong, and ends with 1.
@@ -217,7 +217,7 @@ LINE = re.compile(r"^(catch \S+ \S+|trap \S+ \S+|\d+ mark \S+) \d+$", re.MULTILI
 
 
 class Oracle:
-    """What shim has to answer to the calls of a job. Of a refusal behind the grammar its answers say which it is."""
+    """What shim has to answer to the calls of a job. Of a refusal after the grammar its answers say which it is."""
 
     def __init__(self, job, answers):
         self.job, self.code = job, None
@@ -281,7 +281,7 @@ class Oracle:
         return self.reported(mode, text, self.job.input)
 
     def in_2(self, text):
-        """A text of a program as that of the program behind `up`, without the lines of the source."""
+        """A text of a program as that of the program after `up`, without the lines of the source."""
         return LINE.sub(r"\1", re.sub(r"\bint64\b", self.fresh, text) if self.fresh else text)
 
 

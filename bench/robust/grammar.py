@@ -24,7 +24,7 @@ def sort(type):
 
 
 class Writer:
-    """Writes a program in version 2, a blank or a line feed behind each token. `fresh` is the name that stands there
+    """Writes a program in version 2, a blank or a line feed after each token. `fresh` is the name that stands there
     for `int64`, if one does."""
 
     def __init__(self, program):

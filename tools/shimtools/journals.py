@@ -109,7 +109,7 @@ def steps_of(run, entry):
 
 
 def follow(run, text, told=lambda run, entry: None, done=lambda run, entry, what: None):
-    """Does the entries of a journal in turn. `told` hears of each before it happens, `done` behind it. Raises Refused."""
+    """Does the entries of a journal in turn. `told` hears of each before it happens, `done` after it. Raises Refused."""
     budget, entries = read(text)
     for number, entry in enumerate(entries, 2):
         if run.steps + (entry[2] if entry[0] == "quiet" else 1) > budget:

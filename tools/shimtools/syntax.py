@@ -14,6 +14,12 @@ FOREIGN = frozenset(
     string struct switch typedef uint uint64 union unsigned var volatile yield""".split()
 )
 
+
+def is_foreign_type(name):
+    """Whether this is what other languages call a whole number of 8 to 64 bits."""
+    return re.fullmatch(r"u?int(8|16|32|64)_t|[iu](8|16|32|64)|byte", name) is not None
+
+
 ROWS = [row.split() for row in ("||", "&&", "|", "^", "&", "== !=", "< <= > >=", "<< >>", "+ -", "* / %")]
 TIGHTNESS = {sign: row for row, signs in enumerate(ROWS) for sign in signs}
 LEAST, GREATEST = -(2**63), 2**63 - 1

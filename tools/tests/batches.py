@@ -1,6 +1,6 @@
 #!/usr/bin/env python3
 """Holds `shim batch` against runs of their own: each example and each program of bench/made.py gets 1 to 64 inputs, which are
-parts of the example's own with bytes changed at random, on 1 to 16 workers with pieces of 1 to 10,000 steps. Behind the
+parts of the example's own with bytes changed at random, on 1 to 16 workers with pieces of 1 to 10,000 steps. After the
 line of each input must stand what `shim ref` prints of it; where the budget stopped that, a report whose steps add up to the
 budget, with an output that begins the other or is begun by it. The status must be the greatest. Then one of the inputs is
 missing, and no report may come. Ends with 1 at the first difference, and names it.

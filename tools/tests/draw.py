@@ -101,7 +101,7 @@ def main():
     oven = ["examples/oven.shim", "--input", "examples/oven.txt"]
     bars = lambda text: re.findall(r"^(participant|activate|deactivate|destroy) (?:.* as )?(\w+)$", text, re.M)
     text = call(DRAW, "run", *oven, "--from", "26", "--to", "28")[0]
-    same("a cut behind deaths", bars(text), [("participant", "p"), ("activate", "p")])
+    same("a cut after deaths", bars(text), [("participant", "p"), ("activate", "p")])
     text = call(DRAW, "run", *oven, "--from", "23", "--to", "26")[0]
     same("a cut with a death", bars(text), [("participant", "p"), ("participant", "p_0_1"), ("activate", "p"), ("activate", "p_0_1"), ("destroy", "p_0_1")])
     for name in ("commands", "frames", "filter"):

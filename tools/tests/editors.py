@@ -371,7 +371,7 @@ def bat_contexts(grammar):
                 continue
             rule = {"match": pattern.get("match") or pattern["begin"]}
             if "begin" in pattern:
-                name = "behind%d" % len(contexts)
+                name = "after%d" % len(contexts)
                 contexts[name] = None  # the name is taken
                 inner = [{"match": pattern["end"], "pop": True}, *rules(pattern.get("patterns", []))]
                 if "name" in pattern:

@@ -80,9 +80,9 @@ END
   same 'bash: modes' "$(b shim '')" "$modes"
   same 'bash: a mode begun' "$(b shim r)" "$(printf '%s' "$modes" | tr ' ' '\n' | grep '^r' | tr '\n' ' ')"
   same 'bash: sources' "$(b shim run '')" 'filter.shim folder hello.shim '
-  same 'bash: inputs behind --' "$(b shim batch -- filter.shim filter.t)" 'filter.txt '
-  same 'bash: sources behind an option' "$(b shim --workers 2 run h)" 'hello.shim '
-  same 'bash: sources behind an option in one word' "$(b shim --workers = 2 run h)" 'hello.shim '
+  same 'bash: inputs after --' "$(b shim batch -- filter.shim filter.t)" 'filter.txt '
+  same 'bash: sources after an option' "$(b shim --workers 2 run h)" 'hello.shim '
+  same 'bash: sources after an option in one word' "$(b shim --workers = 2 run h)" 'hello.shim '
   same 'bash: an input' "$(b shim run filter.shim --input filter.t)" 'filter.txt '
   same 'bash: workers' "$(b shim run filter.shim --workers '')" '1 16 2 4 8 '
   same 'bash: workers in one word' "$(b shim run filter.shim --workers = 1)" '1 16 '
@@ -136,7 +136,7 @@ if has fish; then
   f() { HOME=$room XDG_DATA_DIRS=$to/share:/usr/share TERM=dumb fish -c 'complete -C "$argv"' -- "$1" 2> /dev/null | cut -f 1 | LC_ALL=C sort | tr '\n' ' '; }
   same 'fish: modes' "$(f 'shim ')" "$modes"
   same 'fish: sources' "$(f 'shim run h')" 'hello.shim '
-  same 'fish: sources behind an option' "$(f 'shim --workers 2 run f' | tr ' ' '\n' | grep shim)" 'filter.shim'
+  same 'fish: sources after an option' "$(f 'shim --workers 2 run f' | tr ' ' '\n' | grep shim)" 'filter.shim'
   same 'fish: workers' "$(f 'shim run hello.shim --workers ')" '1 16 2 4 8 '
   same 'fish: options' "$(f 'shim run hello.shim --b')" '--budget '
   same 'fish: kinds' "$(f 'shim gen ')" 'pipe storm tree '
@@ -152,7 +152,7 @@ cd "$top" || exit 1
 # Uninstall.
 touch "$to/share/man/man1/other.1"
 make -s uninstall DESTDIR="$room/root" PREFIX=/usr > "$room/log" 2>&1 || { cat "$room/log"; fail 'make uninstall'; }
-same 'files behind make uninstall' "$(cd "$to" && find . ! -type d)" './share/man/man1/other.1'
+same 'files after make uninstall' "$(cd "$to" && find . ! -type d)" './share/man/man1/other.1'
 
 # Below a folder with a blank in its name, beside one that has the name before the blank; and one with a quote.
 for name in 'my things' "it's"; do
@@ -161,7 +161,7 @@ for name in 'my things' "it's"; do
   same "the program below '$name'" "$("$room/$name/usr/bin/shim" run "$room/$name/usr/share/doc/shim/examples/hello.shim")" "$(./shim run examples/hello.shim)"
   same "all files below '$name'" "$(cd "$room/$name/usr" && find . ! -type d | wc -l)" "$installed"
   make -s uninstall DESTDIR="$room/$name" PREFIX=/usr > "$room/log" 2>&1 || { cat "$room/log"; fail "make uninstall below '$name'"; }
-  same "files behind make uninstall below '$name'" "$(cd "$room/$name" && find . ! -type d)" ''
+  same "files after make uninstall below '$name'" "$(cd "$room/$name" && find . ! -type d)" ''
   same "the folder beside '$name'" "$(cd "$room/my" && find . ! -type d)" './kept'
 done
 

@@ -204,4 +204,4 @@ touch before
 ended "$(submit cut run)"
 compare run cut/reports cut/statuses.*
 [ "$(find cut/reports -type f -not -newer before | wc -l)" = "$(cat done.before)" ] || fail 'a run of a cancelled array is done again'
-echo "$said; Slurm: 200 inputs by an array of four tasks, by $modes, the same; an array that was cancelled behind $(cat done.before) runs went on and did none of them again"
+echo "$said; Slurm: 200 inputs by an array of four tasks, by $modes, the same; an array that was cancelled after $(cat done.before) runs went on and did none of them again"

@@ -1,8 +1,8 @@
 #!/usr/bin/env python3
-"""Does what the pages for users say, and compares what comes with what they show. In a page a block behind `<!--
-file NAME -->` is a file, and one behind `<!-- part NAME of OTHER -->` a function that stands in NAME in place of
+"""Does what the pages for users say, and compares what comes with what they show. In a page a block after `<!--
+file NAME -->` is a file, and one after `<!-- part NAME of OTHER -->` a function that stands in NAME in place of
 OTHER's; in a block of the kind `console` each line `$ COMMAND` is done by bash, in one folder for the whole page,
-and the lines behind it are what it writes. A block behind `<!-- NAME is installed -->` is left out where that program
+and the lines after it are what it writes. A block after `<!-- NAME is installed -->` is left out where that program
 isn't. Ends with 1 at the first difference.
 
 Use: tools/tests/pages.py [PAGE..], else docs/TUTORIAL.md, docs/QUESTIONS.md and docs/MANY-INPUTS.md"""
@@ -25,7 +25,7 @@ def blocks(text):
 
 
 def commands(body):
-    """The commands of a block with what each writes. A command goes on behind a backslash, or to the end of its quotes."""
+    """The commands of a block with what each writes. A command goes on after a backslash, or to the end of its quotes."""
     parts = re.split(r"^\$ ", body, flags=re.M)[1:]
     for part in parts:
         lines = part.split("\n")

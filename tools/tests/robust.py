@@ -23,7 +23,7 @@ REFUSED = {
     "robust/faults.py --step 0 memory": "argument --step: 0: a number from 1 to 4294967296",
     "robust/faults.py --most -3 alloc": "argument --most: -3: a number from 1 to 4294967296",
     "robust/faults.py threads x": "threads takes no call: x",
-    "robust/faults.py alloc --most 3 run p": "--most has to stand before alloc: behind that stands a call of shim",
+    "robust/faults.py alloc --most 3 run p": "--most has to stand before alloc: after that stands a call of shim",
     "robust/grammar.py nowhere": "nowhere: No such file or directory",
     "robust/grammar.py .": ".: Is a directory",
     "robust/grammar.py title odd": "odd isn't ASCII, and cases have to be",

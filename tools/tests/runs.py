@@ -1,6 +1,6 @@
 #!/usr/bin/env python3
 """Holds the runs of tools/shimtools against the program's own cases and examples: the report of each, byte for byte,
-the reasons of `why` behind it, and that its journal, read back and followed, leads to the same report. The cases are those of
+the reasons of `why` after it, and that its journal, read back and followed, leads to the same report. The cases are those of
 crates/shim_conformance/data whose mode is `run` or `ref` and whose text is a report, and those of `batch` whose text is
 reports. Ends with 1 at the first difference, and names it.
 
