@@ -123,6 +123,59 @@ fn run_alone<L: Local, G: Gate>(net: &mut Net<L>, quantum: u64, gate: &G) -> Res
     Ok(())
 }
 
+// Runs a net by several workers, in rounds, until no event is enabled in it or its budget is spent.
+fn run_together<L: Local, G: Gate, R: Threads + Sync>(
+    rt: &R,
+    alloc: Global,
+    net: &mut Net<L>,
+    workers: u32,
+    quantum: u64,
+    gate: &G,
+) -> Result<(), NoMemory>
+    requires workers { (1 ≤ workers) × (workers ≤ 16) }
+    requires quantum { (1 ≤ quantum) × (quantum ≤ 10000) }
+    requires home { net.old.grants ≡ [] }
+    requires settled { HasSettled L.ops net.old }
+    ensures goes_on { OnOk result (GoesOn L.ops net.old net.new) }
+    ensures quiescent_or_spent { OnOk result (IsQuiescentNet L.ops net.new ⊎ IsSpentNet L.ops net.new) }
+    ensures keeps { OnOk result (IsNet L.ops net.new) }
+{
+    let mut most = quantum;
+    let mut round = 0u64;
+    while is_running(net) {
+        run_round(rt, alloc, net, workers, most, round, gate)?;
+        let events = settle_all(net)?;
+        most = next_most(quantum, most, events);
+        round = round.saturating_add(1);
+    }
+    Ok(())
+}
+
+// Runs a net to its end, as `rounds` does.
+fn run_to_end<L: Local, G: Gate, R: Threads + Sync>(
+    rt: &R,
+    alloc: Global,
+    net: &mut Net<L>,
+    workers: u32,
+    quantum: u64,
+    gate: &G,
+) -> Result<(), NoMemory>
+    requires workers { (1 ≤ workers) × (workers ≤ 16) }
+    requires quantum { (1 ≤ quantum) × (quantum ≤ 10000) }
+    ensures goes_on { OnOk result (GoesOn L.ops net.old net.new) }
+    ensures quiescent_or_spent { OnOk result (IsQuiescentNet L.ops net.new ⊎ IsSpentNet L.ops net.new) }
+    ensures keeps { OnOk result (IsNet L.ops net.new) }
+{
+    net.redo_all()?;
+    settle_all(net)?;
+    if workers == 1 {
+        run_alone(net, quantum, gate)?;
+        return Ok(());
+    }
+    run_together(rt, alloc, net, workers, quantum, gate)?;
+    Ok(())
+}
+
 /// Runs a net in rounds until no event is enabled in it or its budget is spent. In each round a piece of
 /// work is given out of each process that has quiet steps to do, of at most `quantum` steps at first; at
 /// most as many threads as there are workers do the pieces, each behind the gate, and they are taken in
@@ -144,19 +197,6 @@ pub fn rounds<L: Local, G: Gate, R: Threads + Sync>(
     ensures keeps { IfOk result (λ n. IsNet L.ops n) }
 {
     let mut net = net;
-    net.redo_all()?;
-    settle_all(&mut net)?;
-    if workers == 1 {
-        run_alone(&mut net, quantum, gate)?;
-        return Ok(net);
-    }
-    let mut most = quantum;
-    let mut round = 0u64;
-    while is_running(&net) {
-        run_round(rt, alloc, &mut net, workers, most, round, gate)?;
-        let events = settle_all(&mut net)?;
-        most = next_most(quantum, most, events);
-        round = round.saturating_add(1);
-    }
+    run_to_end(rt, alloc, &mut net, workers, quantum, gate)?;
     Ok(net)
 }

@@ -1,7 +1,7 @@
 use Rattle.std.proofs.Common.{◌≡◌, ◌≤◌, ◌-◌, []}
 use Rattle.shim_semantics.specs.Trees.{steps}
 use Rattle.shim_net.specs.Progress.{GoesOn, HasSettled}
-use Rattle.shim_workers.proofs.in_rounds.rounds.Given as goal
+use Rattle.shim_workers.proofs.in_rounds.run_together.Given as goal
 
 abbrev pub invariant-loop-alloc : goal.invariant-loop-alloc
 invariant-loop-alloc g l = record {
