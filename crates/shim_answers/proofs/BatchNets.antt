@@ -58,7 +58,7 @@ module _ (nets rest : List (NetView LocalState)) (n : NetView LocalState) (first
 -- ---- loops, of which what is left follows what was done
 
 module _ {A B : Type 0} (f : A → B) where
-  -- what the values that are left give stands behind what those before them gave
+  -- what the values that are left give stands after what those before them gave
   abbrev pub MapsOn : List A → List B → List A → Type 0
   MapsOn xs ys rest = ys ++ map f rest ≡ map f xs
 
@@ -70,7 +70,7 @@ module _ {A B : Type 0} (f : A → B) where
   maps_none xs ys rest none on = sym (append-nil ys) ∙ ap (λ (l : List A). ys ++ map f l) (sym none) ∙ on
 
 module _ (source : Source) where
-  -- the reports that are left stand behind those that were printed
+  -- the reports that are left stand after those that were printed
   abbrev pub ReportsOn : List (List ℕ) → List Ended → List ℕ → List (List ℕ) → List Ended → Type 0
   ReportsOn names es lines rest left = lines ++ reports_of source rest left ≡ reports_of source names es
 

@@ -111,7 +111,7 @@ cuts_passed place bytes over rest _ _ passes (passed _ _ other other_rest tokens
 cuts_passed place bytes over rest _ _ passes (token _ _ text behind kind tokens end no_comment first fits more) = absurd (no_pass_of_token bytes text behind over rest kind no_comment first passes)
 cuts_passed place bytes over rest _ _ passes (faulty _ _ kind no_pass fault) = absurd (no_pass over rest passes)
 
--- a cutting begins with this token, and goes on behind it
+-- a cutting begins with this token, and goes on after it
 pub record BeginsWith (place : Place) (text rest : List ℕ) (kind : TokenKind) (tokens : List Token) (end : Option Fault) : Type 0 where
   pub more : List Token
   pub cuts : Cuts (place_after place text) rest more end

@@ -103,7 +103,7 @@ pub record IsHexLike (b : ℕ) (bytes : List ℕ) : Type 0 where
   pub digits : list_all is_hex_digit more ≡ true
   pub some : 1 ≤ length more
 
--- the letter behind the zero is no digit
+-- the letter after the zero is no digit
 x-no_digit : (x : ℕ) → (x == 120 || x == 88) ≡ true → is_digit x ≡ false
 x-no_digit x h = grind (arith, nat_tests)
 
@@ -525,7 +525,7 @@ digit-on_line b h = grind (arith, nat_tests)
 hex_digit-on_line : (b : ℕ) → is_hex_digit b ≡ true → is_on_line b ≡ true
 hex_digit-on_line b h = grind (arith, nat_tests)
 
--- the letter behind the zero is no line feed
+-- the letter after the zero is no line feed
 x-on_line : (x : ℕ) → (x == 120 || x == 88) ≡ true → is_on_line x ≡ true
 x-on_line x h = grind (arith, nat_tests)
 

@@ -212,7 +212,7 @@ pub record IsCloserAt (text : List ℕ) (k : ℕ) : Type 0 where
   pub star : get_or text k 0 ≡ 42
   pub slash : get_or text (suc k) 0 ≡ 47
 
--- the bytes behind a closer
+-- the bytes after a closer
 closer_parts : (text : List ℕ) (n : ℕ) → IsCloserAt text n → text ≡ take n text ++ (block_closer ++ drop (suc (suc n)) text)
 closer_parts text n c =
     let within = c.within in
@@ -223,7 +223,7 @@ closer_parts text n c =
     ∙ ap (λ (b : ℕ). 42 ∷ b ∷ drop (suc (suc n)) text) c.slash in
     sym (take-append-drop n text) ∙ ap (λ (l : List ℕ). take n text ++ l) g
 
--- what stands behind a front
+-- what stands after a front
 closer_behind : (front rest : List ℕ) → IsCloserAt (front ++ (block_closer ++ rest)) (length front)
 closer_behind [] rest = record { within = omega arith; star = refl; slash = refl }
 closer_behind (b ∷ front) rest =

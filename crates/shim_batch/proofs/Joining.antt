@@ -5,7 +5,7 @@ use Rattle.std.proofs.lemmas.List.{append_assoc, append-nil}
 use Rattle.shim_batch.specs.Parts.{concatenated, JoinsTo}
 
 module _ {T E : Type 0} where
-  -- what the parts that are left join to, stands behind what was joined
+  -- what the parts that are left join to, stands after what was joined
   abbrev pub JoinsOn : List (Result (List T) E) → List T → List (Result (List T) E) → Type 0
   JoinsOn parts values rest = (later : List T) → JoinsTo rest later → JoinsTo parts (values ++ later)
 

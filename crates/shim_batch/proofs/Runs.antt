@@ -13,7 +13,7 @@ has_run o net (Ok n) root budget quiescent_or_spent keeps = record { root = root
 has_run o net (Err e) root budget quiescent_or_spent keeps = tt
 
 module _ {A B : Type 0} (R : A → B → Type 0) where
-  -- what is held against the values that are left, stands behind what was held against those before them
+  -- what is held against the values that are left, stands after what was held against those before them
   abbrev pub ZipsOn : List A → List B → List A → Type 0
   ZipsOn xs ys rest = (later : List B) → AllZip R rest later → AllZip R xs (ys ++ later)
 

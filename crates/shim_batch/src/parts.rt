@@ -1,4 +1,4 @@
-// A list in parts that stand one behind the other.
+// A list in parts that stand one after the other.
 ghost use Rattle.std.specs.Prelude.{◌≡◌, ◌≤◌, IfOk};
 ghost use Rattle.shim_batch.specs.Parts.{concatenated, JoinsTo};
 

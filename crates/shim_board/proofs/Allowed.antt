@@ -11,7 +11,8 @@ use Rattle.atomic_table.proofs.Lists.{set_else}
 use Rattle.shim_board.specs.declared.view.View.{View}
 use Rattle.shim_board.specs.declared.content.Content.{Content}
 use Rattle.shim_board.specs.declared.content.Content.TheVariants.{Nothing, Piece, Net}
-use Rattle.shim_board.specs.Counting.{one_at, one_pair, times, one_if}
+use Rattle.shim_board.specs.Counting.{one_pair, times, one_if}
+use Rattle.shim_base.specs.Lists.{one_at}
 use Rattle.shim_board.specs.Views.{noted_with, at_slot, after_look, after_turn_seen, after_claim, after_give, after_take, after_leave, after_reserve, after_put, after_collect, first_or, Ascends, seeing, HasLooked, HasClaimed, carried, out_claimed, out_turn}
 use Rattle.shim_board.specs.Kept.{word_of, CountsKept, Table, Seated, ValuesKept, Kept, in_hand, in_hands, IsEmptyOrBack}
 use Rattle.shim_board.specs.Steps.{HasLookedOnce, HasClaimedOrLooked, HasGiven, HasTakenOrLooked, HasLeftTurn, HoldsEmpty, HoldsBack, HasCollected, HasPut}

@@ -8,7 +8,8 @@ use Rattle.atomic_table.specs.Table.{Seen, Final}
 use Rattle.shim_board.specs.declared.view.View.{View}
 use Rattle.shim_board.specs.declared.content.Content.{Content}
 use Rattle.shim_board.specs.declared.content.Content.TheVariants.{Nothing, Piece, Net}
-use Rattle.shim_board.specs.Counting.{occurs, one_if, total}
+use Rattle.shim_board.specs.Counting.{occurs, one_if}
+use Rattle.shim_base.specs.Lists.{total}
 use Rattle.shim_board.specs.Views.{spent}
 use Rattle.shim_board.specs.Closing.{left_at, left_in, OthersSpent}
 use Rattle.shim_board.specs.Kept.{word_of, CountsKept, in_hand, Table, Kept, HoldsNothing, HasAll}

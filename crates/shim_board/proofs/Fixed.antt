@@ -9,7 +9,8 @@ use Rattle.shim_base.specs.declared.named.Named.{Ghosts}
 use Rattle.shim_board.specs.declared.board.Board.{Board}
 use Rattle.shim_board.specs.declared.chair.Chair.{Chair}
 use Rattle.shim_board.specs.declared.view.View.{View}
-use Rattle.shim_board.specs.Counting.{one_below, times, total}
+use Rattle.shim_board.specs.Counting.{one_below, times}
+use Rattle.shim_base.specs.Lists.{total}
 use Rattle.shim_board.specs.Views.{spent}
 use Rattle.shim_board.specs.Kept.{word_of, Table}
 use Rattle.shim_board.specs.Rule.{IsOutOfHand, HasPiece}

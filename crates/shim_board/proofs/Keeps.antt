@@ -8,7 +8,8 @@ use Rattle.std.proofs.lemmas.Bool.{eqb-true}
 use Rattle.std.proofs.lemmas.Option.{none-some, same_Some}
 use Rattle.atomic_table.proofs.Lists.{at_set}
 use Rattle.shim_board.specs.declared.view.View.{View}
-use Rattle.shim_board.specs.Counting.{one_below, one_at, one_pair, times, without, occurs, one_if, total}
+use Rattle.shim_board.specs.Counting.{one_below, one_pair, times, without, occurs, one_if}
+use Rattle.shim_base.specs.Lists.{one_at, total}
 use Rattle.shim_board.specs.Views.{noted_with, after_look, after_turn_seen, after_reserve, after_put, after_collect, after_take, after_leave, after_claim, after_give}
 use Rattle.shim_board.specs.Kept.{IsEmptyOrBack, word_of, CountsKept}
 use Rattle.shim_board.proofs.Totals.{total-set, total-has, total-two, without-same, without-else, times-append, count_of-set}

@@ -4,7 +4,8 @@ use Rattle.std.proofs.lemmas.Option.{same_Some}
 use mathlib.Core.Logic.{dite}
 use native.Mathlib.Decide.{ℕ_discrete}
 use Rattle.shim_board.specs.Counting.{one_below}
-use Rattle.shim_board.specs.Run.{SlotEntry, passed, IsAmong}
+use Rattle.shim_board.specs.Run.{SlotEntry, passed}
+use Rattle.shim_base.specs.Lists.{IsAmong}
 
 abbrev pub entry : {T : Type 0} → ℕ → ℕ → T → SlotEntry T
 entry k x y = record { slot = k; word = x; value = y }
@@ -19,7 +20,7 @@ among_passed (e ∷ es) k x y h = ⊎_elim
     (λ (is : entry k x y ≡ e). let a : k ≡ e.slot = ap (λ z. z.slot) is in let b : x ≡ e.word = ap (λ z. z.word) is in omega arith)
     (λ later. let r = among_passed es k x y later in omega arith) h
 
--- Each word below the present one was passed once. A piece went in at an even word and came out at the odd one behind it, and is in the slot in between
+-- Each word below the present one was passed once. A piece went in at an even word and came out at the odd one after it, and is in the slot in between
 pub record Logged {T : Type 0} (w : ℕ → ℕ) (piece : ℕ → Option T) (done : List (SlotEntry T)) : Type 0 where
   pub went : (k x : ℕ) → passed k x done ≡ one_below x (w k)
   pub in_slot : (k x : ℕ) → x % 2 ≡ 0 → w k ≡ x + 1 → (y : T) × (piece k ≡ Some y) × IsAmong (entry k x y) done

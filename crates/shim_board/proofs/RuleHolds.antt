@@ -6,7 +6,8 @@ use native.Mathlib.Decide.{ℕ_discrete}
 use lib.ListN.{get_elem?}
 use Rattle.shim_board.specs.declared.content.Content.TheVariants.{Net}
 use Rattle.shim_board.specs.declared.view.View.{View}
-use Rattle.shim_board.specs.Counting.{one_at, one_pair, times, occurs, one_if, total}
+use Rattle.shim_board.specs.Counting.{one_pair, times, occurs, one_if}
+use Rattle.shim_base.specs.Lists.{one_at, total}
 use Rattle.shim_board.specs.Kept.{word_of, IsEmptyOrBack, in_hand, in_hands, Table, Kept}
 use Rattle.shim_board.specs.Rule.{Rule, IsOutOfHand, TurnIsHeld, ExactlyOne, NothingDone, IsOpening}
 use Rattle.shim_board.proofs.Totals.{total-has, total-two, total-none}
@@ -25,7 +26,7 @@ module _ {V : Type 0} (f : V → ℕ) where
   pub total-one : (l : List V) → total f l ≡ 1 → (j : ℕ) × (v : V) × (get_elem? l j ≡ some v) × (0 < f v) × ((i : ℕ) (u : V) → get_elem? l i ≡ some u → 0 < f u → i ≡ j)
   total-one l one = let r = total-some l (omega arith) in (r.0, r.1, r.2, r.3, λ i u at here. dite (ℕ_discrete i r.0) (λ e. e) (λ other. absurd (let two = total-two f l i r.0 u r.1 at r.2 other in let there = r.3 in omega arith)))
 
--- how far a word stands behind the step that it has passed
+-- how far a word stands after the step that it has passed
 round_put : (r x : ℕ) → 4 * r < x → (r < x / 4) ⊎ ((r ≡ x / 4) × (x % 4 ≡ 0 → ⊥))
 round_put r x l = dite (ℕ_discrete r (x / 4)) (λ e. inr (e, λ z. omega arith)) (λ other. inl (omega arith))
 

@@ -9,7 +9,8 @@ use Rattle.shim_base.specs.declared.named.Named.{Ghosts}
 use Rattle.shim_board.specs.declared.board.Board.{Board}
 use Rattle.shim_board.specs.declared.chair.Chair.{Chair}
 use Rattle.shim_board.specs.declared.view.View.{View}
-use Rattle.shim_board.specs.Counting.{one_below, one_at, times, occurs, one_if, total, Each}
+use Rattle.shim_board.specs.Counting.{one_below, times, occurs, one_if, Each}
+use Rattle.shim_base.specs.Lists.{one_at, total}
 use Rattle.shim_board.specs.Views.{fresh, spent, after_split, split_off, after_join, carried, out_claimed, out_turn}
 use Rattle.shim_board.specs.Chairs.{chairs_known, view_of, chairs_counted, IsIdleOn, AreAll}
 use Rattle.shim_board.specs.Closing.{SameLists, HasAllOf}

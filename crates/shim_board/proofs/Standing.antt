@@ -2,7 +2,8 @@
 use Rattle.std.proofs.Common.{◌≡◌, ℕ, zero, suc, ◌<◌, List, [], ◌∷◌, ◌++◌, All, length, slice_index_or, refl, sym, ap, ◌∙◌, subst, arith}
 use Rattle.shim_base.specs.declared.named.Named.{Ghosts}
 use Rattle.shim_board.specs.declared.chair.Chair.{Chair}
-use Rattle.shim_board.specs.Counting.{one_below, occurs, total, Each}
+use Rattle.shim_board.specs.Counting.{one_below, occurs, Each}
+use Rattle.shim_base.specs.Lists.{total}
 use Rattle.shim_board.specs.Chairs.{view_of, chairs_counted, AreAll, StandsAs}
 use Rattle.shim_board.proofs.Totals.{total-snoc, each-add, each-snoc, each-all, all-each}
 

@@ -5,7 +5,8 @@ use native.Mathlib.Decide.{ℕ_discrete}
 use mathlib.Core.Option.{some, some-injective, some-ne-none}
 use lib.ListN.{get_elem?}
 use Rattle.shim_board.specs.declared.view.View.{View}
-use Rattle.shim_board.specs.Counting.{times, without, occurs, total, Each}
+use Rattle.shim_board.specs.Counting.{times, without, occurs, Each}
+use Rattle.shim_base.specs.Lists.{total}
 use Rattle.shim_board.specs.Kept.{chair_count}
 
 module _ {V : Type 0} (f : V → ℕ) where

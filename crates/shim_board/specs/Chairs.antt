@@ -4,7 +4,8 @@ use Rattle.shim_base.specs.declared.named.Named.{Ghosts}
 use Rattle.shim_board.specs.declared.board.Board.{Board}
 use Rattle.shim_board.specs.declared.chair.Chair.{Chair}
 use Rattle.shim_board.specs.declared.view.View.{View}
-use Rattle.shim_board.specs.Counting.{one_below, occurs, total}
+use Rattle.shim_board.specs.Counting.{one_below, occurs}
+use Rattle.shim_base.specs.Lists.{total}
 use Rattle.shim_board.specs.Views.{fresh}
 
 -- the count of chairs that the chair of this number keeps: chair 0 keeps the board's, and each other chair keeps 0

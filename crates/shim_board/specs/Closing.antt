@@ -8,7 +8,8 @@ use Rattle.shim_board.specs.declared.board.Board.{Board}
 use Rattle.shim_board.specs.declared.chair.Chair.{Chair}
 use Rattle.shim_board.specs.declared.content.Content.TheVariants.{Piece, Net}
 use Rattle.shim_board.specs.declared.view.View.{View}
-use Rattle.shim_board.specs.Counting.{times, total}
+use Rattle.shim_board.specs.Counting.{times}
+use Rattle.shim_base.specs.Lists.{total}
 use Rattle.shim_board.specs.Views.{spent}
 use Rattle.shim_board.specs.Kept.{word_of, SlotValue, Table, HoldsNothing}
 use Rattle.shim_board.specs.Rule.{Rule}

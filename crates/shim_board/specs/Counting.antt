@@ -1,13 +1,10 @@
--- Pairs and numbers counted in lists, and a number summed over all views.
+-- Pairs and numbers counted in lists.
 use Rattle.std.specs.Prelude.{ℕ, ◌==◌, cond, ◌+◌, ◌-◌, List, [], ◌∷◌, Option, Some, None}
+use Rattle.shim_base.specs.Lists.{one_at}
 
 -- 1 where x is below n, and else 0
 abbrev pub one_below : ℕ → ℕ → ℕ
 one_below x n = 1 - (1 - (n - x))
-
--- 1 where the two are equal, and else 0
-abbrev pub one_at : ℕ → ℕ → ℕ
-one_at x n = 1 - ((x - n) + (n - x))
 
 -- 1 where the pair is (k, r), and else 0
 abbrev pub one_pair : ℕ → ℕ → ℕ × ℕ → ℕ
@@ -27,11 +24,6 @@ occurs x (n ∷ ns) = one_at x n + occurs x ns
 abbrev pub one_if : ℕ → ℕ → Option (ℕ × ℕ) → ℕ
 one_if k r (Some p) = one_pair k r p
 one_if k r None = 0
-
--- f of each, added up
-abbrev pub total : {V : Type 0} → (V → ℕ) → List V → ℕ
-total f [] = 0
-total f (v ∷ vs) = f v + total f vs
 
 -- the pairs of other slots than k
 abbrev pub without : ℕ → List (ℕ × ℕ) → List (ℕ × ℕ)

@@ -7,7 +7,8 @@ use Rattle.atomic_table.specs.Table.{State, Me}
 use Rattle.shim_board.specs.declared.content.Content.{Content}
 use Rattle.shim_board.specs.declared.content.Content.TheVariants.{Nothing, Piece, Net}
 use Rattle.shim_board.specs.declared.view.View.{View}
-use Rattle.shim_board.specs.Counting.{one_below, one_at, times, occurs, one_if, total}
+use Rattle.shim_board.specs.Counting.{one_below, times, occurs, one_if}
+use Rattle.shim_base.specs.Lists.{one_at, total}
 use Rattle.shim_board.specs.Views.{spent}
 
 -- the word of the slot k: the turn's word stands before those of the slots

@@ -4,7 +4,8 @@ use mathlib.Core.Option.{some}
 use lib.ListN.{get_elem?}
 use Rattle.shim_board.specs.declared.content.Content.TheVariants.{Nothing, Piece, Net}
 use Rattle.shim_board.specs.declared.view.View.{View}
-use Rattle.shim_board.specs.Counting.{times, occurs, total}
+use Rattle.shim_board.specs.Counting.{times, occurs}
+use Rattle.shim_base.specs.Lists.{total}
 use Rattle.shim_board.specs.Views.{spent}
 use Rattle.shim_board.specs.Kept.{word_of, chair_count, Table}
 

@@ -4,7 +4,8 @@ use mathlib.Core.Option.{some, none}
 use mathlib.Core.Option as maybe
 use lib.ListN.{get_elem?}
 use Rattle.shim_board.specs.declared.view.View.{View}
-use Rattle.shim_board.specs.Counting.{one_pair, times, total}
+use Rattle.shim_board.specs.Counting.{one_pair, times}
+use Rattle.shim_base.specs.Lists.{total, IsAmong}
 use Rattle.shim_board.specs.Views.{first_chair, spent, split_off, after_split, after_join, after_look, after_turn_seen, after_reserve, after_put, after_claim, after_give, after_collect, after_take, after_leave}
 use Rattle.shim_board.specs.Kept.{word_of}
 
@@ -153,15 +154,10 @@ abbrev pub passed : {T : Type 0} → ℕ → ℕ → List (SlotEntry T) → ℕ
 passed k x [] = 0
 passed k x (e ∷ es) = one_pair k x (e.slot, e.word) + passed k x es
 
--- e equals an entry of the list
-abbrev pub IsAmong : {T : Type 0} → SlotEntry T → List (SlotEntry T) → Type 0
-IsAmong e [] = ⊥
-IsAmong e (x ∷ xs) = (e ≡ x) ⊎ IsAmong e xs
-
 module _ {T N M : Type 0} (s : BoardRun T N M) where
   -- a step so far took the word of the slot k on from x, with the piece y
   abbrev pub Went : ℕ → ℕ → T → Type 0
-  Went k x y = IsAmong record { slot = k; word = x; value = y } s.done
+  Went k x y = IsAmong {A = SlotEntry T} record { slot = k; word = x; value = y } s.done
 
   -- `WasPut`: the piece y was put into the slot k in the round r. The next three definitions say the same of claiming, giving and collecting.
   abbrev pub WasPut : ℕ → ℕ → T → Type 0

@@ -1,6 +1,7 @@
 // How a board ends.
 ghost use Rattle.std.specs.Prelude.{◌≡◌, ◌≢◌, ℕ, ◌+◌, ◌<◌, ◌≤◌, [], All, IfOk, IfErr, vec_len, vec_capacity, slice_get, IfSome};
-ghost use Rattle.shim_board.specs.Counting.{occurs, total, one_below, Each};
+ghost use Rattle.shim_board.specs.Counting.{occurs, one_below, Each};
+ghost use Rattle.shim_base.specs.Lists.{total};
 ghost use Rattle.shim_board.specs.Kept.{HoldsNothing, HasAll};
 
 use crate::board::Board;

@@ -56,7 +56,7 @@ pub arms_closed : (caught : Option Caught) (a b : MachineCode) (old c1 c2 c3 c4 
 arms_closed caught a b old c1 c2 c3 c4 c5 h j x y eh e1 e2 ej e3 e4 e5 =
     arms_made (head_of caught) a b old c1 c2 c3 c4 c5 h j (length c4) x y (head_of caught (j + 1)) eh e1 e2 ej e3 e4 refl refl e5
 
--- a piece, and one instruction behind it
+-- a piece, and one instruction after it
 pub then_one : (a : MachineCode) (i : MachineInstr) (c1 c2 c3 : List MachineInstr) → c2 ≡ c1 ++ a (length c1) → c3 ≡ c2 ++ i ∷ [] → c3 ≡ c1 ++ sequence a (one i) (length c1)
 then_one a i c1 c2 c3 e f = f ∙ ap (λ l. l ++ i ∷ []) e ∙ append_assoc c1 (a (length c1)) (i ∷ [])
 

@@ -41,7 +41,7 @@ behind_shown a b c d ha hb pc =
     ∙ ap (λ l. c pc ++ l) (hb (pc + length (a pc)))
     ∙ ap (λ m. c pc ++ d (pc + m)) n
 
--- one instruction behind a piece
+-- one instruction after a piece
 then_shown : (a : MachineCode) (i : MachineInstr) (c : Code) → Shows a c → Shows (sequence a (one i)) (sequence c (one (published i)))
 then_shown a i c h = behind_shown a (one i) c (one (published i)) h (λ pc. refl)
 
@@ -183,7 +183,7 @@ module _ (units : List UnitOf) where
   abbrev WhatLayer : UWhat-F UWhat UStmt → Type 0
   WhatLayer x = (line : ℕ) → Shows (what_machine units (map-UWhat UWhat UStmt (ℕ → MachineCode) MachineCode (machine_what units) (machine_stmt units) x) line) (what_code (map-UWhat UWhat UStmt (ℕ → Code) Code code_what stmt_code x) line)
 
-  -- an expression and an instruction behind it, in a statement of its own
+  -- an expression and an instruction after it, in a statement of its own
   simple_shown : (k : MarkKind) (line : ℕ) (a : MachineCode) (i : MachineInstr) (c : Code) → Shows a c → Shows (machine_marked k line false (sequence a (one i))) (marked_code k line (sequence c (one (published i))))
   simple_shown k line a i c h = marked_shown k line false (sequence a (one i)) (sequence c (one (published i))) (then_shown a i c h)
 

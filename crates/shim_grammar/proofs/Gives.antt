@@ -29,7 +29,7 @@ terminal_of punctuation.Semicolon p = Sign g.Semicolon p
 terminal_of punctuation.Equal p = Sign g.Equal p
 terminal_of punctuation.Catch p = Key k.Catch p
 
--- what a symbol gives from s up to r; w and v are what was counted before it and behind it
+-- what a symbol gives from s up to r; w and v are what was counted before it and after it
 abbrev pub Gives : Limits → Symbol → TextCounts → TextCounts → List Terminal → List Terminal → Type 0
 Gives c (Fixed f) w v s r = (p : Place) × (s ≡ terminal_of f p ∷ r) × (w ≡ v)
 Gives c Word w v s r = (x : List ℕ) × (p : Place) × (s ≡ Name x p ∷ r) × (w ≡ v)

@@ -18,7 +18,7 @@ use Rattle.shim_grammar.proofs.GoesExpr as e
 use Rattle.shim_grammar.proofs.GoesStmt as st
 use Rattle.shim_grammar.proofs.GoesFunction as f
 
--- what the stack behind a terminal takes, the stack before it takes with it
+-- what the stack after a terminal takes, the stack before it takes with it
 pub sound : (c : Limits) (k : SymbolStack) (x : Terminal) (w : TextCounts) → Step c x k w (wants k x w)
 sound c [] x w = tt
 sound c (Fixed y ∷ k) x w = e.fixed_sound c y x k w
@@ -125,7 +125,7 @@ no_par (AfterBody l d ∷ k) = no_par k
 no_par (Pars l n ∷ k) = no_par k
 no_par (y ∷ k) = refl
 
--- what is counted behind the terminals that finish a symbol
+-- what is counted after the terminals that finish a symbol
 abbrev counted : Symbol → TextCounts → TextCounts
 counted (Inside l) w = at_level l w
 counted (Expression l) w = new_expression w

@@ -110,7 +110,7 @@ more_arguments_sound c (Sign g.RightParen p) l n k w = λ s h t. (s, w, (_, is.a
 more_arguments_sound c (Sign g.Comma p) l n k w = λ s h t. (t.0, t.1, (_, is.argument t.2.4 t.2.5 t.2.6), t.3)
 more_arguments_sound c _ l n k w = tt
 
--- a declared name, and the comma or the semicolon behind it
+-- a declared name, and the comma or the semicolon after it
 more_gives : {c : Limits} {l : ℕ} {u w v : TextCounts} {s i r : List Terminal} {x : List ℕ} {value : Option Expr} → IsDeclared c l u w s i x value → Gives c (MoreDeclarations l) w v i r
     → (ty : Ty) (line : ℕ) → (xs : List Stmt) × IsDeclarations c l ty line u v s r xs
 more_gives {c = c} {l = l} {u = u} {s = s} {x = x} {value = value} d (inl (p, e, f)) ty line = (_, is.last_declared (moved (λ a t. IsDeclared c l u a s t x value) e f d))

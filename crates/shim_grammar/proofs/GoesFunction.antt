@@ -45,7 +45,7 @@ pub thrown_sound : (c : Limits) (x : Terminal) (n : ℕ) (k : SymbolStack) (w : 
 thrown_sound c (Name x p) n k w = λ s h t. (t.0, t.1, (x, p, s, t.2.0, refl, h.0, t.2.1, t.2.2), t.3)
 thrown_sound c _ n k w = tt
 
--- the first name behind `throws`, and then one behind a comma
+-- the first name after `throws`, and then one after a comma
 throws_give : (c : Limits) (p : Place) (k : SymbolStack) (w : TextCounts) (s : List Terminal) → Takes c (Thrown 1 ∷ k) w s → Takes c (Throws ∷ k) w (Key key.Throws p ∷ s)
 throws_give c p k w s (r, v, (x, q, i, xs, e, h, d, f), t) =
     subst (λ s. Takes c (Throws ∷ k) w (Key key.Throws p ∷ s)) (sym e) (r, v, (_, is.throws (subst (λ s. c s (Count many.Throws) 1 ≡ true) e h) d, f), t)
@@ -64,7 +64,7 @@ more_throws_sound c (Sign g.LeftBrace p) n k w = λ s h t. (s, w, (_, is.throws_
 more_throws_sound c (Sign g.Comma p) n k w = λ s h t. more_throws_give c p n k w s t
 more_throws_sound c _ n k w = tt
 
--- a function from its parameters on, and the functions behind it
+-- a function from its parameters on, and the functions after it
 function_gives : {c : Limits} {p q o : Place} {f : List ℕ} {n : ℕ} {w u v : TextCounts} {s i j a r : List Terminal} {xs : List Param} {ts : List (List ℕ)} {ys : List Stmt} {fs : List Function}
     → c (Key key.Void p ∷ Name f q ∷ Sign g.LeftParen o ∷ s) (Count many.Functions) (suc n) ≡ true → IsParams c s i xs → IsThrows c i j ts → new_function w ≡ u → IsBlock c 1 u v j a ys
     → IsFunctions c (suc n) v a r fs → (gs : List Function) × IsFunctions c n w (Key key.Void p ∷ Name f q ∷ Sign g.LeftParen o ∷ s) r gs
@@ -85,7 +85,7 @@ functions_sound c (End p) n k w = λ s h t. (s, w, (_, is.program_end), t)
 functions_sound c (Key key.Void p) n k w = λ s h t. functions_give c p n k w s t h.0
 functions_sound c _ n k w = tt
 
--- what holds behind the number of the version holds from it on
+-- what holds after the number of the version holds from it on
 version_then : (c : Limits) (k : SymbolStack) (w : TextCounts) (P : List Terminal → Type 0) → ((y : Terminal) (r : List Terminal) → is_two y ≡ true → Takes c k w r → P (y ∷ r)) → (s : List Terminal)
     → Takes c (Version ∷ k) w s → P s
 version_then c k w P g s (r, v, (y, two, e, i), t) = subst P (sym e) (g y r two (subst (λ a. Takes c k a r) (sym i) t))

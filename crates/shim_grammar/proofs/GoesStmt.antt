@@ -52,7 +52,7 @@ step_sound c (Sign g.RightParen p) l k w = λ s h t. (s, w, (_, is.no_step), t)
 step_sound c (Name x p) l k w = λ s h t. step_gives c x p l k w s t h.0
 step_sound c _ l k w = tt
 
--- the branches behind a `par`, the first of them given
+-- the branches after a `par`, the first of them given
 branches_give : {c : Limits} {l n : ℕ} {w u v : TextCounts} {s i r : List Terminal} {b : BranchTree} → c s (Count many.Branches) (suc n) ≡ true → IsBranch c l w u s i b → Gives c (Pars l (suc n)) u v i r
     → (bs : List BranchTree) × IsBranches c l n w v s r bs
 branches_give {c = c} {l = l} {w = w} {s = s} {b = b} h d (inl (e, f, i)) = (_, is.last_branch h (moved (λ a t. IsBranch c l w a s t b) e i d) f)
@@ -164,7 +164,7 @@ try_gives c p l k w =
     fixed_then c (Block (suc l) ∷ Fixed punctuation.Catch ∷ Fixed punctuation.LeftParen ∷ Word ∷ CatchRest ∷ Block (suc l) ∷ k) w
     (λ s. Plain c l k w (Key key.Try p ∷ s)) punctuation.LeftBrace (λ q s t. caught_gives c p q l k w t.1 s t.2.0 t.0 t.3 t.2.1)
 
--- what stands behind the exception of a `catch`
+-- what stands after the exception of a `catch`
 variable_gives : (c : Limits) (x : List ℕ) (p : Place) (k : SymbolStack) (w : TextCounts) → w.two ≡ true → (s : List Terminal) → Takes c (Fixed punctuation.RightParen ∷ Fixed punctuation.LeftBrace ∷ k) (with_local w) s
     → c (Name x p ∷ s) (Count many.Locals) (suc w.locals) ≡ true → Takes c (CatchRest ∷ k) w (Name x p ∷ s)
 variable_gives c x p k w two =
@@ -183,7 +183,7 @@ catch_rest_sound c (Sign g.RightParen p) k w = λ s h t.
 catch_rest_sound c (Name x p) k w = variable_by c x p k w w.two refl
 catch_rest_sound c _ k w = tt
 
--- what stands behind that of a `throw`
+-- what stands after that of a `throw`
 number_by : (c : Limits) (p : Place) (l : ℕ) (k : SymbolStack) (w : TextCounts) (b : Bool) → w.two ≡ b → Step c (Sign g.LeftParen p) (ThrowRest l ∷ k) w
     (if b then machine.go (Expression l ∷ Operators l ∷ Fixed punctuation.RightParen ∷ Fixed punctuation.Semicolon ∷ k) w else None)
 number_by c p l k w true two = λ s h t.

@@ -30,7 +30,7 @@ abbrev Joins : Limits → SignOf → Place → List Terminal → TextCounts → 
 Joins c o p s v = c (Sign o p ∷ s) (Count many.Operators) (suc v.operators) ≡ true
 
 module _ (c : Limits) (o : SignOf) (p : Place) (s r : List Terminal) (v w : TextCounts) (y : Expr) (j : ℕ) (e₀ : row_of_sign o ≡ suc j) (h₀ : Joins c o p s v) where
-  -- the operator and its operand behind an operand of the row n
+  -- the operator and its operand after an operand of the row n
   tail : {l : ℕ} (n : ℕ) → j ≡ n → IsExpr c 0 l (with_operator v) w s r y → (x : Expr) → ChainLonger c n l v w (Sign o p ∷ s) r x
   tail n e d₀ x = (_, join (subst (λ i. row_of_sign o ≡ suc i) e e₀) h₀ (lift n d₀) stop)
 

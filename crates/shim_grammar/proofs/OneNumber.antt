@@ -1,4 +1,4 @@
--- What a terminal asks of the limits: behind the first number all is within them, so that at one terminal one number at most is refused.
+-- What a terminal asks of the limits: after the first number all is within them, so that at one terminal one number at most is refused.
 use Rattle.std.proofs.Common.{◌≡◌, ℕ, List, [], ◌∷◌, Bool, true, false, Option, Some, None, refl}
 use Rattle.std.specs.Prelude.{IfSome, if◌then◌else◌}
 use Rattle.shim_base.specs.declared.token.Keyword.TheVariants as k
@@ -20,7 +20,7 @@ abbrev pub ByLimit : Limit → Type 0 → Type 0 → Type 0
 ByLimit Nesting p q = p
 ByLimit (Count what) p q = q
 
--- behind the first number all is within the limits
+-- after the first number all is within the limits
 abbrev pub OneNumber : List Ask → Type 0
 OneNumber [] = Unit {0}
 OneNumber (a ∷ asks) = ByLimit a.limit (OneNumber asks) (Allowed limits [] asks)

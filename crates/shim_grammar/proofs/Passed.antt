@@ -1,4 +1,4 @@
--- Runs that go through to the end of their terminals: up to where, and how they go on behind.
+-- Runs that go through to the end of their terminals: up to where, and how they go on after.
 use Rattle.std.proofs.Common.{◌≡◌, ℕ, List, [], ◌∷◌, ◌++◌, true, Option, Some, None, refl, sym, ◌∙◌, ap, arith, ◌⊎◌, inl, inr, length-append}
 use Rattle.shim_base.specs.declared.token.LexKind.{LexKind}
 use Rattle.shim_base.specs.Tokens.{Place}

@@ -45,7 +45,7 @@ until_more c p t s u limit n e = or_left (c u limit n) _ (p u s limit n ∙ e)
 pub until_same : (c : Limits) → Plain c → (t s u : List Terminal) (limit : Limit) (n : ℕ) → length t < length u → until t c u limit n ≡ c s limit n
 until_same c p t s u limit n h = or_of_false (c u limit n) _ (le_false _ _ h) ∙ p u s limit n
 
--- another run over other terminals behind x, whose judgements are the same up to x
+-- another run over other terminals after x, whose judgements are the same up to x
 module _ (c d : Limits) (f : Cause) (x : Terminal) (s t : List Terminal) (same : (b : List Terminal) (limit : Limit) (n : ℕ) → d (b ++ x ∷ t) limit n ≡ c (b ++ x ∷ s) limit n) where
   same_here : (o : Option Want) → run_on c x s o ≡ At f (x ∷ s) → run_on d x t o ≡ At f (x ∷ t)
   same_here None e = let g : Unwanted ≡ f = cc in ap (λ u. At u (x ∷ t)) g

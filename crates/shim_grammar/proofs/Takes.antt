@@ -11,7 +11,7 @@ use Rattle.shim_grammar.specs.Machine.{Fixed, Word, Operators, SymbolStack, Want
 use Rattle.shim_grammar.proofs.Gives.{terminal_of, Gives, Takes, Allowed}
 use Rattle.shim_grammar.proofs.Joins.{lift, Longer}
 
--- what a terminal wants leads to P of the terminals behind it
+-- what a terminal wants leads to P of the terminals after it
 abbrev pub Leads : Limits → Terminal → (List Terminal → Type 0) → Option Want → Type 0
 Leads c x P o = IfSome o (λ n. (s : List Terminal) → Allowed c (x ∷ s) n.asks → Takes c n.stack n.counts s → P s)
 
@@ -34,7 +34,7 @@ module _ (c : Limits) (k : SymbolStack) (w : TextCounts) (P : List Terminal → 
   same_counts : {v : TextCounts} (r : List Terminal) → w ≡ v → Takes c k v r → Takes c k w r
   same_counts r e t = subst (λ a. Takes c k a r) (sym e) t
 
-  -- what holds behind each such terminal holds from it on
+  -- what holds after each such terminal holds from it on
   pub fixed_then : (f : Punctuation) → ((p : Place) (r : List Terminal) → Takes c k w r → P (terminal_of f p ∷ r)) → (s : List Terminal) → Takes c (Fixed f ∷ k) w s → P s
   fixed_then f g s (r, v, (p, e, i), t) = subst P (sym e) (g p r (same_counts r i t))
 

@@ -29,7 +29,7 @@ use Rattle.shim_laws_binding.specs.TextOrder.{Declaration, Declarations, declare
 use Rattle.shim_laws_binding.proofs.Bound.{its_before}
 use Rattle.shim_scopes.proofs.Refusals.{passed, first_ok, bound}
 
--- The declarations ls, and maybe more, stand behind those of the block.
+-- The declarations ls, and maybe more, stand after those of the block.
 pub record IsAfter (ls : List LocalDeclaration) (old new : List LocalDeclaration) : Type 0 where
   pub more : List LocalDeclaration
   pub whole : new ≡ old ++ (ls ++ more)
@@ -44,7 +44,7 @@ pub record IsGrown (names : Texts) (ls : List LocalDeclaration) (ds : Declaratio
 abbrev pub Grows : {T : Type 0} → Texts → (ℕ → List LocalDeclaration) → Declarations → Texts → Bind T → Type 0
 Grows {T = T} names ls ds ts f = (a : Around) (b : Before) (r : BoundTo T) → f a b ≡ Ok r → IsGrown names (ls (length b.slots)) ds ts b r.before
 
--- two lists of what was added, one behind the other
+-- two lists of what was added, one after the other
 added : {X Y : Type 0} (f : X → Y) (a b c : List Y) (xs ys : List X) → b ≡ a ++ map f xs → c ≡ b ++ map f ys → c ≡ a ++ map f (xs ++ ys)
 added f a b c xs ys p q =
     q ∙ ap (λ l. l ++ map f ys) p ∙ append_assoc a (map f xs) (map f ys) ∙ ap (λ l. a ++ l) (sym (map-append f xs ys))
@@ -70,7 +70,7 @@ grown_twice names ls ks ds es ts us a b c p q = record {
   tries = added (name_index names) a.tries b.tries c.tries ts us p.tries q.tries;
 }
 
--- up to the place that is behind the answer
+-- up to the place that is after the answer
 at_answer : {T : Type 0} (names : Texts) (ls : List LocalDeclaration) (ds : Declarations) (ts : Texts) (old new : Before) (t : T) (r : BoundTo T) → bound t new ≡ Ok r → IsGrown names ls ds ts old new → IsGrown names ls ds ts old r.before
 at_answer names ls ds ts old new t r e g = subst (λ (b : Before). IsGrown names ls ds ts old b) (its_before t new r e) g
 

@@ -53,7 +53,7 @@ known_by x ls more None p f g e = absurd (cc e)
 known_by x ls more (Some l) (Some k) f g e = refl
 known_by x ls more (Some l) None f g e = absurd (none_at x f.outer l f.inner (subst (λ (l : List LocalDeclaration). HasNone local_name x l) f.whole (none_before x ls more g)) f.named)
 
--- what is declared is so behind more declarations
+-- what is declared is so after more declarations
 pub known_behind : (ls more : List LocalDeclaration) (x : List ℕ) → unknown ls x ≡ None → unknown (ls ++ more) x ≡ None
 known_behind ls more x e = known_by x ls more (found local_name x ls) (found local_name x (ls ++ more)) (is_found local_name x ls) (is_found local_name x (ls ++ more)) e
 

@@ -31,7 +31,7 @@ use Rattle.shim_laws_binding.proofs.NamedStmts.{body_back}
 use Rattle.shim_laws_binding.proofs.Occurring.{DeclaredSo, body_passes}
 use Rattle.shim_scopes.proofs.Refusals.{first_ok}
 
--- behind one more element each place is one further
+-- after one more element each place is one further
 one_further : {T : Type 0} (name : T → List ℕ) (x : List ℕ) (names : Texts) (at : ℕ) (ts : List T) → AreFrom name (name_at names) at ts → AreFrom name (name_at (x ∷ names)) (suc at) ts
 one_further name x names at [] h = tt
 one_further name x names at (t ∷ ts) h = (h.0, one_further name x names (suc at) ts h.1)

@@ -80,7 +80,7 @@ all_named n a b h = each_of_both (VariableNamed n.variable) a.outer b.own h.oute
 pub first_to_come : (n : Naming) (a : Around) (b : Before) (ds es : Declarations) (ts us : Texts) → AreToCome n a b (ds ++ es) (ts ++ us) → AreToCome n a b ds ts
 first_to_come n a b ds es ts us c = record { slots = earlier declared_name n.variable (length b.slots) ds es c.slots; tries = earlier own_name n.exception (a.throws + length b.tries) ts us c.tries }
 
--- behind the first of them the others are still to come
+-- after the first of them the others are still to come
 pub next_to_come : (n : Naming) (names : Texts) (ls : List LocalDeclaration) (a : Around) (b c : Before) (ds es : Declarations) (ts us : Texts)
     → IsGrown names ls ds ts b c → AreToCome n a b (ds ++ es) (ts ++ us) → AreToCome n a c es us
 next_to_come n names ls a b c ds es ts us g t =
@@ -108,7 +108,7 @@ tree_back n H back s over u g ds ts f up same k a b r h named t =
 pub after_named : (n : Naming) (a : Around) (b c : Before) → IsNamed n a b → Each (VariableNamed n.variable) c.own → IsNamed n a c
 after_named n a b c named own = record { outer = named.outer; own = own; handled = named.handled }
 
--- what is known with what is sure to be declared is so behind all that was
+-- what is known with what is sure to be declared is so after all that was
 pub known_grown : (names : Texts) (ls : List LocalDeclaration) (ds : Declarations) (ts : Texts) (a : Around) (b c : Before) → IsGrown names ls ds ts b c → b.own ≡ [] → (x : List ℕ) → unknown (a.outer ++ ls) x ≡ None → unknown (visible a c) x ≡ None
 known_grown names ls ds ts a b c g none x e =
     let whole : visible a c ≡ (a.outer ++ ls) ++ g.own.more = ap (λ l. a.outer ++ l) g.own.whole ∙ ap (λ l. a.outer ++ (l ++ (ls ++ g.own.more))) none ∙ sym (append_assoc a.outer ls g.own.more) in
@@ -349,7 +349,7 @@ module _ (n : Naming) (H : RCall → Type 0) (w : Whole) where
       ∙ ap (λ z. st.Try s x z (stmts_named n q.0.tree)) (variable_back y es us a p.0.before behind) ∙ ap (λ z. st.Try s x y z) qb.tree) qb.own
       (both_hold (bt.Try p.0.tree number slot q.0.tree) p.0.tree q.0.tree (calls_try p.0.tree number slot q.0.tree) pb.calls qb.calls)
 
-  -- the test is bound behind the first statement, whose declaration was known when it was examined
+  -- the test is bound after the first statement, whose declaration was known when it was examined
   parts_back : (declares : ℕ → List LocalDeclaration) (test : Option Expr) (s u z : List Stmt) (ks js : ℕ → List LocalDeclaration) (ds es fs : Declarations) (ts us vs : Texts) (f g h : Bind (List RStmt))
       (a : Around) (b : Before) (r : BoundTo RWhat)
       → Grows w.names declares ds ts f → Grows w.names ks es us g → StmtsBack s ds ts f → StmtsBack u es us g → StmtsBack z fs vs h

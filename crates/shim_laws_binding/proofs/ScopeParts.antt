@@ -34,7 +34,7 @@ use Rattle.shim_laws_binding.proofs.NamedParts.{known_grown, same_known}
 use Rattle.shim_laws_binding.proofs.ScopeExprs.{point, slot_is_innermost, number_is_innermost, expr_placed, option_placed, call_bound}
 use Rattle.shim_scopes.proofs.Refusals.{passed, first_ok, bound}
 
--- what is bound at a point is so by the rules, up to the point behind it
+-- what is bound at a point is so by the rules, up to the point after it
 abbrev pub ByRules : {T S : Type 0} → (Point → S → T → Point → Type 0) → S → Bind T → Type 0
 ByRules {T = T} Rule s f = (a : Around) (b : Before) (r : BoundTo T) → f a b ≡ Ok r → Rule (point a b) s r.tree (point a r.before)
 
@@ -64,7 +64,7 @@ point_tried w x a b =
     same_point (a.outer ++ b.own) (a.outer ++ b.own) inside inside (length b.slots) (length b.slots)
     (a.throws + length (b.tries ++ name_index w.names x ∷ [])) (suc (a.throws + length b.tries)) refl refl refl (omega (arith, length-append b.tries (name_index w.names x ∷ [])))
 
--- and behind a handler's variable, where it has one
+-- and after a handler's variable, where it has one
 point_variable : (names : Texts) (y : Option (List ℕ)) (a : Around) (b : Before) → point a (variable_declared names y b) ≡ point_after_variable y (point a b)
 point_variable names None a b = refl
 point_variable names (Some y) a b = point_declared names y (Value Int32) a b
@@ -191,7 +191,7 @@ module _ (w : Whole) where
       by_answer Whats (st.While e s) (point a b) a (rt.While t.0 p.0.tree) p.0.before r p.2
       (while {p = point a b} (test_by_rules e line a b t.0 t.1) (block_by_rules s f k a b p.0 p.1))
 
-  -- behind a block the declarations of the block before it go on
+  -- after a block the declarations of the block before it go on
   block_keeps : (f : Bind (List RStmt)) (a : Around) (b : Before) (r : BoundTo (List RStmt)) → bind_block f a b ≡ Ok r → r.before.own ≡ b.own
   block_keeps f a b r h =
       let p = first_ok (f (inside_block a b) (opened b)) _ r h in
@@ -230,7 +230,7 @@ module _ (w : Whole) where
   behind_parts : (x : What) (p : Point) (a : Around) (t : RWhat) (b : Before) (r : BoundTo RWhat) → bound t b ≡ Ok r → Whats p x t (point_after_block p (point a b)) → Whats p x r.tree (point_after_block p (point a r.before))
   behind_parts x p a t b r e h = subst (λ (y : BoundTo RWhat). Whats p x y.tree (point_after_block p (point a y.before))) (sym (is_bound t b r e)) h
 
-  -- the test is bound behind the first statement, whose declaration was known when it was examined
+  -- the test is bound after the first statement, whose declaration was known when it was examined
   parts_by_rules : (declares : ℕ → List LocalDeclaration) (test : Option Expr) (s v z : List Stmt) (ds : Declarations) (ts : Texts) (f g h : Bind (List RStmt)) (a : Around) (b : Before) (r : BoundTo RWhat)
       → Grows w.names declares ds ts f → ByRules Stmts s f → ByRules Stmts v g → ByRules Stmts z h → b.own ≡ [] → unknown_in_option (a.outer ++ declares (length b.slots)) test ≡ None
       → bind_parts test f g h a b ≡ Ok r → Whats (point a b) (st.For s test v z) r.tree (point_after_block (point a b) (point a r.before))

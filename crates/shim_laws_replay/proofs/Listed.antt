@@ -4,7 +4,7 @@ use Rattle.std.specs.Prelude.{slice_get}
 use Rattle.shim_local.specs.Process.{Ops, AtQuiet}
 use Rattle.shim_local.specs.Quiets.{is_quiet}
 use Rattle.shim_local.proofs.Quiets.{first_quiet}
-use Rattle.shim_semantics.specs.Listing.{IsAmong}
+use Rattle.shim_base.specs.Lists.{IsAmong}
 use Rattle.shim_semantics.specs.Nodes.{Node, Nodes, Live, Forked, Ended, Dead, no_node, node_and, state}
 use Rattle.shim_semantics.specs.Places.{at, child_at, at_route, route}
 use Rattle.shim_semantics.specs.Quiets.{quiets, all_quiets}

@@ -64,7 +64,7 @@ module _ {S : Type 0} (o : Ops S) where
         let root = root_path o law x.place t.root x.old x.new s.below x.there x.here in
         subst (λ (z : Tree S). led_to o z.root (o.path l) ≡ Some (Live l)) x.is (again t.root (put x.place x.new.node t.root) (o.path l) w.branches (Live l) root w.is a.second)
 
-    -- a meeting, whose channel has nothing to do with the process
+    -- a rendezvous, whose channel has nothing to do with the process
     meets : (c : Channel) (u : Tree S) → after o (Meet c) t ≡ Some u → led_to o u.root (o.path l) ≡ Some (Live l)
     meets c u h =
         let x = has_met o law c t u s h in

@@ -1,4 +1,4 @@
--- Lists in which nothing stands twice: one behind another, images, and channels in order.
+-- Lists in which nothing stands twice: one after another, images, and channels in order.
 use Rattle.std.proofs.Common.{◌≡◌, zero, suc, Bool, true, false, Some, List, [], ◌∷◌, ◌++◌, inl, inr, cond, map, refl, sym, ap, subst, ◌∙◌, T}
 use Rattle.std.specs.Prelude.{ℕ, slice_get}
 use Rattle.std.specs.Cmp.{IsTotalOrder, tied_itself}
@@ -8,7 +8,7 @@ use Rattle.std.specs.FinMap.Entries.{below_all}
 use Rattle.std.specs.Ordering.{is_lt}
 use Rattle.shim_base.specs.Paths.{Channel, channel_order}
 use Rattle.shim_base.specs.PathLaws.{channel_order_total}
-use Rattle.shim_semantics.specs.Listing.{IsAmong}
+use Rattle.shim_base.specs.Lists.{IsAmong}
 use Rattle.shim_semantics.specs.Walks.{as_key, in_order}
 use Rattle.shim_semantics.proofs.InOrder.{first_holds, second_holds}
 use Rattle.shim_semantics.proofs.Members.{among_either, among_mapped}

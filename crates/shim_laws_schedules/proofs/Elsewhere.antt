@@ -1,4 +1,4 @@
--- Where a meeting is enabled, whatever a process does by itself has nothing to do with its channel.
+-- Where a rendezvous is enabled, whatever a process does by itself has nothing to do with its channel.
 use Rattle.std.proofs.Common.{◌≡◌, ℕ, zero, suc, true, false, Some, List, [], ◌∷◌, ◌++◌, ◌&&◌, ◌||◌, inl, inr, not, refl, sym, ap, ◌∙◌}
 use Rattle.std.proofs.lemmas.List.{append_assoc, append_cancel_left, append-nil}
 use Rattle.shim_base.specs.Paths.{Path, Channel}

@@ -1,4 +1,4 @@
--- The processes that share a channel stand at and below the one that declared it; so its meeting is enabled exactly where the whole tree waits at it and has a sharer.
+-- The processes that share a channel stand at and below the one that declared it; so its rendezvous is enabled exactly where the whole tree waits at it and has a sharer.
 use Rattle.std.proofs.Common.{◌≡◌, ◌≤◌, ◌↔◌, ℕ, zero, suc, ◌+◌, Bool, true, false, Option, Some, None, List, [], ◌∷◌, ◌++◌, ◌&&◌, ◌||◌, inl, inr, not, refl, sym, ap, ◌∙◌, arith}
 use Rattle.std.proofs.lemmas.List.{append_cancel_left, append-nil}
 use Rattle.shim_base.specs.Paths.{Path, Channel, same_path}
@@ -33,7 +33,7 @@ abbrev first_place : Path → ℕ
 first_place [] = 0
 first_place (x ∷ p) = x.1
 
--- behind a path the place of the child gives the way
+-- after a path the place of the child gives the way
 pub same_branch : (p : Path) (f i j : ℕ) (r s : Path) → p ++ (f, i) ∷ r ≡ p ++ (f, j) ∷ s → i ≡ j
 same_branch p f i j r s e = ap first_place (append_cancel_left p ((f, i) ∷ r) ((f, j) ∷ s) e)
 

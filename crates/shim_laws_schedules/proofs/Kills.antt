@@ -54,7 +54,7 @@ module _ {S : Type 0} (o : Ops S) where
 
   -- ---- a process that acts in a child that is ready
 
-  -- before a poison and behind it
+  -- before a poison and after it
   record InsidePoisoned (c : Channel) (x : Death) (q : List ℕ) (n m a : Node S) : Type 0 where
     pub is_ready : ready o c (put q a n) ≡ true
     pub there : at q (poisoned o c x n) ≡ Some m
@@ -156,7 +156,7 @@ module _ {S : Type 0} (o : Ops S) where
 
   -- ---- a poison anywhere and an act anywhere
 
-  -- who acts is untouched by the poison, and the poison is the same behind the act
+  -- who acts is untouched by the poison, and the poison is the same after the act
   pub record ActPoison (c : Channel) (i : ℕ) (p q : List ℕ) (n k m a : Node S) : Type 0 where
     pub there : at q k ≡ Some m
     pub poisons : poison o c i p (put q a n) ≡ Some (put q a k)

@@ -3,7 +3,7 @@ use Rattle.std.proofs.Common.{◌≡◌, ◌≤◌, ◌⊎◌, ℕ, ◌+◌, tru
 use Rattle.shim_base.specs.Paths.{Path, Channel, same_path}
 use Rattle.shim_local.specs.Process.{Ops, StopView, AtQuiet, AtNext, AtPut, AtFork, AtFinish, AtThrow, AtTrap}
 use Rattle.shim_semantics.specs.Nodes.{Node, Nodes, Live, Forked, Ended, Dead, no_node, node_and, state, all_done}
-use Rattle.shim_semantics.specs.Listing.{IsAmong}
+use Rattle.shim_base.specs.Lists.{IsAmong}
 use Rattle.shim_semantics.specs.Places.{SoundBelow, SoundChildren, IsChild}
 use Rattle.shim_semantics.specs.Trees.{Event, Own, Meet, Poison, Close, End}
 use Rattle.shim_semantics.specs.Walks.{waited, all_waited, in_order, own_events, meets_here, here, poisons_here, poisons_of, walk, walk_all}
@@ -48,7 +48,7 @@ IsAmongChildren e p f j = (i : ℕ) × (r : Path) × (j ≤ i) × (doer e ≡ p 
 not_behind : (i j : ℕ) → j ≡ i → j + 1 ≤ i → ⊥
 not_behind i j e h = omega arith
 
--- what is of one child isn't of those behind it
+-- what is of one child isn't of those after it
 behind_apart : (e : Event) (p : Path) (f j : ℕ) (r : Path) → doer e ≡ p ++ (f, j) ∷ r → IsAmongChildren e p f (j + 1) → ⊥
 behind_apart e p f j r h w = not_behind w.0 j (same_branch p f j w.0 r w.1 (sym h ∙ w.3)) w.2
 

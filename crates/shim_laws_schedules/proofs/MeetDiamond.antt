@@ -1,4 +1,4 @@
--- A meeting may change places with each event of one process by itself, and with each other meeting.
+-- A rendezvous may change places with each event of one process by itself, and with each other rendezvous.
 use Rattle.std.proofs.Common.{◌≡◌, ℕ, ℤ, ◌+◌, true, Some, None, ◌++◌, cond, unwrap_or, refl, sym, ap, subst, ◌∙◌}
 use Rattle.shim_base.specs.Paths.{Channel}
 use Rattle.shim_local.specs.Process.{Ops}
@@ -24,11 +24,11 @@ use Rattle.shim_laws_schedules.proofs.EventParts.{counted, later_twice, with_eff
 use Rattle.shim_base.proofs.Facts.{cond_some}
 
 module _ {S : Type 0} (o : Ops S) where
-  -- the tree after the meeting of a channel
+  -- the tree after the rendezvous of a channel
   abbrev pub meeting : Channel → Tree S → Tree S
   meeting c t = met o c (value_of o c (source o c t.root)) t
 
-  -- a meeting that led from the first tree to the second
+  -- a rendezvous that led from the first tree to the second
   pub record HasMet (c : Channel) (t a : Tree S) : Type 0 where
     pub does_wait : all_wait o c t.root ≡ true
     pub sharer_is_there : has_sharer o c t.root ≡ true
@@ -40,7 +40,7 @@ module _ {S : Type 0} (o : Ops S) where
       let y = meets_all_wait o law c t.root s x.0 in
       record { does_wait = y.0; sharer_is_there = y.1; is = x.1 }
 
-  -- the value that a meeting gives, and the name that it brings, as they were in a tree that is the same to its channel
+  -- the value that a rendezvous gives, and the name that it brings, as they were in a tree that is the same to its channel
   abbrev pub met_as : Channel → ℤ → ℕ → Tree S → Tree S
   met_as c v name t = record { root = received o c v t.root; output = t.output; histories = recorded t.histories c name v; logs = t.logs; counts = t.counts; events = t.events + 1 }
 
@@ -98,7 +98,7 @@ module _ {S : Type 0} (o : Ops S) where
       let x = has_met law c t a s h in
       subst (λ z. Joined (Meet c) e z b) x.is (meet_split law c e t b s d x.does_wait x.sharer_is_there f (split_event o e t b d f))
 
-  -- ---- with another meeting
+  -- ---- with another rendezvous
 
   meetings_met : LocalLaws o → (c d : Channel) (t : Tree S) → IsSoundTree o t → (c ≡ d → ⊥) → HasMet c t (meeting c t) → HasMet d t (meeting d t) → Joined (Meet c) (Meet d) (meeting c t) (meeting d t)
   meetings_met law c d t s n x y =

@@ -1,4 +1,4 @@
--- A meeting changes no least label of the dead below a fork.
+-- A rendezvous changes no least label of the dead below a fork.
 use Rattle.std.proofs.Common.{◌≡◌, ℕ, zero, suc, ℤ, Option, Some, List, [], ◌∷◌, ◌||◌, refl, sym, ap, ◌∙◌}
 use Rattle.shim_base.specs.Paths.{Channel}
 use Rattle.shim_local.specs.Process.{Ops}

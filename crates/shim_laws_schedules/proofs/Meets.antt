@@ -1,4 +1,4 @@
--- A meeting among other events: it changes nothing for another channel on which all who share it wait, and two meetings, or a meeting and an act elsewhere, may change places.
+-- A rendezvous among other events: it changes nothing for another channel on which all who share it wait, and two rendezvous, or a rendezvous and an act elsewhere, may change places.
 use Rattle.std.proofs.Common.{◌≡◌, ℕ, zero, suc, ℤ, ◌+◌, true, false, Some, List, [], ◌∷◌, ◌||◌, inl, inr, not, cond, refl, sym, ap, subst, ◌∙◌}
 use Rattle.shim_base.specs.Paths.{Channel, NamedChannel}
 use Rattle.shim_local.specs.Process.{Ops, StopView, AtNext}
@@ -23,7 +23,7 @@ stands_once s c d y w =
     sym a.2 ∙ (ap (λ (z : NamedChannel). z.channel) (same_next a.0 b.0 (sym a.1 ∙ b.1)) ∙ b.2)
 
 module _ {S : Type 0} (o : Ops S) where
-  -- ---- a meeting and a node that is put in place of another
+  -- ---- a rendezvous and a node that is put in place of another
 
   mutual
     received_put : (c : Channel) (v : ℤ) (q : List ℕ) (m n : Node S) → received o c v (put q m n) ≡ put q (received o c v m) (received o c v n)
@@ -56,11 +56,11 @@ module _ {S : Type 0} (o : Ops S) where
   pub is_unshared_there : LocalLaws o → (c : Channel) (v : ℤ) (q : List ℕ) (n m : Node S) → SoundBelow o n → at q n ≡ Some m → is_unshared o c m ≡ true → at q (received o c v n) ≡ Some m
   is_unshared_there law c v q n m s e h = received_at c v q n m e ∙ ap Some (is_unshared_received o law c v m (sound_at o q n m s e) h)
 
-  -- so it may be put before the meeting or behind it
+  -- so it may be put before the rendezvous or after it
   pub is_unshared_put : LocalLaws o → (c : Channel) (v : ℤ) (q : List ℕ) (a n : Node S) → SoundBelow o a → is_unshared o c a ≡ true → put q a (received o c v n) ≡ received o c v (put q a n)
   is_unshared_put law c v q a n s h = sym (received_put c v q a n ∙ ap (λ z. put q z (received o c v n)) (is_unshared_received o law c v a s h))
 
-  -- ---- two meetings
+  -- ---- two rendezvous
 
   -- a process that receives does a call, and shares what it did
   hears : (c : Channel) (v : ℤ) (l : S) → is_next (o.stop l) c ≡ true → Called o l (o.receive l v)
@@ -91,7 +91,7 @@ module _ {S : Type 0} (o : Ops S) where
       ]
 
   mutual
-    -- a meeting leaves all as it was to another channel at which all sharers wait
+    -- a rendezvous leaves all as it was to another channel at which all sharers wait
     pub received_alike : LocalLaws o → (c d : Channel) (v : ℤ) (n : Node S) → SoundBelow o n → (c ≡ d → ⊥) → all_wait o c n ≡ true → Alike o c n (received o d v n)
     received_alike law c d v (Live l) s n h = live_alike law c d v l s n h
     received_alike law c d v (Ended l) s n h = alike_same o c (Ended l)

@@ -1,4 +1,4 @@
--- Who died with a number, before and behind an event.
+-- Who died with a number, before and after an event.
 use Rattle.std.proofs.Common.{◌≡◌, ◌≤◌, ◌<◌, ℕ, ℤ, zero, suc, ◌-◌, true, false, Option, Some, None, List, [], ◌∷◌, ◌⊎◌, inl, inr, cond, ltb, refl, sym, ap, subst, ◌∙◌, arith, ltb-true, ltb-false}
 use Rattle.shim_base.specs.Paths.{Channel}
 use Rattle.shim_local.specs.Process.{Ops, ForkedView, Parted, Trapped, StopView, AtQuiet, AtNext, AtPut, AtFork, AtFinish, AtThrow, AtTrap}
@@ -103,9 +103,9 @@ module _ {S : Type 0} (o : Ops S) where
       let w = closing o l ks a e in
       subst (λ z. Numbered x z.node) w.1 (closed_numbered law l ks (prevailing_death ks) x v s w.0 refl low least h)
 
-  -- ---- a poison and a meeting
+  -- ---- a poison and a rendezvous
 
-  -- the same died with a number below the fork before and behind
+  -- the same died with a number below the fork before and after
   pub record Alike (r : Option (Node S)) (l : S) (ks : Nodes S) : Type 0 where
     pub children : Nodes S
     pub there : r ≡ Some (Forked l children)

@@ -118,7 +118,7 @@ module _ {S : Type 0} (o : Ops S) where
       let x = nodes_changed_some t a (poisons o p c t.root) h in
       subst (λ z. Joined o (Poison p c) e z b) x.2 (poison_split law p c e t b x.0 s d (has_poisoned p c t.root x.0 x.1) (split_event o e t b d f))
 
-  -- ---- with a meeting
+  -- ---- with a rendezvous
 
   poison_met : LocalLaws o → (p : Path) (c d : Channel) (t : Tree S) (m : Node S) → IsSoundTree o t → HasPoisoned p c t.root m → all_wait o d t.root ≡ true → has_sharer o d t.root ≡ true → after o (Poison p c) t ≡ Some (with_root t m) → Joined o (Poison p c) (Meet d) (with_root t m) (meeting o d t)
   poison_met law p c d t m s x h g e =
@@ -146,7 +146,7 @@ module _ {S : Type 0} (o : Ops S) where
 
   -- ---- with another poison
 
-  -- what is poisoned stays where it was behind another poison
+  -- what is poisoned stays where it was after another poison
   poison_again : LocalLaws o → (p : Path) (c d : Channel) (e : ℕ) (q : List ℕ) (n m k u : Node S) → SoundBelow o n → (x : HasPoisoned p c n m) → poison o d (last_branch e q) (to_fork e q) n ≡ Some k → poison o c (last_branch x.place x.further) (to_fork x.place x.further) k ≡ Some u → poisons o p c k ≡ Some u
   poison_again law p c d e q n m k u s x f g =
       let j = poison_state o d (last_branch e q) (to_fork e q) (x.place ∷ x.further) n k x.child f x.there in

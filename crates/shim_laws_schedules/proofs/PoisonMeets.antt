@@ -1,4 +1,4 @@
--- A poison on one channel and a meeting on another may change places; where all sharers of a channel wait there is no poison on it.
+-- A poison on one channel and a rendezvous on another may change places; where all sharers of a channel wait there is no poison on it.
 use Rattle.std.proofs.Common.{◌≡◌, ℕ, zero, suc, ℤ, ◌+◌, ◌-◌, true, false, Some, List, [], ◌∷◌, ◌||◌, not, refl, sym, ap, subst, ◌∙◌}
 use Rattle.shim_base.specs.Paths.{Channel}
 use Rattle.shim_local.specs.Process.{Ops}
@@ -45,7 +45,7 @@ module _ {S : Type 0} (o : Ops S) where
     all_wait_unpoisoned_in c i zero p (node_and k ks) ms g e = let w = before_some ks (poison o c i p k) ms e in all_wait_unpoisoned c i p k w.0 (first_holds (all_wait o c k) (all_wait_below o c ks) g) w.1
     all_wait_unpoisoned_in c i (suc b) p (node_and k ks) ms g e = let w = after_some k (poison_child o c i b p ks) ms e in all_wait_unpoisoned_in c i b p ks w.0 (second_holds (all_wait o c k) (all_wait_below o c ks) g) w.1
 
-  -- ---- a meeting dooms and spares nobody
+  -- ---- a rendezvous dooms and spares nobody
 
   mutual
     dooms_heard : (h : ℕ) (c d : Channel) (v : ℤ) (n : Node S) → dooms o h c (received o d v n) ≡ dooms o h c n
@@ -66,7 +66,7 @@ module _ {S : Type 0} (o : Ops S) where
   pub not_below_child : (l k : S) (f j : ℕ) (c : Channel) → IsChild o l f j k → NotBelow c (o.path l) → NotBelow c (o.path k)
   not_below_child l k f j c h n x r e = child_outside o l k f j c h n (x ∷ r) e
 
-  -- ---- a meeting beside the poison of a child
+  -- ---- a rendezvous beside the poison of a child
 
   -- at the fork: the child is ready still, and the order of both is nothing
   record HeardHere (c d : Channel) (x : Death) (v : ℤ) (i : ℕ) (ks : Nodes S) : Type 0 where
@@ -89,7 +89,7 @@ module _ {S : Type 0} (o : Ops S) where
       let w = heard_here law c d x v l f (j + 1) i ks s.2 n a (second_holds (all_wait o d k) (all_wait_below o d ks) g) e in
       record { is_ready = w.is_ready; swap = ap (node_and (received o d v k)) w.swap; alike = alike_first o d k k ks (one_poisoned o c x i ks) (alike_same o d k) w.alike }
 
-  -- the poison leaves all as it was to the other channel, and is the same behind its meeting
+  -- the poison leaves all as it was to the other channel, and is the same after its rendezvous
   pub record MeetPoison (c d : Channel) (v : ℤ) (i : ℕ) (p : List ℕ) (n m : Node S) : Type 0 where
     pub alike : Alike o d n m
     pub poisons : poison o c i p (received o d v n) ≡ Some (received o d v m)

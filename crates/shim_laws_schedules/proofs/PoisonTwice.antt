@@ -121,7 +121,7 @@ module _ {S : Type 0} (o : Ops S) where
 
   -- ---- one below the other
 
-  -- a poison on d below is nothing to another channel, and is the same behind one on c above
+  -- a poison on d below is nothing to another channel, and is the same after one on c above
   record Struck (c d : Channel) (x : Death) (e : ℕ) (q : List ℕ) (n m : Node S) : Type 0 where
     alike : Alike o c n m
     poisons : poison o d e q (poisoned o c x n) ≡ Some (poisoned o c x m)
@@ -183,7 +183,7 @@ module _ {S : Type 0} (o : Ops S) where
         let y = struck_in law c d x e l g (j + 1) b q ks w.0 s.2 from a (second_holds (all_wait o c k) (all_wait_below o c ks) h) w.1 in
         subst (StruckIn c d x e (suc b) q (node_and k ks)) w.2 (record { alike = alike_first o c k k ks w.0 (alike_same o c k) y.alike; poisons = ap (after_one (poisoned o c x k)) y.poisons })
 
-  -- the child above is ready still, and the poison below is the same behind the one above
+  -- the child above is ready still, and the poison below is the same after the one above
   record Upper (c d : Channel) (x : Death) (i e b : ℕ) (q : List ℕ) (ks ms : Nodes S) : Type 0 where
     is_ready : is_ready_child o c i ms ≡ true
     poisons : poison_child o d e b q (one_poisoned o c x i ks) ≡ Some (one_poisoned o c x i ms)

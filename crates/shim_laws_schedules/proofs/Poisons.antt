@@ -1,4 +1,4 @@
--- What a poison leaves of a node: nothing changes for another channel, and it may change places with a meeting and with another poison.
+-- What a poison leaves of a node: nothing changes for another channel, and it may change places with a rendezvous and with another poison.
 use Rattle.std.proofs.Common.{◌≡◌, ℕ, zero, suc, ℤ, ◌+◌, true, false, Some, List, [], ◌∷◌, ◌&&◌, ◌||◌, inl, inr, not, cond, refl, sym, ap, subst, ◌∙◌, ltb}
 use Rattle.shim_base.specs.Paths.{Channel}
 use Rattle.shim_local.specs.Process.{Ops}
@@ -53,7 +53,7 @@ module _ {S : Type 0} (o : Ops S) where
         (poisoned_alike law c d x k s.1 n (first_holds (all_wait o c k) (all_wait_below o c ks) h) (first_holds (all_wait o d k) (all_wait_below o d ks) g))
         (all_poisoned_alike law c d x l f (j + 1) ks s.2 n (second_holds (all_wait o c k) (all_wait_below o c ks) h) (second_holds (all_wait o d k) (all_wait_below o d ks) g))
 
-  -- ---- a meeting on another channel
+  -- ---- a rendezvous on another channel
 
   -- of a process that isn't poisoned
   live_spared : LocalLaws o → (c d : Channel) (x : Death) (v : ℤ) (l : S) → o.sound l → o.shares l c ≡ false → received o d v (poisoned o c x (Live l)) ≡ poisoned o c x (received o d v (Live l))

@@ -1,7 +1,7 @@
 -- In a system in which events may change places, a run leads on to what as many rounds give.
 use Rattle.std.proofs.Common.{◌≡◌, ℕ, zero, suc, ◌≤◌, Option, Some, None, List, [], ◌∷◌, ◌++◌, length, ◌⊎◌, refl, sym, ap, subst, ◌∙◌, inl, inr, arith}
 use Rattle.shim_semantics.specs.Systems.{on_some, run, IsInvariant}
-use Rattle.shim_semantics.specs.Listing.{IsAmong}
+use Rattle.shim_base.specs.Lists.{IsAmong}
 use Rattle.shim_semantics.proofs.HowMany.{no_less_than}
 use Rattle.shim_laws_schedules.specs.Orders.{IsDiamond, or_same, do_all, rounds_of}
 use Rattle.shim_laws_schedules.proofs.Lengths.{went_on}

@@ -122,7 +122,7 @@ module _ {S : Type 0} (o : Ops S) where
       let w = split_event o e t u d h in
       record { threw = λ q l ks x v. alone_threw from t u es e s r known w q l ks x v; numbered = λ q l ks x. alone_numbered law from t u es e s known w q l ks x }
 
-  -- ---- a poison and a meeting: the same are dead with a number
+  -- ---- a poison and a rendezvous: the same are dead with a number
 
   alike_known : (from t u : Tree S) (es : List Event) (e : Event) → ((p : Path) → e ≡ Close p → ⊥) → Known from es t → ((q : List ℕ) (l : S) (ks : Nodes S) → at q u.root ≡ Some (Forked l ks) → Alike o (at q t.root) l ks)
       → ((q : List ℕ) (l : S) (ks : Nodes S) (x : ℕ) → at q u.root ≡ Some (Forked l ks) → o.base l ≤ x → x < o.handlers l → IsLeast x ks → Stood t.root q l x) → Known from (es ++ e ∷ []) u

@@ -1,4 +1,4 @@
--- Nodes none of whose processes share a channel: all such are alike to it, and a meeting on it leaves them as they are.
+-- Nodes none of whose processes share a channel: all such are alike to it, and a rendezvous on it leaves them as they are.
 use Rattle.std.proofs.Common.{◌≡◌, ℕ, ℤ, ◌+◌, true, false, Some, None, inl, inr, not, cond, refl, sym, ap, ◌∙◌}
 use Rattle.shim_base.specs.Paths.{Channel, NamedChannel}
 use Rattle.shim_local.specs.Process.{Ops, StopView, AtQuiet, AtNext, AtPut, AtFork, AtFinish, AtThrow, AtTrap}

@@ -1,4 +1,4 @@
--- Events that may change places, and where a meeting is enabled.
+-- Events that may change places, and where a rendezvous is enabled.
 use Rattle.std.specs.Prelude.{◌≡◌, ◌↔◌, Bool, true, false, Option, Some}
 use Rattle.shim_base.specs.Paths.{Path, Channel}
 use Rattle.shim_local.specs.Process.{Ops}
@@ -26,7 +26,7 @@ is_poison (Poison p c) = true
 is_poison (Close p) = false
 is_poison (End p) = false
 
--- a meeting may change places with each event that is no poison
+-- a rendezvous may change places with each event that is no poison
 abbrev pub MeetingsChangePlaces : {S : Type 0} → Ops S → Type 0
 MeetingsChangePlaces o = (c : Channel) (f : Event) → is_poison f ≡ false → MayChangePlaces o (Meet c) f
 
@@ -34,6 +34,6 @@ MeetingsChangePlaces o = (c : Channel) (f : Event) → is_poison f ≡ false →
 abbrev pub PoisonsChangePlaces : {S : Type 0} → Ops S → Type 0
 PoisonsChangePlaces o = (p : Path) (c : Channel) (f : Event) → MayChangePlaces o (Poison p c) f
 
--- In a sound tree a channel's meeting is enabled exactly where all wait on the channel (`all_wait`) and some live or forked process shares it.
+-- In a sound tree a channel's rendezvous is enabled exactly where all wait on the channel (`all_wait`) and some live or forked process shares it.
 abbrev pub MeetsWhereAllWait : {S : Type 0} → Ops S → Type 0
 MeetsWhereAllWait {S} o = (c : Channel) (root : Node S) → IsSound o root → (meets o c root ≡ true) ↔ ((all_wait o c root ≡ true) × (has_sharer o c root ≡ true))

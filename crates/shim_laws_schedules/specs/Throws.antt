@@ -7,7 +7,7 @@ use Rattle.shim_local.specs.declared.LogWhat.TheVariants.{Caught}
 use Rattle.shim_semantics.specs.Nodes.{Nodes, Death, handed, Live, Forked, states, all_done, prevailing_death}
 use Rattle.shim_semantics.specs.Places.{StandsAt}
 use Rattle.shim_semantics.specs.Trees.{Tree, Event, Own, Close, logs_at, after}
-use Rattle.shim_semantics.specs.Listing.{IsAmong}
+use Rattle.shim_base.specs.Lists.{IsAmong}
 use Rattle.shim_semantics.specs.Laws.{IsSoundTree}
 use Rattle.shim_semantics.specs.Systems.{run}
 

@@ -1,4 +1,4 @@
-// Laws of meetings and of poisons, of every order of events, and that the walk lists each event once.
+// Laws of rendezvous and of poisons, of every order of events, and that the walk lists each event once.
 ghost use Rattle.shim_laws_schedules.specs.ChangingPlaces.{MeetsWhereAllWait, MeetingsChangePlaces, PoisonsChangePlaces};
 ghost use Rattle.shim_laws_schedules.specs.Laws.{EventsCommute, RunsAgree, RoundsLead};
 ghost use Rattle.shim_laws_schedules.specs.ListedOnce.{ListsOnce};

@@ -13,7 +13,7 @@ abbrev pub behind : {S : Type 0} → List (Node S) → Nodes S → Nodes S
 behind [] ks = ks
 behind (n ∷ ns) ks = node_and n (behind ns ks)
 
--- The relation goes on through events and holds below a fork where one child changes. It holds of what each process does by itself, and of a meeting.
+-- The relation goes on through events and holds below a fork where one child changes. It holds of what each process does by itself, and of a rendezvous.
 pub record Relates {S : Type 0} (o : Ops S) (R : Node S → Node S → Type 0) : Type 0 where
   pub same : (n : Node S) → R n n
   pub both : (a b c : Node S) → R a b → R b c → R a c

@@ -118,7 +118,7 @@ module _ {S : Type 0} (o : Ops S) (R : Node S → Node S → Type 0) where
   poisons_related : Relates o R → (p : Path) (c : Channel) (n m : Node S) → poisons o p c n ≡ Some m → R n m
   poisons_related g p c n m e = poison_route_related g c (route (o.path (state n)) p) n m (chosen (has_path o p (led_to o n p)) (poison_route o c n (route (o.path (state n)) p)) m e).1
 
-  -- a meeting
+  -- a rendezvous
 
   mutual
     received_related : Relates o R → (c : Channel) (v : ℤ) (n : Node S) → SoundBelow o n → R n (received o c v n)

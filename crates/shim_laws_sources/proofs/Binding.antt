@@ -1,4 +1,4 @@
--- What each kind of statement is bound to declares slots behind those that stand before it.
+-- What each kind of statement is bound to declares slots after those that stand before it.
 use Rattle.std.proofs.Common.{ℕ, ◌+◌, ◌≤◌, ◌≡◌, List, [], ◌∷◌, ◌++◌, Option, Some, None, Ok, length, refl, sym, subst, arith, length-append}
 use Rattle.std.specs.Option.{option_or}
 use Rattle.shim_base.specs.declared.types.Ty.{Ty}

@@ -1,4 +1,4 @@
--- The slots that the body of a function declares stand behind those of its parameters.
+-- The slots that the body of a function declares stand after those of its parameters.
 use Rattle.std.proofs.Common.{ℕ, ◌+◌, ◌≤◌, ◌≡◌, List, [], ◌∷◌, ◌++◌, Ok, length, map, refl, sym, subst, arith, length-append}
 use Rattle.std.proofs.lemmas.List.{length-map}
 use Rattle.shim_syntax.specs.declared.tree.Function.{Function}
@@ -153,7 +153,7 @@ params_before : (names : Texts) (b : Before) (ps : List Param) → length (param
 params_before names b [] = omega arith
 params_before names b (p ∷ ps) = omega (arith, params_before names (with_param names b p) ps, length-append b.slots (p.sort ∷ []))
 
--- what a function declares in its own unit is behind its parameters
+-- what a function declares in its own unit is after its parameters
 abbrev pub IsAfterParams : RFunction → Type 0
 IsAfterParams r = AllFrom (length r.params) (declares_in r.body)
 

@@ -17,7 +17,7 @@ pub each_of_all : {T : Type 0} (P : T → Type 0) (ts : List T) → All P ts →
 each_of_all P [] h = tt
 each_of_all P (t ∷ ts) h = (All-head P t ts h, each_of_all P ts (All-tail P t ts h))
 
--- behind the first list stands the first element of the second
+-- after the first list stands the first element of the second
 pub at_length : {T : Type 0} (us : List T) (v : T) (vs : List T) → slice_get (us ++ v ∷ vs) (length us) ≡ Some v
 at_length [] v vs = refl
 at_length (u ∷ us) v vs = at_length us v vs

@@ -1,4 +1,4 @@
--- Where a unit's own variables stand among its slots: behind those that it is given.
+-- Where a unit's own variables stand among its slots: after those that it is given.
 use Rattle.std.proofs.Common.{ℕ, zero, suc, ◌+◌, ◌<◌, ◌≤◌, ◌≡◌, ◌∙◌, Bool, true, false, not, ◌&&◌, ◌||◌, List, [], ◌∷◌, ◌++◌, Option, Some, None, cond, length, nat_eq, inl, inr, refl, sym, ap, arith}
 use Rattle.std.specs.List.{position_or_len}
 use Rattle.std.proofs.lemmas.Bool.{lt-ltb, le-leb, true≢false}

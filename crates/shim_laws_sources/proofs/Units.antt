@@ -28,7 +28,7 @@ use Rattle.shim_laws_sources.proofs.LiftedFits.{body_fits}
 use Rattle.shim_laws_sources.proofs.BoundSlots.{IsAfterParams, program_behind}
 use Rattle.shim_units.proofs.Counting.{upto_length}
 
--- units that stand behind others in a form stand from the number of these on
+-- units that stand after others in a form stand from the number of these on
 all_stand : (form : Form) (n : ℕ) (us vs : List UnitOf) → n ≡ length us → form.units ≡ us ++ vs → StandFrom form n vs
 unfolding unit_at
 all_stand form n us [] same e = tt

@@ -94,7 +94,7 @@ unfolding gone
 gone_moves successor l units g h p w =
     settled_moves l.callers (went successor l.frame) l units (frames_on l.program l.frame (went successor l.frame) l.callers w (went_labels l.program successor l.frame g h p))
 
--- behind the statement
+-- after the statement
 pub gone_on_moves : (l : LocalState) → HasLabels l → Moves l (gone On l)
 gone_on_moves l h =
     let f : FrameLabels l.program l.frame = inner_labels l.program l.frame l.callers h.frames in

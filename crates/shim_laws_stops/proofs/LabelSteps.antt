@@ -28,7 +28,7 @@ use Rattle.shim_laws_stops.proofs.ThrowItems.{throws_layer, throws_out, body_thr
 use Rattle.shim_laws_stops.proofs.FrameSteps.{Given, given_of, inner_labels, waiting, framed, Moves, moves_none, settled_moves, gone_moves, gone_on_moves}
 use Rattle.shim_laws_stops.proofs.KnownLabels.{PassesOn, passes_on}
 
--- what a statement asks for leaves of the unit what throws what is known; behind it comes what this function says
+-- what a statement asks for leaves of the unit what throws what is known; after it comes what this function says
 abbrev ActionThrows : LocalState → (Successor → List Item) → Action → Type 0
 ActionThrows l next (Go successor) = ItemsThrow l.program (unit_at l.program l.frame.unit).throws l.frame.places (next successor)
 ActionThrows l next (Enter unit given labels) = PassesOn l.program unit labels

@@ -50,7 +50,7 @@ Has l = HasLocation (unit_at l.program l.frame.unit) l.locations l.frame.slots
 abbrev unit_of : LocalState → UnitOf
 unit_of l = unit_at l.program l.frame.unit
 
--- what a statement asks for leaves of the unit what names what has its location, where the statement declares this; behind it comes what this function says
+-- what a statement asks for leaves of the unit what names what has its location, where the statement declares this; after it comes what this function says
 abbrev ActionScoped : LocalState → List ℕ → Option ℕ → (Successor → List Item) → Action → Type 0
 ActionScoped l top taken next (Go successor) = ItemsScoped l.program (unit_of l) (Has l) [] (next successor)
 ActionScoped l top taken next (Store x v) = top ≡ []
@@ -281,7 +281,7 @@ pub thrown_has : (l : LocalState) → HasLocations l → HasLocations (throw_eva
 unfolding throw_evaluated
 thrown_has l h = after_throw_has (thrown_value l) l h
 
--- a meeting
+-- a rendezvous
 
 -- what such a statement declares
 stmt_none : (l : LocalState) (n : ℕ) (s : UStmt) (k : List Item) (w : UWhat-F UWhat UStmt) → out-UWhat s.what ≡ w → (scoped_kind l.program (unit_of l) w).declares ≡ [] → next_declares l.program (unit_of l) (Do n s ∷ k) ≡ []

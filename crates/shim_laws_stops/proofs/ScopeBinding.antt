@@ -52,7 +52,7 @@ longer xs ys g = let e : length ys ≡ length (xs ++ g.more) = ap length g.whole
 pub placed_later : (m n : ℕ) (all : List Sort) (ls : List LocalDeclaration) → m ≤ n → ArePlaced m all ls → ArePlaced n all ls
 placed_later m n all ls less h = each_weaker (IsPlaced m all) (IsPlaced n all) (λ l p. let below = p.below in record { sort = p.sort; below = omega (arith, below, less) }) ls h
 
--- What is right is decided by the slots in scope, how many slots stand before and behind, all slots of the function, and those that come into scope.
+-- What is right is decided by the slots in scope, how many slots stand before and after, all slots of the function, and those that come into scope.
 abbrev pub Right : Type 0 → Type 1
 Right T = List ℕ → ℕ → ℕ → List Sort → List ℕ → T → Type 0
 
@@ -81,7 +81,7 @@ stays right a t b r so e = at_answer right a b b t r e (record {
   tree = λ all on placed. so all placed;
 })
 
--- a block: nothing of it comes into scope behind it
+-- a block: nothing of it comes into scope after it
 pub record IsBlockBy {T : Type 0} (right : Right T) (a : Around) (old : Before) (r : BoundTo T) : Type 0 where
   pub slots_on : GoesOn old.slots r.before.slots
   pub own : r.before.own ≡ old.own
@@ -345,7 +345,7 @@ module _ (w : Whole) (form : Form) (fs : List RFunction) (headers : HeadersSuit 
       let m = block_scoped body_right f k a b p.0 p.1 in
       from_blocks a b p.0.before (to.Block p.0.tree) r p.2 m.slots_on m.own (λ all on are. part_block form fs (slots (visible a b)) (length b.slots) (length p.0.before.slots) all m.top p.0.tree (m.tree all on are))
 
-  -- behind statements their declarations are in scope, too
+  -- after statements their declarations are in scope, too
 
   pub behind_visible : (a : Around) (b c : Before) (more : List LocalDeclaration) → c.own ≡ b.own ++ more → visible a c ≡ visible a b ++ more
   behind_visible a b c more own = ap (λ ls. a.outer ++ ls) own ∙ sym (append_assoc a.outer b.own more)
@@ -433,7 +433,7 @@ module _ (w : Whole) (form : Form) (fs : List RFunction) (headers : HeadersSuit 
   same_behind [] ys zs e = e
   same_behind (x ∷ xs) ys zs e = same_behind xs ys zs (cc e)
 
-  -- what is no stream with what is sure to be declared is none behind all that was, of numbers
+  -- what is no stream with what is sure to be declared is none after all that was, of numbers
   number_grown : (ls : List LocalDeclaration) (ds : Declarations) (ts : Texts) (a : Around) (b c : Before) (more : List LocalDeclaration) → IsGrown w.names ls ds ts b c → c.own ≡ b.own ++ more → b.own ≡ [] → Each IsNumber more → (x : List ℕ) → no_number (a.outer ++ ls) x ≡ None → no_number (visible a c) x ≡ None
   number_grown ls ds ts a b c more g own none numbers x e =
       let whole : visible a c ≡ (a.outer ++ ls) ++ g.own.more = ap (λ l. a.outer ++ l) g.own.whole ∙ ap (λ l. a.outer ++ (l ++ (ls ++ g.own.more))) none ∙ sym (append_assoc a.outer ls g.own.more) in

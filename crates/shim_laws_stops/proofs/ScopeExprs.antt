@@ -235,7 +235,7 @@ output_bound ls lo all x slot h i none =
     let b = its_binding ls lo all x slot h i in
     ap is_output_at b.at ∙ is_output x b.bound.sort (bound_if unless_output x (binding_of x ls) b.bound b.binding none)
 
--- what is no stream among some declarations is none behind further ones, of numbers
+-- what is no stream among some declarations is none after further ones, of numbers
 
 abbrev pub IsNumber : LocalDeclaration → Type 0
 IsNumber l = is_number (Some l.bound.sort) ≡ true

@@ -32,12 +32,6 @@ pub record Covers (xs ys : Locations) : Type 0 where
   pub long : length ys ≡ length xs
   pub there : (n : ℕ) (x : Location) → at_number xs n ≡ Some x → IsThere (at_number ys n)
 
-pub covers_same : (xs : Locations) → Covers xs xs
-covers_same xs = record { long = refl; there = λ n x e. (x, e) }
-
-pub covers_both : (xs ys zs : Locations) → Covers xs ys → Covers ys zs → Covers xs zs
-covers_both xs ys zs f g = record { long = g.long ∙ f.long; there = λ n x e. let w = f.there n x e in g.there n w.0 w.1 }
-
 pub covers_onward : (xs ys : Locations) → Onward xs ys → Covers xs ys
 covers_onward xs ys o = record { long = o.long; there = λ n x e. let w = o.ahead n x e in (w.place, w.at) }
 

@@ -173,7 +173,7 @@ module _ (form : Form) (fs : List RFunction) where
     units = λ context w n u xs lies s o stand. h.units context w n u xs lies s o stand;
   }
 
-  -- behind what is read first, which puts nothing into scope
+  -- after what is read first, which puts nothing into scope
   pub after_reads : {S T : Type 0} (check : UnitOf → S → Scoped) (better : UnitOf → T → Scoped) (around : List ℕ) (all : List Sort) (top : List ℕ) (ns us : List Use) (ds : List ℕ) (ps : List SharingPlace) (g : SlotMap → S → T) (f : Lifts S) (reads : SlotMap → UnitOf → List ℕ → Bool)
       → ((u : UnitOf) (w : SlotMap) (s : S) (xs : List ℕ) → (better u (g w s)).right xs ≡ (reads w u xs && (check u s).right xs))
       → ((context : LiftContext) (w : SlotMap) (u : UnitOf) (xs : List ℕ) → Lies all context w u → Stands around ns [] w xs → reads w u xs ≡ true)

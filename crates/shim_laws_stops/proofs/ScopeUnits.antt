@@ -91,7 +91,7 @@ upto_once zero = refl
 upto_once (suc n) =
     once_both (upto n) (n ∷ []) (upto_once n) refl (λ y h k. elim (among_cases n [] y k) [ inl e ↦ (let low = under_upto n y h in absurd (omega (arith, low, e))) | inr j ↦ none_among y j ])
 
--- the first slots hold what the parameters say, and those behind numbers
+-- the first slots hold what the parameters say, and those after numbers
 right_by : (ps : List UParam) (ss : List Sort) → ((i : ℕ) (p : UParam) → slice_get ps i ≡ Some p → slice_get ss i ≡ Some p.sort) → ((i : ℕ) (s : Sort) → length ps ≤ i → slice_get ss i ≡ Some s → is_number (Some s) ≡ true) → slots_right ps ss ≡ true
 right_by [] [] f g = refl
 right_by [] (s ∷ ss) f g = both_hold (is_number (Some s)) (all_numbers ss) (g 0 s (omega arith) refl) (right_by [] ss (λ i p e. absurd (cc e)) (λ i r low e. g (suc i) r (omega arith) e))

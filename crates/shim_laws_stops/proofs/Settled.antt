@@ -96,7 +96,7 @@ every_good (s ∷ ss) = (good s, every_good ss)
 pub body_starts : (ss : List UStmt) (n : ℕ) → StartsRight (items_all ss n)
 body_starts ss n = all_start ss (every_good ss) n
 
--- behind the ends that follow
+-- after the ends that follow
 
 past_starts : (k : List Item) (places : List ExceptionPlace) (f : Frame) → StartsRight (past_ends k places f).todo
 past_starts [] places f = tt

@@ -216,7 +216,7 @@ module _ (stream : Stream) where
   NoneTakes program [] = Unit {0}
   NoneTakes program (b ∷ bs) = (takes stream program b.call.unit ≡ true → ⊥) × NoneTakes program bs
 
-  -- where one does, no other one behind it
+  -- where one does, no other one after it
   abbrev pub OneAtMost : Form → List UBranch → Type 0
   OneAtMost program [] = Unit {0}
   OneAtMost program (b ∷ bs) = (takes stream program b.call.unit ≡ true → NoneTakes program bs) × OneAtMost program bs

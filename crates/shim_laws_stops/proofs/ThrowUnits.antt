@@ -30,7 +30,7 @@ use Rattle.shim_laws_stops.proofs.Among.{Among, none_among, among_cases, among_f
 use Rattle.shim_laws_stops.proofs.ThrowLifting.{Stands}
 use Rattle.shim_laws_stops.proofs.ThrowParts.{numbers, HaveUnits, BodyThrows, stmts_right}
 
--- units that stand behind others in a form stand from the number of these on
+-- units that stand after others in a form stand from the number of these on
 pub all_stand : (form : Form) (n : ℕ) (us vs : List UnitOf) → n ≡ length us → form.units ≡ us ++ vs → StandFrom form n vs
 unfolding unit_at
 all_stand form n us [] same e = tt

@@ -195,7 +195,7 @@ abbrev pub all_numbers : List Sort → Bool
 all_numbers [] = true
 all_numbers (s ∷ ss) = is_number (Some s) && all_numbers ss
 
--- the first slots hold what the parameters say, and those behind them numbers
+-- the first slots hold what the parameters say, and those after them numbers
 abbrev pub slots_right : List UParam → List Sort → Bool
 slots_right [] ss = all_numbers ss
 slots_right (p ∷ ps) [] = false

@@ -15,7 +15,7 @@ use Rattle.shim_base.proofs.Facts.{some_same, none_some, and_false, false_unless
 use Rattle.shim_laws_table.specs.NodeStatus.{ProcessStatus, forks, seen, place, how_many_nodes}
 use Rattle.shim_laws_table.specs.Agrees.{RecordView, Has, Agrees, Represents}
 use Rattle.shim_laws_table.specs.Places.{IsReplaced}
-use Rattle.shim_laws_table.specs.Counts.{Tally, tally_of, is_alive_on, isnt_ready, is_dead_on, count, bit, not_ready_on, ChildStatus, child_status, fork_status, tally_ready, IsExchanged}
+use Rattle.shim_laws_table.specs.Counts.{Tally, tally_of, is_going_on, isnt_ready, is_dead_on, count, bit, not_ready_on, ChildStatus, child_status, fork_status, tally_ready, IsExchanged}
 use Rattle.shim_laws_table.specs.Tallied.{Tallied, OnTheWay, is_above, HaveCounts}
 use Rattle.shim_laws_table.specs.Updating.{AreLinked, AreAtMost, CanMove, AreMoved, UpdatedAbove, too_far, at_top, no_counts, stays, goes_on, CountsFollow}
 use Rattle.shim_laws_table.proofs.Aside.{as_many}
@@ -135,10 +135,10 @@ module _ {S : Type 0} (o : Ops S) (rp : Path) (records : List S) (views : List R
     can : CanMove most was is y
     can =
         let e = sym its_own in
-        let live = moves (is_alive_on o c) was.alive is.alive y.live (ap (λ w. w.alive) read) (ap (λ w. w.alive) reads) (ap (λ w. w.live) e) in
+        let going = moves (is_going_on o c) was.going is.going y.going (ap (λ w. w.going) read) (ap (λ w. w.going) reads) (ap (λ w. w.going) e) in
         let not_ready = moves (isnt_ready o c) (not_ready_on was) (not_ready_on is) y.not_ready (ap not_ready_on read) (ap not_ready_on reads) (ap (λ w. w.not_ready) e) in
         let dead = moves (is_dead_on o c) was.dead_on is.dead_on y.dead (ap (λ w. w.dead_on) read) (ap (λ w. w.dead_on) reads) (ap (λ w. w.dead) e) in
-        record { live = live.0; not_ready = not_ready.0; dead = dead.0; live_fits = live.1; not_ready_fits = not_ready.1; dead_fits = dead.1 }
+        record { going = going.0; not_ready = not_ready.0; dead = dead.0; going_fits = going.1; not_ready_fits = not_ready.1; dead_fits = dead.1 }
 
     moved : IsExchanged (child_status o c m) (child_status o c (put t a m)) y z
     moved = subst (λ w. IsExchanged w (child_status o c (put t a m)) y z) (sym read) (subst (λ w. IsExchanged was w y z) (sym reads) (step.moved can))
@@ -164,7 +164,7 @@ module _ {S : Type 0} (o : Ops S) (rp : Path) (records : List S) (views : List R
     done_here same =
         subst (λ w. Tallied o rp records views c behind (put w a root)) (sym u.split)
         (ended o rp records views c behind root (Forked u.fork u.children) a r (u.branch ∷ t) u.there
-        (status_before ∙ (ap (λ b. let w : ChildStatus = record { alive = true; ready_on = b; dead_on = false } in w) same ∙ sym status_then)) up_one.0)
+        (status_before ∙ (ap (λ b. let w : ChildStatus = record { going = true; ready_on = b; dead_on = false } in w) same ∙ sym status_then)) up_one.0)
 
     pub have_still : HaveCounts o rp records views c behind new
     have_still i g n l k ks has there = elim (same_or_not i j) [
@@ -244,11 +244,11 @@ module _ {S : Type 0} (o : Ops S) (law : LocalLaws o) where
       on true v = absurd (none_above o rp records views new shown c x f i d e s z k r has home its v (counts_share o rp records views new shown c counts have i d e z y its w))
 
   unshared : (c : Channel) (n : Node S) → SoundBelow o n → o.shares (state n) c ≡ false → ((r : Path) → c.home ≢ o.path (state n) ++ r)
-      → child_status o c n ≡ record { alive = false; ready_on = false; dead_on = false }
+      → child_status o c n ≡ record { going = false; ready_on = false; dead_on = false }
   unshared c n s e out =
       let quiet = unshared_is_unshared o c n s e out in
       let never : ready o c n ≡ false = false_unless (ready o c n) (λ h. clash (has_sharer o c n) (ready_has_sharer o law c n s h) (is_unshared_still o c n quiet)) in
-      λ i. record { alive = and_false (goes n) (o.shares (state n) c) e i; ready_on = never i; dead_on = and_false (is_dead n) (o.shares (state n) c) e i }
+      λ i. record { going = and_false (goes n) (o.shares (state n) c) e i; ready_on = never i; dead_on = and_false (is_dead n) (o.shares (state n) c) e i }
 
   pub counts_follow : CountsFollow o
   counts_follow = record { updated = updated; alike = alike; own = own; unshared = unshared }

@@ -17,7 +17,7 @@ use Rattle.shim_base.proofs.Facts.{some_same, none_some, first_holds, second_hol
 use Rattle.shim_base.proofs.SamePaths.{same_path_is, same_path_refl}
 use Rattle.shim_laws_table.specs.NodeStatus.{ProcessStatus, lives, forks, process_status, place, how_many_nodes}
 use Rattle.shim_laws_table.specs.Agrees.{RecordView, Has, Represents}
-use Rattle.shim_laws_table.specs.Counts.{running_of, tally_ready}
+use Rattle.shim_laws_table.specs.Counts.{going_of, tally_ready}
 use Rattle.shim_laws_table.specs.Dooms.{min_dead_label_among, is_below}
 use Rattle.shim_laws_table.specs.Enabled.{Can, EnabledByRecords, IsAt, at_step, at_end, at_close, at_home, at_child, EnabledAreFound, NothingNew}
 use Rattle.shim_laws_table.proofs.SameTrees.{seen_live, seen_some, child_counted}
@@ -51,16 +51,16 @@ ends_is Closes e = absurd cc
 ends_is Nothing e = absurd cc
 
 -- none goes on just where all are done
-none_goes : {S : Type 0} (ks : Nodes S) → all_done ks ≡ true → running_of ks ≡ 0
+none_goes : {S : Type 0} (ks : Nodes S) → all_done ks ≡ true → going_of ks ≡ 0
 none_goes no_node e = refl
 none_goes (node_and k ks) e =
-    ap (λ b. if b then suc (running_of ks) else running_of ks) (not_false (goes k) (first_holds (not (goes k)) (all_done ks) e)) ∙ none_goes ks (second_holds (not (goes k)) (all_done ks) e)
+    ap (λ b. if b then suc (going_of ks) else going_of ks) (not_false (goes k) (first_holds (not (goes k)) (all_done ks) e)) ∙ none_goes ks (second_holds (not (goes k)) (all_done ks) e)
 
-all_are_done : {S : Type 0} (ks : Nodes S) → running_of ks ≡ 0 → all_done ks ≡ true
+all_are_done : {S : Type 0} (ks : Nodes S) → going_of ks ≡ 0 → all_done ks ≡ true
 all_are_done no_node e = refl
 all_are_done (node_and k ks) e = on (goes k) refl e (all_are_done ks)
   where
-    on : (b : Bool) → goes k ≡ b → (if b then suc (running_of ks) else running_of ks) ≡ 0 → (running_of ks ≡ 0 → all_done ks ≡ true) → all_done (node_and k ks) ≡ true
+    on : (b : Bool) → goes k ≡ b → (if b then suc (going_of ks) else going_of ks) ≡ 0 → (going_of ks ≡ 0 → all_done ks ≡ true) → all_done (node_and k ks) ≡ true
     on true w h f = absurd (omega (arith, h))
     on false w h f = both_hold (not (goes k)) (all_done ks) (false_not (goes k) w) (f h)
 
@@ -96,7 +96,7 @@ module _ {S : Type 0} (o : Ops S) where
           not_none (after o e t) _ (join_event o e t (place o rp l) m a d (ap (route (o.path (state t.root))) its ∙ led) there
           (both_hold (same_path (o.path (state m)) (doer e)) (same_own_action (does e) (own_action_of o m)) (ap (λ z. same_path z (doer e)) (ap o.path is ∙ sym its) ∙ same_path_refl (doer e)) kind) acts)
 
-      -- the meeting of a channel that it declared
+      -- the rendezvous of a channel that it declared
       meets_is : (c : Channel) → o.path l ≡ c.home → meets o c t.root ≡ ready o c m
       meets_is c home =
           ap (λ z. home_is_ready o c (at_route t.root z)) (ap (route (o.path (state t.root))) (sym home) ∙ led)
@@ -126,10 +126,10 @@ module _ {S : Type 0} (o : Ops S) where
           alone_can l (Live l) (live_there i f l has) refl (End (o.path l)) a.0 (λ z. cc) refl k a.1),
     )
 
-    closes : (l : S) (ks : Nodes S) → at (place o rp l) t.root ≡ Some (Forked l ks) → Can o t (Close (o.path l)) ↔ (running_of ks ≡ 0)
+    closes : (l : S) (ks : Nodes S) → at (place o rp l) t.root ≡ Some (Forked l ks) → Can o t (Close (o.path l)) ↔ (going_of ks ≡ 0)
     closes l ks there = (forth, back)
       where
-        forth : Can o t (Close (o.path l)) → running_of ks ≡ 0
+        forth : Can o t (Close (o.path l)) → going_of ks ≡ 0
         forth can =
             let u = there_is (after o (Close (o.path l)) t) can in
             let x = split_event o (Close (o.path l)) t u.0 (λ z. cc) u.1 in
@@ -137,7 +137,7 @@ module _ {S : Type 0} (o : Ops S) where
             let same : x.old ≡ Forked l ks = some_same x.old (Forked l ks) (sym x.there ∙ (ap (λ z. at z t.root) place_is ∙ there)) in
             none_goes ks (cond_some (all_done ks) (closed o l (states ks) (prevailing_death ks)) x.new (ap (act_here o) (sym same) ∙ x.here)).0
 
-        back : running_of ks ≡ 0 → Can o t (Close (o.path l))
+        back : going_of ks ≡ 0 → Can o t (Close (o.path l))
         back e =
             let a : Acted S = closed o l (states ks) (prevailing_death ks) in
             alone_can l (Forked l ks) there refl (Close (o.path l)) a (λ z. cc) refl refl (ap (λ b. cond b (Some a) None) (all_are_done ks e))
@@ -238,7 +238,7 @@ module _ {S : Type 0} (o : Ops S) where
     goes_of c (Ended l) e = absurd cc
     goes_of c (Dead l d) e = absurd cc
 
-    -- where a channel's meeting is enabled its home is there and ready
+    -- where a channel's rendezvous is enabled its home is there and ready
     ready_home : (c : Channel) (r : Option (List ℕ)) → home_is_ready o c (at_route t.root r) ≡ true → (q : List ℕ) × (m : Node S) × (at q t.root ≡ Some m) × (o.path (state m) ≡ c.home) × (ready o c m ≡ true)
     ready_home c None e = absurd cc
     ready_home c (Some q) e = on (at q t.root) refl e

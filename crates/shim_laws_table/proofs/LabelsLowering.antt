@@ -66,7 +66,7 @@ module _ {S : Type 0} (o : Ops S) (law : LocalLaws o) (rp : Path) (records : Lis
           let y = some_counts i counted in
           absurd (none_above o rp records views new shown c x f i d n s u k [] has (home ∙ sym (append-nil (o.path s))) fork w (counts_share o rp records views new shown c counts have i d n u y.0 fork y.1))
 
-  -- the fork of a record on the way, before and behind
+  -- the fork of a record on the way, before and after
   record ParentAbove (x : ℕ) (s : S) (t : List ℕ) (f : ℕ) (k : ProcessStatus) (j : ℕ) : Type 0 where
     pub below : HasParent o rp records views new shown x f s k
     pub number : below.number ≡ j
@@ -120,7 +120,7 @@ module _ {S : Type 0} (o : Ops S) (law : LocalLaws o) (rp : Path) (records : Lis
     kids_same : (l : S) (ks js : Nodes S) → Some (Forked l ks) ≡ Some (Forked u.state js) → min_dead_label_among o c ks ≡ min_dead_label_among o c js
     kids_same l ks js e = ap (min_dead_label_among o c) (fork_parts o c l u.state ks js e).1
 
-    -- what is at the fork is what is behind
+    -- what is at the fork is what is after
     here : (i d n : ℕ) (v l : S) (ks : Nodes S) → Has records views i d v (forks n) → i ≡ j → at (place o rp v) (cond (is_above (place o rp v) r) old new) ≡ Some (Forked l ks) → min_dead_label_among o c ks ≡ min_dead_label_among o c u.js
     here i d n v l ks h w there =
         let same : v ≡ u.below.parent = one_state records views j d u.below.first v u.below.parent (forks n) (forks u.below.many) (subst (λ z. Has records views z d v (forks n)) w h) fork in

@@ -9,7 +9,7 @@ use Rattle.shim_base.proofs.Facts.{some_same}
 use Rattle.shim_laws_table.specs.NodeStatus.{ProcessStatus, forks, process_status}
 use Rattle.shim_laws_table.specs.Agrees.{RecordView, free, used, Has}
 use Rattle.shim_laws_table.specs.Places.{IsReplaced}
-use Rattle.shim_laws_table.specs.Counts.{bit, running_of}
+use Rattle.shim_laws_table.specs.Counts.{bit, going_of}
 use Rattle.shim_laws_table.specs.Links.{LinksFollow, RunningFollow}
 use Rattle.shim_laws_table.proofs.SameTrees.{same_or_not, is_put, no_fork, fork_count}
 use Rattle.shim_laws_table.proofs.OneChange.{one_status}
@@ -62,12 +62,12 @@ module _ {S : Type 0} (o : Ops S) where
   goes_put d t a (Ended l) = refl
   goes_put d t a (Dead l x) = refl
 
-  goes_below : (b d : ℕ) (t : List ℕ) (a : Node S) (ks : Nodes S) → running_of (put_child b (d ∷ t) a ks) ≡ running_of ks
+  goes_below : (b d : ℕ) (t : List ℕ) (a : Node S) (ks : Nodes S) → going_of (put_child b (d ∷ t) a ks) ≡ going_of ks
   goes_below b d t a no_node = refl
-  goes_below zero d t a (node_and k ks) = ap (λ g. if g then suc (running_of ks) else running_of ks) (goes_put d t a k)
+  goes_below zero d t a (node_and k ks) = ap (λ g. if g then suc (going_of ks) else going_of ks) (goes_put d t a k)
   goes_below (suc b) d t a (node_and k ks) = ap (λ n. if goes k then suc n else n) (goes_below b d t a ks)
 
-  -- the children of a fork right above a place or further up, before and behind
+  -- the children of a fork right above a place or further up, before and after
   children_put : (r : List ℕ) (b : ℕ) (t : List ℕ) (m a old new : Node S) (l : S) (ks js : Nodes S) → IsReplaced (r ++ b ∷ t) m a old new → at r old ≡ Some (Forked l ks) → at r new ≡ Some (Forked l js) → (js ≡ put_child b t a ks) × (child_at b t ks ≡ Some m)
   children_put r b t m a old new l ks js rep e f =
       let now = with_split r (b ∷ t) a old (Forked l ks) e in
@@ -82,8 +82,8 @@ module _ {S : Type 0} (o : Ops S) where
   running_follow = record {
     right_above = λ old new m a r b l ks js rep e f.
         let w = children_put r b [] m a old new l ks js rep e f in
-        ap (λ z. running_of z + bit (goes m)) w.0 ∙ count_changed goes b [] ks m a w.1;
+        ap (λ z. going_of z + bit (goes m)) w.0 ∙ count_changed goes b [] ks m a w.1;
     further_above = λ old new m a r b d t l ks js rep e f.
         let w = children_put r b (d ∷ t) m a old new l ks js rep e f in
-        ap running_of w.0 ∙ goes_below b d t a ks;
+        ap going_of w.0 ∙ goes_below b d t a ks;
   }

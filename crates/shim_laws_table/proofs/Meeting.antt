@@ -1,4 +1,4 @@
--- What is seen behind a meeting.
+-- What is seen after a rendezvous.
 use Rattle.std.proofs.Common.{◌≡◌, ℕ, zero, suc, ◌+◌, Some, List, [], ◌∷◌, ◌++◌, refl, sym, ap, ◌∙◌}
 use Rattle.std.specs.Prelude.{ℤ}
 use Rattle.shim_base.specs.Paths.{Path, Channel}

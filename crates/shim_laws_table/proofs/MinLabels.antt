@@ -54,7 +54,7 @@ lesser_below (Some x) None h = or_nothing (ltb x h)
     or_nothing false = refl
 lesser_below (Some x) (Some y) h = min_ltb x y h
 
--- a lesser label more, in front of others or behind them
+-- a lesser label more, in front of others or after them
 pub lesser_nothing : (x : Option ℕ) → lesser x None ≡ x
 lesser_nothing None = refl
 lesser_nothing (Some x) = refl
@@ -237,7 +237,7 @@ module _ {S : Type 0} (o : Ops S) where
       stays_among zero q m a (node_and k ks) e same = ap (λ z. lesser z (min_dead_label_among o c ks)) (stays_as q m a k e same)
       stays_among (suc i) q m a (node_and k ks) e same = ap (lesser (min_dead_label o c k)) (stays_among i q m a ks e same)
 
-    -- the children of a fork above a place, before and behind
+    -- the children of a fork above a place, before and after
     above_both : (old new m a : Node S) (q r : List ℕ) (l : S) (ks js : Nodes S) → IsReplaced q m a old new → is_above r q ≡ true → at r old ≡ Some (Forked l ks) → at r new ≡ Some (Forked l js)
         → (b : ℕ) × (t : List ℕ) × (child_at b t ks ≡ Some m) × (js ≡ put_child b t a ks)
     above_both old new m a q r l ks js rep above e f =

@@ -9,7 +9,7 @@ use Rattle.shim_semantics.proofs.ReplacedNodes.{put, put_child}
 use Rattle.shim_base.proofs.Facts.{some_same}
 use Rattle.shim_laws_table.specs.NodeStatus.{forks, place}
 use Rattle.shim_laws_table.specs.Agrees.{RecordView, Has, Agrees}
-use Rattle.shim_laws_table.specs.Counts.{Tally, tally_of, is_alive_on, isnt_ready, is_dead_on, count, child_status, fork_status, IsExchanged}
+use Rattle.shim_laws_table.specs.Counts.{Tally, tally_of, is_going_on, isnt_ready, is_dead_on, count, child_status, fork_status, IsExchanged}
 use Rattle.shim_laws_table.specs.Tallied.{is_above, OnTheWay}
 use Rattle.shim_laws_table.proofs.Tallies.{count_changed, fork_read}
 use Rattle.shim_laws_table.proofs.SameTrees.{same_or_not}
@@ -35,7 +35,7 @@ module _ {S : Type 0} (o : Ops S) (rp : Path) (states : List S) (views : List Re
 
   now : z ≡ tally_of o c js
   now = λ i. record {
-    live = cancelled z.live (count (is_alive_on o c) js) y.live (count (is_alive_on o c) ks) _ _ moved.live (count_changed (is_alive_on o c) b t ks k a child) (ap (λ w. w.live) its_own) i;
+    going = cancelled z.going (count (is_going_on o c) js) y.going (count (is_going_on o c) ks) _ _ moved.going (count_changed (is_going_on o c) b t ks k a child) (ap (λ w. w.going) its_own) i;
     not_ready = cancelled z.not_ready (count (isnt_ready o c) js) y.not_ready (count (isnt_ready o c) ks) _ _ moved.not_ready (count_changed (isnt_ready o c) b t ks k a child) (ap (λ w. w.not_ready) its_own) i;
     dead = cancelled z.dead (count (is_dead_on o c) js) y.dead (count (is_dead_on o c) ks) _ _ moved.dead (count_changed (is_dead_on o c) b t ks k a child) (ap (λ w. w.dead) its_own) i;
   }

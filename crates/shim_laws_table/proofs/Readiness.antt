@@ -3,7 +3,7 @@ use Rattle.std.proofs.Common.{◌≡◌, ℕ, zero, suc, Bool, true, false, ◌&
 use Rattle.shim_base.specs.Paths.{Channel}
 use Rattle.shim_local.specs.Process.{Ops}
 use Rattle.shim_semantics.specs.Nodes.{Nodes, Live, Forked, Ended, Dead, no_node, node_and, ready, any_sharer, all_ready, is_next}
-use Rattle.shim_laws_table.specs.Counts.{is_zero, is_alive_on, isnt_ready, is_dead_on, count, tally_of, tally_ready}
+use Rattle.shim_laws_table.specs.Counts.{is_zero, is_going_on, isnt_ready, is_dead_on, count, tally_of, tally_ready}
 
 some_more : (b : Bool) (n : ℕ) → not (is_zero (if b then suc n else n)) ≡ b || not (is_zero n)
 some_more true n = refl
@@ -26,9 +26,9 @@ one_ended true x = refl
 one_ended false x = refl
 
 module _ {S : Type 0} (o : Ops S) (c : Channel) where
-  some_join : (ks : Nodes S) → any_sharer o c ks ≡ not (is_zero (count (is_alive_on o c) ks))
+  some_join : (ks : Nodes S) → any_sharer o c ks ≡ not (is_zero (count (is_going_on o c) ks))
   some_join no_node = refl
-  some_join (node_and k ks) = ap (λ z. is_alive_on o c k || z) (some_join ks) ∙ sym (some_more (is_alive_on o c k) (count (is_alive_on o c) ks))
+  some_join (node_and k ks) = ap (λ z. is_going_on o c k || z) (some_join ks) ∙ sym (some_more (is_going_on o c k) (count (is_going_on o c) ks))
 
   none_wait : (ks : Nodes S) → all_ready o c ks ≡ is_zero (count (isnt_ready o c) ks) && is_zero (count (is_dead_on o c) ks)
   none_wait no_node = refl

@@ -119,7 +119,7 @@ module _ {S : Type 0} (o : Ops S) (law : LocalLaws o) (rp : Path) (records : Lis
           let y = some_counts i counted in
           absurd (none_above o rp records views new shown c x f i d n s u k [] has (home ∙ sym (append-nil (o.path s))) fork w (counts_share o rp records views new shown c counts have i d n u y.0 fork y.1))
 
-  -- the fork of a record on the way, before and behind
+  -- the fork of a record on the way, before and after
   pub record ParentAbove (x : ℕ) (s : S) (t : List ℕ) (f : ℕ) (k : ProcessStatus) (j : ℕ) : Type 0 where
     pub below : HasParent o rp records views new shown x f s k
     pub number : below.number ≡ j
@@ -159,7 +159,7 @@ module _ {S : Type 0} (o : Ops S) (law : LocalLaws o) (rp : Path) (records : Lis
     its_own = way j u.below.first u.below.many u.below.parent u.state u.ks fork counted
         (ap (λ p. at r (cond (is_above r p) old new)) u.below.is ∙ (ap (λ d. at r (cond d old new)) (above_its_own r u.below.branch) ∙ u.was))
 
-    -- its children's labels are those of the tree behind
+    -- its children's labels are those of the tree after
     kids_right : (b d n : ℕ) (v w : S) (js : Nodes S) → b < u.below.many → Has records views (u.below.first + b) d v (forks n) → counts (u.below.first + b) ≢ None → at (place o rp v) new ≡ Some (Forked w js) → before (u.below.first + b) ≡ min_dead_label_among o c js
     kids_right b d n v w js less h is_counted there =
         let z = shown.agrees.below j u.below.first u.below.many u.below.parent fork b less in
@@ -175,7 +175,7 @@ module _ {S : Type 0} (o : Ops S) (law : LocalLaws o) (rp : Path) (records : Lis
             and_nothing false = refl
         beside (y ∷ r) b d = ap (λ z. z && is_above (r ++ b ∷ []) (r ++ d ∷ [])) (eq-eqb y y refl) ∙ beside r b d
 
-    -- so what is read off them is the fork's label behind
+    -- so what is read off them is the fork's label after
     pub fresh : (y : Option ℕ) → IsReadOff o c records views before j y → y ≡ min_dead_label_among o c u.js
     fresh y h =
         let its = counts_share o rp records views new shown c counts have j u.below.first u.below.many u.below.parent (some_counts j counted).0 fork (some_counts j counted).1 in

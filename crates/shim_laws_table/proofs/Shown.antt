@@ -256,7 +256,7 @@ module _ {S : Type 0} (o : Ops S) (law : LocalLaws o) where
         }
       ]
 
-  -- ---- a meeting
+  -- ---- a rendezvous
 
   got_path : (rp : Path) (c : Channel) (v : ℤ) (s : S) (k : ProcessStatus) → (k ≡ lives → o.sound s) → o.path (got o c v k s) ≡ o.path s
   got_path rp c v s lives sound = (meeting_stays o law c v (Live s) (sound refl)).follows.path

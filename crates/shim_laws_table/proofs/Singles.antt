@@ -1,4 +1,4 @@
--- One process receives, or dies: the records show the tree behind.
+-- One process receives, or dies: the records show the tree after.
 use Rattle.std.proofs.Common.{◌≡◌, ℕ, true, Some, List, [], ◌∷◌, length, drop, refl, sym, ap, subst, ◌∙◌}
 use Rattle.shim_base.specs.Paths.{Path}
 use Rattle.shim_local.specs.Process.{Ops}

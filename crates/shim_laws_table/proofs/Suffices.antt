@@ -157,11 +157,11 @@ module _ {S : Type 0} (o : Ops S) where
   live_unread c l (AtThrow x) a e = refl
   live_unread c l (AtTrap kind line) a e = refl
 
-  before : (c : Channel) (m : Node S) (a : Acted S) → act_here o m ≡ Some a → child_status o c m ≡ record { alive = o.shares (state m) c; ready_on = false; dead_on = false }
-  before c (Live l) a e = λ i. record { alive = o.shares l c; ready_on = live_unread c l (o.stop l) a e i; dead_on = false }
+  before : (c : Channel) (m : Node S) (a : Acted S) → act_here o m ≡ Some a → child_status o c m ≡ record { going = o.shares (state m) c; ready_on = false; dead_on = false }
+  before c (Live l) a e = λ i. record { going = o.shares l c; ready_on = live_unread c l (o.stop l) a e i; dead_on = false }
   before c (Forked l ks) a e =
       let done = (cond_some (all_done ks) (closed o l (states ks) (prevailing_death ks)) a e).0 in
-      λ i. record { alive = o.shares l c; ready_on = none_shares c ks done i && all_ready o c ks; dead_on = false }
+      λ i. record { going = o.shares l c; ready_on = none_shares c ks done i && all_ready o c ks; dead_on = false }
   before c (Ended l) a e = none_some a e
   before c (Dead l d) a e = none_some a e
 

@@ -8,7 +8,7 @@ use Rattle.shim_semantics.specs.Places.{at, child_at}
 use Rattle.shim_semantics.proofs.ReplacedNodes.{put, put_child}
 use Rattle.shim_base.proofs.Facts.{some_same, none_some}
 use Rattle.shim_laws_table.specs.Places.{IsReplaced}
-use Rattle.shim_laws_table.specs.Counts.{is_alive_on, isnt_ready, is_dead_on, count, tally_ready, tally_of, bit, ChildStatus, child_status, IsExchanged, CountsTell}
+use Rattle.shim_laws_table.specs.Counts.{is_going_on, isnt_ready, is_dead_on, count, tally_ready, tally_of, bit, ChildStatus, child_status, IsExchanged, CountsTell}
 use Rattle.shim_laws_table.proofs.SameTrees.{is_put}
 use Rattle.shim_laws_table.proofs.Readiness.{by_counts}
 
@@ -37,23 +37,23 @@ module _ {S : Type 0} (f : Node S → Bool) where
 
 module _ {S : Type 0} (o : Ops S) (c : Channel) where
   -- what is read of a fork follows from its counts
-  pub fork_read : (l : S) (ks : Nodes S) → child_status o c (Forked l ks) ≡ record { alive = o.shares l c; ready_on = tally_ready (tally_of o c ks); dead_on = false }
-  fork_read l ks = ap (λ b. let r : ChildStatus = record { alive = o.shares l c; ready_on = b; dead_on = false } in r) (by_counts o c l ks)
+  pub fork_read : (l : S) (ks : Nodes S) → child_status o c (Forked l ks) ≡ record { going = o.shares l c; ready_on = tally_ready (tally_of o c ks); dead_on = false }
+  fork_read l ks = ap (λ b. let r : ChildStatus = record { going = o.shares l c; ready_on = b; dead_on = false } in r) (by_counts o c l ks)
 
   pub fork_alike : (l : S) (ks js : Nodes S) → tally_of o c js ≡ tally_of o c ks → child_status o c (Forked l ks) ≡ child_status o c (Forked l js)
   fork_alike l ks js e =
-      fork_read l ks ∙ (ap (λ t. let r : ChildStatus = record { alive = o.shares l c; ready_on = tally_ready t; dead_on = false } in r) (sym e) ∙ sym (fork_read l js))
+      fork_read l ks ∙ (ap (λ t. let r : ChildStatus = record { going = o.shares l c; ready_on = tally_ready t; dead_on = false } in r) (sym e) ∙ sym (fork_read l js))
 
   with_alike : (k a : Node S) (ks : Nodes S) → child_status o c k ≡ child_status o c a → tally_of o c (node_and a ks) ≡ tally_of o c (node_and k ks)
   with_alike k a ks h = λ t. record {
-    live = if (sym h t).alive then suc (count (is_alive_on o c) ks) else count (is_alive_on o c) ks;
-    not_ready = if (sym h t).alive && not (sym h t).ready_on then suc (count (isnt_ready o c) ks) else count (isnt_ready o c) ks;
+    going = if (sym h t).going then suc (count (is_going_on o c) ks) else count (is_going_on o c) ks;
+    not_ready = if (sym h t).going && not (sym h t).ready_on then suc (count (isnt_ready o c) ks) else count (isnt_ready o c) ks;
     dead = if (sym h t).dead_on then suc (count (is_dead_on o c) ks) else count (is_dead_on o c) ks;
   }
 
   behind_same : (k : Node S) (ks js : Nodes S) → tally_of o c js ≡ tally_of o c ks → tally_of o c (node_and k js) ≡ tally_of o c (node_and k ks)
   behind_same k ks js e = λ t. record {
-    live = if is_alive_on o c k then suc (e t).live else (e t).live;
+    going = if is_going_on o c k then suc (e t).going else (e t).going;
     not_ready = if isnt_ready o c k then suc (e t).not_ready else (e t).not_ready;
     dead = if is_dead_on o c k then suc (e t).dead else (e t).dead;
   }
@@ -88,9 +88,9 @@ child_of l b p ks js m a k h x e f =
     put_there (suc b) p a (node_and j ks) k e = put_there b p a ks k e
 
 module _ {S : Type 0} (o : Ops S) (c : Channel) where
-  fresh_live : (ks : List S) → count (is_alive_on o c) (all_live ks) ≡ how_many (λ s. o.shares s c) ks
-  fresh_live [] = refl
-  fresh_live (k ∷ ks) = ap (λ n. if o.shares k c then suc n else n) (fresh_live ks)
+  fresh_going : (ks : List S) → count (is_going_on o c) (all_live ks) ≡ how_many (λ s. o.shares s c) ks
+  fresh_going [] = refl
+  fresh_going (k ∷ ks) = ap (λ n. if o.shares k c then suc n else n) (fresh_going ks)
 
   fresh_not_ready : (ks : List S) → count (isnt_ready o c) (all_live ks) ≡ how_many (λ s. o.shares s c && not (is_next (o.stop s) c)) ks
   fresh_not_ready [] = refl
@@ -110,13 +110,13 @@ counts_tell o = record {
   moves = λ c l ks js b p m a k h x e f.
       let w = child_of l b p ks js m a k h x e f in
       subst (λ z. IsExchanged (child_status o c k) (child_status o c h) (tally_of o c ks) (tally_of o c z)) (sym w.0) (subst (λ z. IsExchanged (child_status o c k) (child_status o c z) (tally_of o c ks) (tally_of o c (put_child b p a ks))) (sym w.1) (record {
-        live = count_changed (is_alive_on o c) b p ks k a e;
+        going = count_changed (is_going_on o c) b p ks k a e;
         not_ready = count_changed (isnt_ready o c) b p ks k a e;
         dead = count_changed (is_dead_on o c) b p ks k a e;
       }));
-  running_children = λ l ks js b p m a k h x e f.
+  going_children = λ l ks js b p m a k h x e f.
       let w = child_of l b p ks js m a k h x e f in
       (λ i. count goes (w.0 i) + bit (goes k)) ∙ (count_changed goes b p ks k a e ∙ ap (λ z. count goes ks + bit (goes z)) (sym w.1));
-  fresh = λ c ks i. record { live = fresh_live o c ks i; not_ready = fresh_not_ready o c ks i; dead = fresh_dead o c ks i };
+  fresh = λ c ks i. record { going = fresh_going o c ks i; not_ready = fresh_not_ready o c ks i; dead = fresh_dead o c ks i };
   all_go = all_go;
 }

@@ -7,7 +7,7 @@ use Rattle.shim_semantics.specs.Places.{at, child_at}
 use Rattle.shim_semantics.specs.Trees.{Tree, Event, Own, Meet, Poison, Close, End, Steps, Ends, own_action_at, after}
 use Rattle.shim_laws_table.specs.NodeStatus.{ProcessStatus, lives, forks, place}
 use Rattle.shim_laws_table.specs.Agrees.{RecordView, Has, Represents}
-use Rattle.shim_laws_table.specs.Counts.{tally_of, running_of, tally_ready}
+use Rattle.shim_laws_table.specs.Counts.{tally_of, going_of, tally_ready}
 use Rattle.shim_laws_table.specs.Dooms.{min_dead_label_among, is_below}
 
 -- the event is enabled in the tree
@@ -19,7 +19,7 @@ pub record EnabledByRecords {S : Type 0} (o : Ops S) : Type 0 where
   pub steps : (rp : Path) (records : List S) (views : List RecordView) (t : Tree S) (i f : ℕ) (l : S) → Represents o rp records views t.root → Has records views i f l lives → Can o t (Own (o.path l)) ↔ (own_action_at (o.stop l) ≡ Steps)
   pub ends : (rp : Path) (records : List S) (views : List RecordView) (t : Tree S) (i f : ℕ) (l : S) → Represents o rp records views t.root → Has records views i f l lives → Can o t (End (o.path l)) ↔ (own_action_at (o.stop l) ≡ Ends)
   pub closes : (rp : Path) (records : List S) (views : List RecordView) (t : Tree S) (i f n : ℕ) (l : S) (ks : Nodes S) → Represents o rp records views t.root → Has records views i f l (forks n) → at (place o rp l) t.root ≡ Some (Forked l ks)
-      → Can o t (Close (o.path l)) ↔ (running_of ks ≡ 0)
+      → Can o t (Close (o.path l)) ↔ (going_of ks ≡ 0)
   pub meets_alone : (rp : Path) (records : List S) (views : List RecordView) (t : Tree S) (c : Channel) (i f : ℕ) (l : S) → Represents o rp records views t.root → Has records views i f l lives → o.path l ≡ c.home → Can o t (Meet c) ↔ (is_next (o.stop l) c ≡ true)
   pub meets_forked : (rp : Path) (records : List S) (views : List RecordView) (t : Tree S) (c : Channel) (i f n : ℕ) (l : S) (ks : Nodes S) → Represents o rp records views t.root → Has records views i f l (forks n) → o.path l ≡ c.home → at (place o rp l) t.root ≡ Some (Forked l ks)
       → Can o t (Meet c) ↔ (tally_ready (tally_of o c ks) ≡ true)
@@ -45,7 +45,7 @@ pub record NothingNew {S : Type 0} (o : Ops S) : Type 0 where
       → (Can o u (Own (o.path l)) → Can o t (Own (o.path l))) × (Can o u (End (o.path l)) → Can o t (End (o.path l)))
   -- A fork with the same state has no new close, if as many of its children go on.
   pub closes : (rp : Path) (before behind : List S) (old_views views : List RecordView) (t u : Tree S) (i f g n : ℕ) (l : S) (ks js : Nodes S) → Represents o rp before old_views t.root → Represents o rp behind views u.root → Has before old_views i f l (forks n) → Has behind views i g l (forks n)
-      → at (place o rp l) t.root ≡ Some (Forked l ks) → at (place o rp l) u.root ≡ Some (Forked l js) → running_of js ≡ running_of ks → Can o u (Close (o.path l)) → Can o t (Close (o.path l))
+      → at (place o rp l) t.root ≡ Some (Forked l ks) → at (place o rp l) u.root ≡ Some (Forked l js) → going_of js ≡ going_of ks → Can o u (Close (o.path l)) → Can o t (Close (o.path l))
   -- A channel has no new rendezvous if the process that declared it lives with the same state, or has forked with the same state and counts.
   pub meets_alone : (rp : Path) (before behind : List S) (old_views views : List RecordView) (t u : Tree S) (c : Channel) (i f g : ℕ) (l : S) → Represents o rp before old_views t.root → Represents o rp behind views u.root → Has before old_views i f l lives → Has behind views i g l lives
       → o.path l ≡ c.home → Can o u (Meet c) → Can o t (Meet c)

@@ -8,7 +8,7 @@ use Rattle.shim_laws_table.specs.NodeStatus.{ProcessStatus, lives, process_statu
 use Rattle.shim_laws_table.specs.Agrees.{RecordView, Has, Represents}
 use Rattle.shim_laws_table.specs.Places.{IsReplaced}
 use Rattle.shim_laws_table.specs.Changes.{HasChanged, HasForked, HasClosed}
-use Rattle.shim_laws_table.specs.Counts.{bit, running_of}
+use Rattle.shim_laws_table.specs.Counts.{bit, going_of}
 use Rattle.shim_laws_table.specs.Updating.{AreLinked}
 
 -- How the links from children to their forks follow what records do:
@@ -26,6 +26,6 @@ pub record LinksFollow {S : Type 0} (o : Ops S) : Type 0 where
 -- Another node is put in a place. In the fork right above, the number of children that go on changes by that child alone. In each other fork above, that number stays.
 pub record RunningFollow {S : Type 0} (o : Ops S) : Type 0 where
   pub right_above : (old new m a : Node S) (r : List ℕ) (b : ℕ) (l : S) (ks js : Nodes S) → IsReplaced (r ++ b ∷ []) m a old new → at r old ≡ Some (Forked l ks) → at r new ≡ Some (Forked l js)
-      → running_of js + bit (goes m) ≡ running_of ks + bit (goes a)
+      → going_of js + bit (goes m) ≡ going_of ks + bit (goes a)
   pub further_above : (old new m a : Node S) (r : List ℕ) (b d : ℕ) (t : List ℕ) (l : S) (ks js : Nodes S) → IsReplaced (r ++ b ∷ d ∷ t) m a old new → at r old ≡ Some (Forked l ks) → at r new ≡ Some (Forked l js)
-      → running_of js ≡ running_of ks
+      → going_of js ≡ going_of ks

@@ -37,14 +37,14 @@ pub record HasActed {S : Type 0} (o : Ops S) (p : Path) (old new : Node S) : Typ
   pub acts : act_here o node ≡ Some acted
   pub replaced : IsReplaced place node acted.node old new
 
--- what a meeting on c leaves of a state of this status
+-- what a rendezvous on c leaves of a state of this status
 abbrev pub got : {S : Type 0} → Ops S → Channel → ℤ → ProcessStatus → S → S
 got o c v lives s = cond (is_next (o.stop s) c) (o.receive s v) s
 got o c v (forks n) s = s
 got o c v ends s = s
 got o c v (dies d) s = s
 
--- the state and the status after the meeting, by those before it
+-- the state and the status after the rendezvous, by those before it
 abbrev pub seen_met : {S : Type 0} → Ops S → Channel → ℤ → Option (S × ProcessStatus) → Option (S × ProcessStatus)
 seen_met o c v None = None
 seen_met o c v (Some x) = Some (got o c v x.1 x.0, x.1)

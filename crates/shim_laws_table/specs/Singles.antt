@@ -1,4 +1,4 @@
--- A meeting and a poison as changes of one process after the other: each leaves a sound tree.
+-- A rendezvous and a poison as changes of one process after the other: each leaves a sound tree.
 use Rattle.std.specs.Prelude.{◌≡◌, ◌≤◌, ◌<◌, ℕ, ℤ, Some, List}
 use Rattle.shim_base.specs.Paths.{Path, NamedChannel}
 use Rattle.shim_local.specs.Process.{Ops, AtNext}

@@ -1,4 +1,4 @@
--- The source of a channel, and the name that its first meeting brings, read off records.
+-- The source of a channel, and the name that its first rendezvous brings, read off records.
 use Rattle.std.specs.Prelude.{◌≡◌, ℕ, Bool, true, false, Some, None, List, [], ◌∷◌, ◌&&◌, ◌||◌, eqb, ltb}
 use Rattle.shim_base.specs.Paths.{Path, Channel, NamedChannel}
 use Rattle.shim_local.specs.Process.{Ops, AtNext}

@@ -26,14 +26,14 @@ pub record GivenSuffice {S : Type 0} (o : Ops S) : Type 0 where
 
 -- what a fork reads of a child without children, with this state and status
 abbrev pub leaf_status : {S : Type 0} → Ops S → Channel → S → ProcessStatus → ChildStatus
-leaf_status o c s lives = record { alive = o.shares s c; ready_on = is_next (o.stop s) c; dead_on = false }
-leaf_status o c s (forks n) = record { alive = false; ready_on = false; dead_on = false }
-leaf_status o c s ends = record { alive = false; ready_on = false; dead_on = false }
-leaf_status o c s (dies d) = record { alive = false; ready_on = false; dead_on = o.shares s c }
+leaf_status o c s lives = record { going = o.shares s c; ready_on = is_next (o.stop s) c; dead_on = false }
+leaf_status o c s (forks n) = record { going = false; ready_on = false; dead_on = false }
+leaf_status o c s ends = record { going = false; ready_on = false; dead_on = false }
+leaf_status o c s (dies d) = record { going = false; ready_on = false; dead_on = o.shares s c }
 
 -- What is read of a process that does anything by itself:
 pub record ActorsAreRead {S : Type 0} (o : Ops S) : Type 0 where
   -- before, it isn't ready on any channel, and not dead
-  pub before : (c : Channel) (m : Node S) (a : Acted S) → act_here o m ≡ Some a → child_status o c m ≡ record { alive = o.shares (state m) c; ready_on = false; dead_on = false }
+  pub before : (c : Channel) (m : Node S) (a : Acted S) → act_here o m ≡ Some a → child_status o c m ≡ record { going = o.shares (state m) c; ready_on = false; dead_on = false }
   -- afterwards, if it has no children, its state and its status decide
   pub behind : (c : Channel) (a : Node S) → is_leaf a ≡ true → child_status o c a ≡ leaf_status o c (state a) (process_status a)

@@ -21,10 +21,10 @@ AreAtMost {S} most records views = (i f n : ℕ) (s : S) → Has records views i
 
 -- The counts include what was read of the child before, and there is room for what is read of it afterwards.
 pub record CanMove (most : ℕ) (was is : ChildStatus) (y : Tally) : Type 0 where
-  pub live : bit was.alive ≤ y.live
+  pub going : bit was.going ≤ y.going
   pub not_ready : bit (not_ready_on was) ≤ y.not_ready
   pub dead : bit was.dead_on ≤ y.dead
-  pub live_fits : y.live + bit is.alive ≤ most + bit was.alive
+  pub going_fits : y.going + bit is.going ≤ most + bit was.going
   pub not_ready_fits : y.not_ready + bit (not_ready_on is) ≤ most + bit (not_ready_on was)
   pub dead_fits : y.dead + bit is.dead_on ≤ most + bit was.dead_on
 
@@ -62,4 +62,4 @@ pub record CountsFollow {S : Type 0} (o : Ops S) : Type 0 where
       → HaveCounts o rp records views c counts new → OnTheWay o rp records views c counts old new (place o rp s) → Tallied o rp records views c counts new
   -- and of a channel that a process doesn't share and that was declared neither by it nor below, nothing is read
   pub unshared : (c : Channel) (n : Node S) → SoundBelow o n → o.shares (state n) c ≡ false → ((r : Path) → c.home ≢ o.path (state n) ++ r)
-      → child_status o c n ≡ record { alive = false; ready_on = false; dead_on = false }
+      → child_status o c n ≡ record { going = false; ready_on = false; dead_on = false }

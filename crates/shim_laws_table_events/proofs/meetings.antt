@@ -1,4 +1,4 @@
--- The lemmas of meetings, one module for each subject.
+-- The lemmas of rendezvous, one module for each subject.
 pub mod Among
 pub mod BelowForks
 pub mod AtHome

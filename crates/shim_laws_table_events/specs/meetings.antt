@@ -1,4 +1,4 @@
--- The definitions of meetings, one module for each subject.
+-- The definitions of rendezvous, one module for each subject.
 pub mod Receiving
 pub mod Dying
 pub mod Sharers

@@ -26,7 +26,7 @@ pub fn quiet_steps_preserve<L: Local>()
     ensures { QuietStepsPreserve L.ops }
 {}
 
-/// Where a live process did something by itself that leaves it alive, the records represent the tree after it.
+/// Where a live process did something by itself that lets it live on, the records represent the tree after it.
 pub fn step_preserves<L: Local>()
     ensures { StepPreserves L.ops }
 {}

@@ -42,7 +42,7 @@ module _ {A B : Type 0} (o : Ops A) (p : Ops B) (R : A → B → Type 0) (one : 
         effects = ap catch_logged (keeps.handler l m d.label h (ltb-false d.label (o.base l) e) below);
       })
 
-  -- the states behind a join
+  -- the states after a join
   joined_tied : (l : A) (m : B) (ks : Nodes A) (js : Nodes B) (goes_on : Bool) → ForkTied o p R l m ks js → EachTied o p R ks js → AreTied o p R (o.join l (states ks) goes_on) (p.join m (states js) goes_on)
   joined_tied l m ks js goes_on h each =
       let sound = ones_sound o p R ks js each in

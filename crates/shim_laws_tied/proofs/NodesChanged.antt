@@ -1,4 +1,4 @@
--- A meeting and a poison leave tied nodes tied.
+-- A rendezvous and a poison leave tied nodes tied.
 use Rattle.std.proofs.Common.{◌≡◌, ℕ, ℤ, zero, suc, ◌-◌, Some, None, ◌&&◌, refl, ap, ◌∙◌, subst}
 use Rattle.shim_base.specs.Paths.{Channel}
 use Rattle.shim_local.specs.Process.{Ops}

@@ -152,7 +152,7 @@ module _ (f : Renaming) (later : Bool) (end : Place) (place : ℕ → ℕ) where
   declared_rewritten (is.without_value h) = is.without_value h
   declared_rewritten (is.with_value h d) = is.with_value h (expr_rewritten d)
 
-  -- one statement, and more behind it
+  -- one statement, and more after it
   one_and : (x y : Stmt) (xs ys : List Stmt) → x ≡ y → xs ≡ ys → x ∷ xs ≡ y ∷ ys
   one_and x y xs ys p q = ap (λ z. z ∷ xs) p ∙ ap (λ zs. y ∷ zs) q
 

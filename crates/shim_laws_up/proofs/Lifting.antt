@@ -32,7 +32,7 @@ LiftsAlike f = (c : LiftContext) (x : List ℕ) (w : SlotMap) (n : ℕ) → IsAl
 same_count : (us vs : List UnitOf) → map untitled us ≡ map untitled vs → length us ≡ length vs
 same_count us vs e = sym (length-map us untitled) ∙ ap length e ∙ length-map vs untitled
 
--- behind units that differ in titles alone
+-- after units that differ in titles alone
 at_next : {T : Type 0} (h : Lifts T) → LiftsAlike h → (c : LiftContext) (x : List ℕ) (w : SlotMap) (n : ℕ) (us vs : List UnitOf) → map untitled us ≡ map untitled vs
     → IsAlike (h c w (n + length us)) (h (called c x) w (n + length vs))
 at_next h k c x w n us vs e = subst (λ (m : ℕ). IsAlike (h c w (n + length us)) (h (called c x) w (n + m))) (same_count us vs e) (k c x w (n + length us))

@@ -67,7 +67,7 @@ semicolon_spells : Spells (codes ";") (SignKind g.Semicolon)
 unfolding sign_of
 semicolon_spells = refl
 
--- the first line of a text of version 2, a space behind each token, and the text behind it
+-- the first line of a text of version 2, a space after each token, and the text after it
 header : List ℕ → List ℕ
 header bytes = codes "shim" ++ 32 ∷ (codes "2" ++ 32 ∷ (codes ";" ++ 32 ∷ bytes))
 

@@ -1,4 +1,4 @@
--- What was passed over before a token: each cutting from behind it is one from before it.
+-- What was passed over before a token: each cutting from after it is one from before it.
 use Rattle.std.proofs.Common.{ℕ, ◌+◌, ◌-◌, ◌≤◌, ◌≡◌, List, [], ◌∷◌, length, take, drop, Option, Some, None, sym, ap, subst, ◌∙◌, arith}
 use Rattle.std.specs.Prelude.{◌==◌, count_by}
 use Rattle.std.specs.List.{between}
@@ -18,7 +18,7 @@ pub record IsPassedTo (text : List ℕ) (from : Place) (at line : ℕ) : Type 0 
   pub lines : line ≤ 1 + at
   pub joins : (tokens : List Token) (end : Option Fault) → Cuts (record { at = at; line = line }) (drop at text) tokens end → Cuts from (drop from.at text) tokens end
 
--- the place behind the first bytes of the rest
+-- the place after the first bytes of the rest
 place_behind : (at line len feeds : ℕ) (rest : List ℕ) → len ≤ length rest → feeds ≡ count_by (λ b. b == 10) (take len rest) →
     (let p : Place = record { at = at + len; line = line + feeds } in p) ≡ place_after (record { at = at; line = line }) (take len rest)
 place_behind at line len feeds rest within feeds_are =

@@ -48,7 +48,7 @@ pub space_passed : (text : List ℕ) → 1 ≤ length text → is_spacing (get_o
 space_passed [] some is = absurd (omega arith)
 space_passed (b ∷ bytes) some is = is_passed (b ∷ bytes) (b ∷ []) bytes 1 (spacing b bytes is) refl
 
--- a line comment, behind its opener
+-- a line comment, after its opener
 line_at : (tail : List ℕ) (n : ℕ) → n ≡ prefix_len is_on_line (47 ∷ 47 ∷ tail) → n ≤ length (47 ∷ 47 ∷ tail) → IsPassed (47 ∷ 47 ∷ tail) n
 line_at tail n is within =
     let m = prefix_len is_on_line tail in
@@ -77,7 +77,7 @@ closer_of text k c =
     let next : k + 1 ≡ suc k = omega arith in
     record { within = omega (arith, within); star = c.star; slash = ap (λ (m : ℕ). get_or text m 0) next ∙ c.slash }
 
--- a block comment, behind its opener
+-- a block comment, after its opener
 block_at : (tail : List ℕ) (k : ℕ) → IsCloserAt tail k → ((j : ℕ) → j < k → IsCloserAt tail j → ⊥) → IsPassed (47 ∷ 42 ∷ tail) (k + 4)
 block_at tail k c before =
     let p = block_passes tail k (closes_at tail k c) (λ j lt h. before j lt (closer_of tail j h)) in

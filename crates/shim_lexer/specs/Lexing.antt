@@ -67,7 +67,7 @@ abbrev pub AnswersNext : Option Fault → Lexing → Lexing → Result (Option G
 AnswersNext (Some fault) old new result = (new ≡ old) × ((f : LexFault) × (result ≡ Err f) × (fault_of f ≡ fault))
 AnswersNext None old new result = (new ≡ place_behind old result) × Finds old.text old.place result
 
--- Calls from this reading on answer these tokens, one after the other. The call behind them answers the end of the text, or this fault.
+-- Calls from this reading on answer these tokens, one after the other. The call after them answers the end of the text, or this fault.
 pub data Run : Lexing → List Token → Option Fault → Type 0 where
   over : (old new : Lexing) → AnswersNext None old new (Ok None) → Run old [] None
   faulty : (old new : Lexing) (f : LexFault) → AnswersNext None old new (Err f) → Run old [] (Some (fault_of f))

@@ -13,7 +13,7 @@ quiet_stop AtFinish e = absurd cc
 quiet_stop (AtThrow x) e = absurd cc
 quiet_stop (AtTrap kind line) e = absurd cc
 
--- the first of some steps is quiet, and the others lead on from behind it
+-- the first of some steps is quiet, and the others lead on from after it
 pub first_quiet : {S : Type 0} (o : Ops S) (n : ℕ) (l m : S) → QuietSteps o (suc n) l m → (o.stop l ≡ AtQuiet) × QuietSteps o n (o.quiet l) m
 first_quiet {S} o n l m e = (quiet_stop (o.stop l) (parts (is_quiet (o.stop l)) e).0, (parts (is_quiet (o.stop l)) e).1) where
   parts : (b : Bool) → cond b (quiet_run o n (o.quiet l)) None ≡ Some m → (b ≡ true) × (quiet_run o n (o.quiet l) ≡ Some m)

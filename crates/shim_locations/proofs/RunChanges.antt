@@ -69,7 +69,7 @@ to_last n r e = leb-true n (last_serial r) (second_holds (nat_le r.first n) (nat
 one_on : (i : ℕ) → suc (i + 1) ≡ suc i + 1
 one_on i = omega arith
 
--- so what is behind it decides
+-- so what is after it decides
 behind_it : (n i : ℕ) (rs : List SerialRun) (r : SerialRun) → slice_get rs i ≡ Some r → is_in_run n r ≡ false → is_in_runs n (drop i rs) ≡ is_in_runs n (drop (i + 1) rs)
 behind_it n i [] r e none = none_some r e
 behind_it n zero (s ∷ rs) r e none = ap (λ b. b || is_in_runs n rs) (ap (is_in_run n) (some_same s r e) ∙ none)

@@ -96,7 +96,7 @@ impl Locations {
         Ok(())
     }
 
-    /// These locations behind the others. A refusal leaves the locations as they were.
+    /// These locations after the others. A refusal leaves the locations as they were.
     pub fn append(&mut self, locations: List<Option<Location>>) -> Result<(), NoMemory>
         ensures ok { OnOk result (self.new ≡ self.old ++ locations) }
         ensures err { OnErr result (self.new ≡ self.old) }

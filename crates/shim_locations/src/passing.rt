@@ -176,7 +176,7 @@ fn sum(some: usize, more: usize) -> Result<usize, NoMemory> {
 }
 
 /// The locations that a branch makes for the child of this path, where the locations of these numbers were given
-/// by reference before. There is room for so many more behind them.
+/// by reference before. There is room for so many more after them.
 #[tactic(auto, using(crate::proofs::OneMore::one_more_branch, crate::proofs::OneMore::one_more_made))]
 pub fn branch_locations(
     alloc: Global,

@@ -59,11 +59,11 @@ module _ (u : CodedUnit) where
       let z : n + statements_in (i ∷ a) ≡ n + begun i + statements_in a = omega arith in
       (ha.0, both (n + begun i) (pc + 1) a b ha.1 (subst (λ m. AllHigh m (pc + 1 + length a) b) z (subst (λ p. AllHigh (n + statements_in (i ∷ a)) p b) e hb)))
 
-  -- these instructions stand at a place, and behind them is this height
+  -- these instructions stand at a place, and after them is this height
   abbrev EndsAtHeight : ℕ → ℕ → List MachineInstr → ℕ → Type 0
   EndsAtHeight n pc is h = (H (pc + length is) ≡ h) × AllHigh n pc is
 
-  -- one instruction behind others
+  -- one instruction after others
   then_one : (n pc h after : ℕ) (c : List MachineInstr) (i : MachineInstr) → HasAt u n pc (c ++ i ∷ []) → EndsAtHeight n pc c h → ((p m : ℕ) → H p ≡ h → HasHeight u p (with_number m i)) → ((m : ℕ) → height_after h (with_number m i) ≡ after) → EndsAtHeight n pc (c ++ i ∷ []) after
   then_one n pc h after c i has l fits is =
       let p = pc + length c in
@@ -72,7 +72,7 @@ module _ (u : CodedUnit) where
       let e : pc + length (c ++ i ∷ []) ≡ p + 1 = omega (arith, length-append c (i ∷ [])) in
       (ap H e ∙ next p (with_number m i) at ∙ ap (λ h. height_after h (with_number m i)) l.0 ∙ is m, both n pc c (i ∷ []) l.1 (fits p m l.0, tt))
 
-  -- one piece behind another
+  -- one piece after another
   then_more : (n pc h : ℕ) (a b : List MachineInstr) → AllHigh n pc a → EndsAtHeight (n + statements_in a) (pc + length a) b h → EndsAtHeight n pc (a ++ b) h
   then_more n pc h a b ha hb =
       let e : pc + length (a ++ b) ≡ pc + length a + length b = omega (arith, length-append a b) in
@@ -216,7 +216,7 @@ module _ (u : CodedUnit) where
   branches_level [] = none_level
   branches_level (b ∷ bs) = behind_level (machine_branch u.units b) (machine_branches u.units bs) (branch_level b) (branches_level bs)
 
-  -- behind a mark
+  -- after a mark
   marked : (k : MarkKind) (line : ℕ) (half : TruthValue) (c : MachineCode) → Level c → Level (machine_marked k line half c)
   marked k line half c l n pc has e =
       let m = n + begun (begin_mark k line half) in

@@ -24,7 +24,7 @@ use Rattle.shim_machine.proofs.Enters.{code_roll}
 abbrev Open : Type 0
 Open = TruthValue
 
--- a second mark stands behind the first one; the unit's end is none of these instructions
+-- a second mark stands after the first one; the unit's end is none of these instructions
 abbrev IsAllowed : Open → MachineInstr → Type 0
 IsAllowed o (Mark m) = m.halfway ≡ true → o ≡ true
 IsAllowed o (End n) = ⊥
@@ -34,7 +34,7 @@ abbrev opened : Open → MachineInstr → Open
 opened o (Mark m) = not m.halfway
 opened o _ = o
 
--- so each of these instructions: behind one first mark stands one second mark at most
+-- so each of these instructions: after one first mark stands one second mark at most
 abbrev AreOrderly : Open → List MachineInstr → Type 0
 AreOrderly o [] = Unit {0}
 AreOrderly o (i ∷ is) = IsAllowed o i × AreOrderly (opened o i) is
@@ -108,7 +108,7 @@ of_plain c h pc o = plain_orderly o (c pc) (h pc)
 expr_plain : (e : UExpr) → Plain (machine_expr e)
 expr_plain e pc = all_compute_plain (machine_expr e pc) (expr_computes e pc)
 
--- one instruction behind a piece
+-- one instruction after a piece
 then_plain : (c : MachineCode) (i : MachineInstr) → IsPlain i → Plain c → Plain (sequence c (one i))
 then_plain c i hi h pc = both_plain (c pc) (i ∷ []) (h pc) (hi, tt)
 
@@ -135,7 +135,7 @@ false_true e = cc
 not_second : (o : Open) → false ≡ true → o ≡ true
 not_second o e = absurd (false_true e)
 
--- behind a first mark
+-- after a first mark
 marked : (k : MarkKind) (line : ℕ) (c : MachineCode) → Orderly c → Orderly (machine_marked k line false c)
 marked k line c h pc o = (not_second o, h (pc + 1) true)
 
@@ -182,7 +182,7 @@ module _ (units : List UnitOf) where
   such_orderly [] = λ pc o. tt
   such_orderly (s ∷ ss) = behind_orderly (machine_stmt units s.0) (machine_stmts units (plain ss)) s.1 (such_orderly ss)
 
-  -- an expression and an instruction behind it, in a statement of its own
+  -- an expression and an instruction after it, in a statement of its own
   simple : (k : MarkKind) (l : ℕ) (c : MachineCode) (i : MachineInstr) → IsPlain i → Plain c → Orderly (machine_marked k l false (sequence c (one i)))
   simple k l c i hi h = marked k l (sequence c (one i)) (of_plain (sequence c (one i)) (then_plain c i hi h))
 
@@ -240,11 +240,11 @@ none_some x e = cc
 same_instr : (x y : MachineInstr) → Some x ≡ Some y → x ≡ y
 same_instr x y e = cc
 
--- the number of a mark behind so many statements
+-- the number of a mark after so many statements
 abbrev number_at : ℕ → TruthValue → ℕ
 number_at n h = if h then n - 1 else n
 
--- an instruction becomes this mark behind so many statements
+-- an instruction becomes this mark after so many statements
 record Becomes (n : ℕ) (i : MachineInstr) (m : MarkOf) : Type 0 where
   pub number : m.number ≡ number_at n m.halfway
   pub counted : begun i ≡ (if m.halfway then 0 else 1)
@@ -260,7 +260,7 @@ becomes n (Mark x) m e =
     subst (Becomes n (Mark x)) (same_mark y m e) (record { number = refl; counted = refl; opens = λ o. refl; behind_first = λ o h. h })
 becomes n i m e = absurd (let z : ⊥ = cc in z)
 
--- what is known of a mark among instructions behind so many statements
+-- what is known of a mark among instructions after so many statements
 record IsLater (o : Open) (n : ℕ) (m : MarkOf) : Type 0 where
   pub first : m.halfway ≡ false → n ≤ m.number
   pub second : m.halfway ≡ true → n ≤ m.number + 1
@@ -315,7 +315,7 @@ not_later o n x a b h some made l same half = by_half a.halfway refl
         let one = some (made.behind_first o h e) in
         omega (arith, z, one, is, same)
 
--- behind a first mark a statement has begun
+-- after a first mark a statement has begun
 still_some : (o : Open) (n : ℕ) (x : MachineInstr) → (o ≡ true → 1 ≤ n) → opened o x ≡ true → 1 ≤ n + begun x
 still_some o n (Mark x) some e = by_half x.halfway refl
   where
@@ -331,7 +331,7 @@ once (x ∷ is) o n zero (suc j) a b h some ea eb same half = absurd (not_later 
 once (x ∷ is) o n (suc i) zero a b h some ea eb same half = absurd (not_later o n x b a h.0 some (becomes n x b (same_instr (with_number n x) (Mark b) eb)) (later is (opened o x) (n + begun x) i a h.1 ea) (sym same) (sym half))
 once (x ∷ is) o n (suc i) (suc j) a b h some ea eb same half = ap suc (once is (opened o x) (n + begun x) i j a b h.1 (still_some o n x some) ea eb same half)
 
--- the end is behind them all
+-- the end is after them all
 at_end : (is : List MachineInstr) (o : Open) (n i k : ℕ) → AreOrderly o is → slice_get (numbered n (is ++ End 0 ∷ [])) i ≡ Some (End k) → i ≡ length is
 at_end [] o n zero k h e = refl
 at_end [] o n (suc i) k h e = absurd (none_some (End k) e)

@@ -188,7 +188,7 @@ module _ (P : List Item → Type 0) (stays : (c : Successor) (k : List Item) →
         → ((n : ℕ) → items (line_of l (roll-UWhat x)) n ≡ Do n (line_of l (roll-UWhat x)) ∷ []) → ((n : ℕ) (k : List Item) → follow_what x On n (line_of l (roll-UWhat x)) k ≡ k) → ((n pc : ℕ) → AllFound u n (pc + 1) (rest pc)) → MarksOf (line_of l (roll-UWhat x))
     plain l x kd kd_is rest same begun_by is on none = marked l x kd kd_is rest same begun_by is on (λ pc n stop k whole has ends st has_property. none (n + 1) pc)
 
-    -- an expression and an instruction behind it
+    -- an expression and an instruction after it
     then_one : (n pc : ℕ) (c : List MachineInstr) (i : MachineInstr) → AllCompute c → ((n pc : ℕ) → IsFound u pc (with_number n i)) → AllFound u n pc (c ++ i ∷ [])
     then_one n pc c i h none = found_both u n pc c (i ∷ []) (found_computing u n pc c h) (none (n + statements_in c) (pc + length c), tt)
 
@@ -208,7 +208,7 @@ module _ (P : List Item → Type 0) (stays : (c : Successor) (k : List Item) →
     all_marks [] = tt
     all_marks (e ∷ es) = (e.1, all_marks es)
 
-    -- two arms behind a test
+    -- two arms after a test
     if_marks : (l : ℕ) (e : UExpr) (a b : List UStmt) → AllMarks a → AllMarks b → MarksOf (line_of l (roll-UWhat (UWhat-F.If e a b)))
     if_marks l e a b ma mb = marked l x kind.Quiet refl _ (λ pc. refl) (λ pc. refl) (at_items l x) (λ n k. refl) inner
       where

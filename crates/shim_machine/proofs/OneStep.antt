@@ -33,7 +33,7 @@ module _ (codes : Codes) (most : ℕ) (short : AreBounded codes most) (n : ℕ) 
   abbrev Gives : ℕ → UWhat-F UWhat UStmt → Action → Type 0
   Gives pc x a = From codes most short n s k l back hs r hd same is_rest (at pc) x a
 
-  -- an assignment, and the first part of one that meets behind it
+  -- an assignment, and the first part of one that meets after it
   assign_first : (y : ℕ) (e : UExpr) (pc stop : ℕ) → (let x : UWhat-F UWhat UStmt = UWhat-F.NextAssign y e in out-UWhat s.what ≡ x → HasAt u n pc (point_what u.units x s.line pc) → stop ≡ pc + length (point_what u.units x s.line pc) → IsCodeOf u stop k → Gives (pc + 1) x (action (StoreFirst y) (value e (env_of l.locations l.frame.slots))))
   assign_first y e pc stop ex has ends rest =
       let x : UWhat-F UWhat UStmt = UWhat-F.NextAssign y e in

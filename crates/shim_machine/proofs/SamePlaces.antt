@@ -46,7 +46,7 @@ mark_here : (u : CodedUnit) (pc : ℕ) (k : List Item) (h : TruthValue) → IsPl
 mark_here u pc k false = at_statement_mark u pc k
 mark_here u pc k true = at_half_mark u pc k
 
--- what is to be done behind ends of `try` blocks, and how many these are
+-- what is to be done after ends of `try` blocks, and how many these are
 abbrev behind_blocks : List Item → List Item
 behind_blocks [] = []
 behind_blocks (Leave ∷ k) = behind_blocks k

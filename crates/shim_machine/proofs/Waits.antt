@@ -1,4 +1,4 @@
--- A `put`, a throw and a meeting, from the mark on.
+-- A `put`, a throw and a rendezvous, from the mark on.
 use Rattle.std.proofs.Common.{◌≡◌, ℕ, ℤ, pos, ◌+◌, ◌-◌, ◌<◌, false, true, Bool, List, [], ◌∷◌, length, Option, Some, None, Ok, Err, refl, sym, ap, ◌∙◌, subst, arith, length-append, if◌then◌else◌}
 use Rattle.shim_base.specs.Paths.{NamedChannel}
 use Rattle.shim_units.specs.declared.unit.UBranch.{UBranch}
@@ -248,7 +248,7 @@ module _ (codes : Codes) (most : ℕ) (short : AreBounded codes most) (n : ℕ) 
   abbrev Meets : UWhat-F UWhat UStmt → ℕ → Type 0
   Meets x pc = (slot : ℕ) × (fetch u (pc + 1) ≡ Some (Next slot)) × ((line : ℕ) (v : ℤ) → ComesToMark codes bound (machine (pc + 1 + 1) hs back line (stored_in slot v l)) (what_receive x v l))
 
-  -- the meeting of a statement that assigns behind it
+  -- the rendezvous of a statement that assigns after it
   meets_first : (y z pc stop : ℕ) → (let x : UWhat-F UWhat UStmt = UWhat-F.AssignNext y z in out-UWhat s.what ≡ x → HasAt u n pc (point_what u.units x s.line pc) → stop ≡ pc + length (point_what u.units x s.line pc) → IsCodeOf u stop k
       → (line : ℕ) (v : ℤ) → ComesToMark codes bound (machine (pc + 1 + 1) hs back line (stored_in z v l)) (record (stored_in z v l) { frame = half l.frame }))
   meets_first y z pc stop ex has ends rest line v =

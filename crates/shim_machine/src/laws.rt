@@ -76,7 +76,7 @@ pub fn a_mark_has_its_place()
     ensures { (u : CodedUnit) → u.code ≡ machine_unit u.units u.body → (pc : ℕ) (m : MarkOf) → fetch u pc ≡ Some (Mark m) → IsPlaceOf u pc (left_all u.body m.number) m.halfway }
 {}
 
-/// The end of a unit has the number behind that of the unit's last statement.
+/// The end of a unit has the number after that of the unit's last statement.
 pub fn an_end_has_the_last_number()
     ensures { (u : CodedUnit) → u.code ≡ machine_unit u.units u.body → (pc n : ℕ) → fetch u pc ≡ Some (End n) → n ≡ size_all u.body }
 {}
@@ -86,7 +86,7 @@ pub fn a_mark_decides_the_stop()
     ensures { (u : CodedUnit) (pc : ℕ) (l : LocalState) → IsPlaceOf u pc l.frame.todo l.frame.halfway → stop l ≡ place_stop u pc l }
 {}
 
-/// From the mark of a `put` the machine comes to the instruction that puts the value, and from behind it
+/// From the mark of a `put` the machine comes to the instruction that puts the value, and from after it
 /// to the next mark, or it traps as the expression does.
 pub fn put()
     ensures { (codes : Codes) (most : ℕ) (l : LocalState) (pc : ℕ) (handlers : List ℕ) (back : List ReturnPlace) → AreBounded codes most → Corresponds codes pc handlers back l → stop l ≡ AtPut → DoesPut codes (room most (length l.callers)) (machine (pc + 1) handlers back (line_of l.frame.todo) l) (put_value l) l }
@@ -98,7 +98,7 @@ pub fn throw()
     ensures { (codes : Codes) (most : ℕ) (l : LocalState) (pc : ℕ) (handlers : List ℕ) (back : List ReturnPlace) (label : ℕ) → AreBounded codes most → Corresponds codes pc handlers back l → stop l ≡ AtThrow label → DoesThrow codes (room most (length l.callers)) (machine (pc + 1) handlers back (line_of l.frame.todo) l) label (thrown_value l) l }
 {}
 
-/// Behind the mark of a rendezvous is the slot that it is on, and from behind that the machine comes to where
+/// After the mark of a rendezvous is the slot that it is on, and from after that the machine comes to where
 /// the process is after the rendezvous.
 pub fn receive()
     ensures { (codes : Codes) (most : ℕ) (l : LocalState) (pc : ℕ) (handlers : List ℕ) (back : List ReturnPlace) (c : NamedChannel) → AreBounded codes most → Corresponds codes pc handlers back l → stop l ≡ AtNext c → MeetsAt codes (room most (length l.callers)) pc handlers back l }
@@ -116,8 +116,8 @@ pub fn fork()
     ensures { (codes : Codes) (most : ℕ) (l : LocalState) (pc : ℕ) (handlers : List ℕ) (back : List ReturnPlace) → AreCodesOf codes l.program → AreBounded codes most → NextSuits l.frame.todo l → Corresponds codes pc handlers back l → stop l ≡ AtFork → DoesFork codes (room most (length l.callers)) (machine (pc + 1) handlers back (line_of l.frame.todo) l) (all_arguments l (item_branches l.frame.todo)) l }
 {}
 
-/// The code behind the fork's mark says what comes back of what the branches of a fork took, and where the
-/// process goes on behind the fork.
+/// The code after the fork's mark says what comes back of what the branches of a fork took, and where the
+/// process goes on after the fork.
 pub fn join()
     ensures { (u : CodedUnit) (l : LocalState) (pc : ℕ) → IsPlaceOf u pc l.frame.todo l.frame.halfway → stop l ≡ AtFork → JoinsAt u pc l }
 {}

@@ -40,7 +40,7 @@ among grants k d few = let g = slice_index_or grants k d in (k, g, few, get_or_d
 pub none_among : {S : Type 0} (these those : List (OpenGrant S)) → these ≡ [] → AreAmong these those
 none_among these those none k d few = let none' : length these ≡ 0 = ap length none in absurd (omega (arith, few, none'))
 
--- the journal with a piece has that behind it
+-- the journal with a piece has that after it
 with_it : (p : Path) (n : ℕ) (js : List Entry) → with_piece p n js ≡ js ++ with_piece p n []
 with_it p zero js = sym (append-nil js)
 with_it p (suc n) js = refl

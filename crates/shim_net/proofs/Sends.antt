@@ -7,7 +7,7 @@ use Rattle.shim_local.specs.declared.local.Local.{Ghosts}
 use Rattle.shim_local.proofs.ended.Log.TheSendSync as logs
 use Rattle.shim_run_log.proofs.histories.Histories.TheSendSync as histories
 use Rattle.shim_process_table.proofs.process_table.ProcessTable.TheSendSync as tables
-use Rattle.shim_process_table.proofs.descent.Sharers.TheSendSync as sharers
+use Rattle.shim_process_table.proofs.descent.FoundProcesses.TheSendSync as sharers
 use Rattle.shim_run_state.proofs.run_state.PastSteps.TheSendSync as past
 use Rattle.shim_run_state.proofs.process_lists.ProcessLists.TheSendSync as process_lists
 use Rattle.shim_run_state.specs.contracts.run_state.RunState as RunState

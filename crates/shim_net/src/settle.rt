@@ -32,7 +32,7 @@ impl<L: Local> Net<L> {
         ensures ok { IfOk result (λ did. SettlesOne L.ops self.old self.new did) }
         ensures err { OnErr result (self.new ≡ self.old) }
     {
-        // with room for an entry of each open grant behind it
+        // with room for an entry of each open grant after it
         self.journal.reserve(self.grants.len() + 1)?;
         match self.tree.settle_one()? {
             None => Ok(false),

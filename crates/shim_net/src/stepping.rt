@@ -68,7 +68,7 @@ impl<L: Local> Net<L> {
         let Some(number) = self.tree.next_quiet() else {
             return Ok(None);
         };
-        // with room for an entry of each open grant behind it
+        // with room for an entry of each open grant after it
         self.journal.reserve(self.grants.len() + 1)?;
         let path = self.tree.path(number).copy()?;
         gate.enter(number as u64, L::COMPILED);

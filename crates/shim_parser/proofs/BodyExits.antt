@@ -37,7 +37,7 @@ body_statement l a n y r h i f =
     let b = no_left_brace (first a.rest) (no_sign g.LeftBrace (first a.rest) y h i) in
     reads_as (IsThing l) (IsBody limits l) (Statement l ∷ []) (Body l ∷ []) [] a a n r (λ xs t. is.body_plain t.0 (plain_of t.1 b)) (λ z. body_skips limits a.rest l a.counts z b) f
 
--- a body in braces: at d behind the brace, at e with the counts of a body
+-- a body in braces: at d after the brace, at e with the counts of a body
 module _ (l : ℕ) (a d e : ReaderView) (y : Bool) (h : IsTrue y ↔ IsSignAt g.LeftBrace (first a.rest)) (i : y ≡ true)
     (q : a ≡ record { rest = first a.rest ∷ d.rest; counts = d.counts }) (w : e ≡ reader_with new_body d) where
   abbrev brace_place : Place
@@ -58,7 +58,7 @@ module _ (l : ℕ) (a d e : ReaderView) (y : Bool) (h : IsTrue y ↔ IsSignAt g.
   pub body_block_fails : (at : ReaderView) (err : ParseFault) → Fails (Block l ∷ []) e at err → Fails (Body l ∷ []) a at err
   body_block_fails at err f = fails_under (Body l ∷ []) (Block l ∷ []) (AfterBody l a.counts.deepest ∷ []) a e at err body_opened f
 
-  -- at m behind the block, with the counts of the body; at n with those outside
+  -- at m after the block, with the counts of the body; at n with those outside
   module _ (m n : ReaderView) (xs : List Stmt) (t : IsBlock limits l e.counts m.counts e.rest m.rest xs) (o : ℕ) (deep : o ≡ a.counts.deepest) (v : n ≡ reader_with (behind_body o) m)
       (x : Bool) (c : IsTrue x ↔ IsKeyAt k.Par (first m.rest)) where
     block_is : IsBlock limits l (new_body a.counts) m.counts d.rest m.rest xs
@@ -104,7 +104,7 @@ module _ (l : ℕ) (a d e : ReaderView) (y : Bool) (h : IsTrue y ↔ IsSignAt g.
         fork_within : is_within Nesting (as_branch l m.counts) ≡ true
         fork_within = subst (λ i. is_within Nesting i ≡ true) b p
 
-        -- the machine does with the `par` behind a body as with one behind a branch
+        -- the machine does with the `par` after a body as with one after a branch
         par_run : (r : List Terminal) (v w : TextCounts) (z : SymbolStack) → IsKeyAt k.Par (first r) → is_within Nesting (as_branch l v) ≡ true → at_level (as_branch l v) (behind_body a.counts.deepest v) ≡ w
             → run_parser limits r (AfterBody l a.counts.deepest ∷ z) v ≡ run_parser limits r (Pars l 1 ∷ z) w
         par_run [] v w z g h i = absurd (let e = g.1 in cc)

@@ -22,24 +22,6 @@ use Rattle.shim_parser.specs.ReaderViews.{ReaderView, Blames, Fails, Reads}
 use Rattle.shim_parser.proofs.Exits.{Leads, Took, took, fails_as, reads_as, unwanted}
 use Rattle.shim_parser.proofs.ExprExits.{whole_leads}
 
-pub no_operand : (t : Terminal) (l : ℕ) (k : SymbolStack) (w : TextCounts) → begins_operand t ≡ false → operand t l k w ≡ None
-no_operand (Number n p) l k w h = absurd (cc)
-no_operand (Name x p) l k w h = absurd (cc)
-no_operand (Sign g.LeftParen p) l k w h = absurd (cc)
-no_operand (Sign g.Minus p) l k w h = absurd (cc)
-no_operand (Sign g.Bang p) l k w h = absurd (cc)
-no_operand (Sign g.Tilde p) l k w h = absurd (cc)
-no_operand _ l k w h = refl
-
-pub some_operand : (t : Terminal) (l : ℕ) (k : SymbolStack) (w : TextCounts) → begins_operand t ≡ true → IsSome (operand t l k w)
-some_operand (Number n p) l k w h = refl
-some_operand (Name x p) l k w h = refl
-some_operand (Sign g.LeftParen p) l k w h = refl
-some_operand (Sign g.Minus p) l k w h = refl
-some_operand (Sign g.Bang p) l k w h = refl
-some_operand (Sign g.Tilde p) l k w h = refl
-some_operand _ l k w h = absurd (cc)
-
 pub argument_reads : (n l : ℕ) (a b : ReaderView) (r : Result Expr ParseFault) → is_within (Count many.Arguments) n ≡ true → Reads (IsWhole limits l) (Expression l ∷ Operators l ∷ []) r a b
     → Reads (IsArgument n l) (Argument l n ∷ []) r a b
 argument_reads n l a b r h d = reads_as (IsWhole limits l) (IsArgument n l) (Expression l ∷ Operators l ∷ []) (Argument l n ∷ []) (MoreArguments l n ∷ []) a a b r
@@ -122,7 +104,7 @@ pub more_unwanted : (l n : ℕ) (a b : ReaderView) (xs : List Expr) (err : Parse
 more_unwanted l n a b xs err t p c v h i m = fails_as (Arguments l ∷ []) (MoreArguments l n ∷ []) a b b err c.runs
     (unwanted (MoreArguments l n) [] b err (λ k. ap (λ u. more_arguments u l n k b.counts) (sym v) ∙ no_more t p l n k b.counts h i) m)
 
--- the semicolon behind the arguments
+-- the semicolon after the arguments
 pub call_punctuation_fails : (l : ℕ) (a b at : ReaderView) (xs : List Expr) (err : ParseFault) → IsArguments limits l a.counts b.counts a.rest b.rest xs → Fails (Fixed punctuation.Semicolon ∷ []) b at err
     → Fails (Arguments l ∷ Fixed punctuation.Semicolon ∷ []) a at err
 call_punctuation_fails l a b at xs err d f = fails_as (Arguments l ∷ Fixed punctuation.Semicolon ∷ []) (Fixed punctuation.Semicolon ∷ []) a b at err (λ k. arguments_runs d (Fixed punctuation.Semicolon ∷ k)) f

@@ -68,7 +68,7 @@ module _ (l : ℕ) (y z m : Symbol) (s : Declaring l y z m) where
       ∙ asked limits (Name x p) (Sign g.Equal q ∷ r) (Count many.Locals) (suc v.locals) (go (z ∷ k) (with_local v)) f
       ∙ ap (λ u. run_on limits (Sign g.Equal q) r u) (s.equal q k (with_local v)) ∙ whole_runs (with_local v) d (m ∷ k) ∙ operators_skip limits i l w (m ∷ k) o
 
-  -- behind a declared name, with its value where it has one
+  -- after a declared name, with its value where it has one
   pub declared_leads : (a b : ReaderView) (x : Declared) → IsDeclaredHere l a.counts b.counts a.rest b.rest x → Leads (y ∷ []) (m ∷ []) a b
   declared_leads a b x d = λ k. declared_runs d.0 d.1 k
 

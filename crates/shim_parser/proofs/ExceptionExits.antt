@@ -1,4 +1,4 @@
--- The exits of the functions that read what stands behind the exception of a `throw` and of a `catch`.
+-- The exits of the functions that read what stands after the exception of a `throw` and of a `catch`.
 use Rattle.std.proofs.Common.{◌≡◌, ℕ, suc, List, [], ◌∷◌, Bool, true, false, Option, Some, None, refl, sym, ◌∙◌, ap, subst}
 use Rattle.std.specs.Prelude.{if◌then◌else◌}
 use Rattle.shim_base.specs.declared.token.Sign.TheVariants as g
@@ -22,7 +22,7 @@ use Rattle.shim_parser.proofs.Exits.{Leads, Took, took, fails_as, fails_under, r
 use Rattle.shim_parser.proofs.ExprExits.{Counted, counted_took}
 use Rattle.shim_parser.proofs.Sequences.{then, punctuation_leads}
 
--- behind the exception of a `throw`
+-- after the exception of a `throw`
 pub no_number_reads : (l : ℕ) (a b : ReaderView) (p : Place) → Sign g.Semicolon p ≡ first a.rest → a ≡ record { rest = first a.rest ∷ b.rest; counts = b.counts }
     → IsThrowRest limits l a.counts b.counts a.rest b.rest None
 no_number_reads l a b p h q = let w = took {t = Sign g.Semicolon p} {a = a} {b = b} h q in rw (w.rest, w.counts) is.no_number
@@ -32,7 +32,7 @@ version_2_number : (p : Place) (s : List Terminal) (l : ℕ) (k : SymbolStack) (
 version_2_number p s l k w h =
     ap (λ b. run_on limits (Sign g.LeftParen p) s (if b then go (Expression l ∷ Operators l ∷ Fixed punctuation.RightParen ∷ Fixed punctuation.Semicolon ∷ k) w else None)) h
 
--- in one of version 2: at b behind the parenthesis
+-- in one of version 2: at b after the parenthesis
 module _ (l : ℕ) (a b : ReaderView) (h : IsSignAt g.LeftParen (first a.rest)) (two : a.counts.two ≡ true) (q : a ≡ record { rest = first a.rest ∷ b.rest; counts = b.counts }) where
   paren_took : Took (Sign g.LeftParen h.0) a b
   paren_took = took (sym h.1) q
@@ -41,7 +41,7 @@ module _ (l : ℕ) (a b : ReaderView) (h : IsSignAt g.LeftParen (first a.rest)) 
   number_leads = λ k. ap (λ u. run_parser limits u (ThrowRest l ∷ k) a.counts) paren_took.rest ∙ version_2_number h.0 b.rest l k a.counts two
       ∙ ap (λ u. run_parser limits b.rest (Expression l ∷ Operators l ∷ Fixed punctuation.RightParen ∷ Fixed punctuation.Semicolon ∷ k) u) paren_took.counts
 
-  -- at d behind the number
+  -- at d after the number
   module _ (d : ReaderView) (x : Expr) (v : IsWholeBefore punctuation.RightParen l b.counts d.counts b.rest d.rest x) where
     pub number_end_fails : (at : ReaderView) (err : ParseFault) → Fails (Fixed punctuation.Semicolon ∷ []) d at err → Fails (ThrowRest l ∷ []) a at err
     number_end_fails at err f = fails_as (ThrowRest l ∷ []) (Fixed punctuation.Semicolon ∷ []) a d at err
@@ -56,7 +56,7 @@ module _ (l : ℕ) (a b : ReaderView) (h : IsSignAt g.LeftParen (first a.rest)) 
         subst (λ u. IsWhole limits l u n.counts b.rest (Sign g.RightParen v.0 ∷ Sign g.Semicolon m.0 ∷ n.rest) x) (sym paren_took.counts) w in
         subst (λ u. IsThrowRest limits l a.counts n.counts u n.rest (Some x)) (sym paren_took.rest) (is.thrown_number two z)
 
--- behind the exception of a `catch`
+-- after the exception of a `catch`
 module _ (a b : ReaderView) (p : Place) (h : Sign g.RightParen p ≡ first a.rest) (q : a ≡ record { rest = first a.rest ∷ b.rest; counts = b.counts }) where
   end_took : Took (Sign g.RightParen p) a b
   end_took = took h q
@@ -97,7 +97,7 @@ module _ (a : ReaderView) (x : List ℕ) (p : Place) (h : Name x p ≡ first a.r
       pub variable_paren_fails : (at : ReaderView) (err : ParseFault) → Fails (Fixed punctuation.RightParen ∷ []) d at err → Fails (CatchRest ∷ []) a at err
       variable_paren_fails at err w = fails_under (CatchRest ∷ []) (Fixed punctuation.RightParen ∷ []) (Fixed punctuation.LeftBrace ∷ []) a d at err variable_leads w
 
-      -- at i behind the parenthesis
+      -- at i after the parenthesis
       module _ (i : ReaderView) (m : IsPunctuation punctuation.RightParen d.counts i.counts d.rest i.rest tt) where
         pub variable_brace_fails : (at : ReaderView) (err : ParseFault) → Fails (Fixed punctuation.LeftBrace ∷ []) i at err → Fails (CatchRest ∷ []) a at err
         variable_brace_fails at err w = fails_as (CatchRest ∷ []) (Fixed punctuation.LeftBrace ∷ []) a i at err

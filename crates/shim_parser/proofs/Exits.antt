@@ -10,7 +10,7 @@ use Rattle.shim_parser.specs.declared.fault.ParseFault.{ParseFault}
 use Rattle.shim_parser.specs.declared.fault.ParseFault.TheVariants.{Lex, Unexpected, TooDeep, TooMany, NoMemory}
 use Rattle.shim_parser.specs.ReaderViews.{ReaderView, Blames, Halts, Fails, Reads}
 
--- with x to come at a, and whatever behind it, the machine runs as with y to come at b
+-- with x to come at a, and whatever after it, the machine runs as with y to come at b
 abbrev pub Leads : SymbolStack → SymbolStack → ReaderView → ReaderView → Type 0
 Leads x y a b = (k : SymbolStack) → run_parser limits a.rest (x ++ k) a.counts ≡ run_parser limits b.rest (y ++ k) b.counts
 
@@ -24,7 +24,7 @@ fails_as x y a b c (Unexpected at line) f h = halts_as x y a b c (Unexpected at 
 fails_as x y a b c (TooDeep line) f h = halts_as x y a b c (TooDeep line) f h
 fails_as x y a b c (TooMany what line) f h = halts_as x y a b c (TooMany what line) f h
 
--- the same, where z is to come behind what failed
+-- the same, where z is to come after what failed
 longer : (y z : SymbolStack) (b c : ReaderView) (e : ParseFault) → Halts y b c e → Halts (y ++ z) b c e
 longer y z b c e h = record { cause = h.cause; blames = h.blames; halts = λ k. rw append_assoc (h.halts (z ++ k)) }
 

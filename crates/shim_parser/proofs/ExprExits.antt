@@ -235,7 +235,7 @@ pub whole_stops : (r : List Terminal) (v : Result Expr ParseFault) → IfOk v (�
 whole_stops r (Ok x) h = stops_joins r h
 whole_stops r (Err e) h = tt
 
--- what comes behind a whole expression
+-- what comes after a whole expression
 pub whole_leads : (l : ℕ) (z : SymbolStack) (a b : ReaderView) (x : Expr) → IsWhole limits l a.counts b.counts a.rest b.rest x → is_operator (first b.rest) ≡ false → Leads (Expression l ∷ Operators l ∷ z) z a b
 whole_leads l z a b x d s = λ k. whole_runs a.counts d (z ++ k) ∙ operators_skip limits b.rest l b.counts (z ++ k) s
 

@@ -30,11 +30,11 @@ pub place_is : (t : read.Terminal) (p : Place) → terminal_place (terminal_view
 place_is (here.Name text) p = refl
 place_is _ p = refl
 
--- what a function has behind its `void`
+-- what a function has after its `void`
 abbrev pub whole : SymbolStack
 whole = Word ∷ Fixed punctuation.LeftParen ∷ Parameters ∷ Throws ∷ Block 1 ∷ []
 
--- a function, behind its name and the left parenthesis
+-- a function, after its name and the left parenthesis
 module _ (a b : ReaderView) (x : List ℕ) (m : IsNameBefore punctuation.LeftParen a.counts b.counts a.rest b.rest x) where
   name_leads : Leads whole (Parameters ∷ Throws ∷ Block 1 ∷ []) a b
   name_leads = λ j. ap (λ u. run_parser limits u (Word ∷ Fixed punctuation.LeftParen ∷ Parameters ∷ Throws ∷ Block 1 ∷ j) a.counts) m.2

@@ -1,4 +1,4 @@
--- The exits of the functions that read statements which hold others, behind their keywords.
+-- The exits of the functions that read statements which hold others, after their keywords.
 use Rattle.std.proofs.Common.{◌≡◌, ℕ, suc, List, [], ◌∷◌, Option, Bool, true, false, IsTrue, ◌↔◌, refl, sym, ◌∙◌, ap, subst}
 use Rattle.shim_base.specs.declared.token.Keyword.TheVariants as k
 use Rattle.shim_base.specs.declared.token.Sign.TheVariants as g
@@ -34,12 +34,12 @@ not_else t b h n = none t (no_key k.Else t b h n)
 abbrev pub IfStack : ℕ → SymbolStack
 IfStack l = Fixed punctuation.LeftParen ∷ Expression l ∷ Operators l ∷ Fixed punctuation.RightParen ∷ Body (suc l) ∷ Else (suc l) ∷ []
 
--- behind `if`: at b behind the test
+-- after `if`: at b after the test
 module _ (l j : ℕ) (e : j ≡ suc l) (a b : ReaderView) (x : Expr) (t : IsTestOf l a.counts b.counts a.rest b.rest x) where
   pub if_then_fails : (at : ReaderView) (err : ParseFault) → Fails (Body j ∷ []) b at err → Fails (IfStack l) a at err
   if_then_fails at err f = fails_under (IfStack l) (Body (suc l) ∷ []) (Else (suc l) ∷ []) a b at err (test_leads l (Body (suc l) ∷ Else (suc l) ∷ []) a b x t) (subst (λ u. Fails (Body u ∷ []) b at err) e f)
 
-  -- at d behind the body
+  -- at d after the body
   module _ (d : ReaderView) (xs : List Stmt) (o : IsBody limits j b.counts d.counts b.rest d.rest xs) (y : Bool) (h : IsTrue y ↔ IsKeyAt k.Else (first d.rest)) where
     then_is : IsBody limits (suc l) b.counts d.counts b.rest d.rest xs
     then_is = subst (λ u. IsBody limits u b.counts d.counts b.rest d.rest xs) e o
@@ -50,7 +50,7 @@ module _ (l j : ℕ) (e : j ≡ suc l) (a b : ReaderView) (x : Expr) (t : IsTest
     pub if_alone_reads : (empty : List Stmt) → empty ≡ [] → y ≡ false → IsKeyed k.If l a.counts d.counts a.rest d.rest (st.If x xs empty)
     if_alone_reads empty w n p = rw (w, t.3) (is.if_alone t.4 then_is (not_else (first d.rest) y h n))
 
-    -- at m behind the `else`
+    -- at m after the `else`
     module _ (i : y ≡ true) (m : ReaderView) (q : d ≡ record { rest = first d.rest ∷ m.rest; counts = m.counts }) where
       abbrev else_place : Place
       else_place = (h.0 i).0
@@ -67,7 +67,7 @@ module _ (l j : ℕ) (e : j ≡ suc l) (a b : ReaderView) (x : Expr) (t : IsTest
       if_else_reads n ys w p = rw t.3 (is.if_else t.4 (subst (λ u. IsBody limits (suc l) b.counts u b.rest (Key k.Else else_place ∷ m.rest) xs) else_took.counts
           (subst (λ u. IsBody limits (suc l) b.counts d.counts b.rest u xs) else_took.rest then_is)) (subst (λ u. IsBody limits u m.counts n.counts m.rest n.rest ys) e w))
 
-  -- behind `while`
+  -- after `while`
   pub while_body_fails : (at : ReaderView) (err : ParseFault) → Fails (Body j ∷ []) b at err → Fails (Fixed punctuation.LeftParen ∷ Expression l ∷ Operators l ∷ Fixed punctuation.RightParen ∷ Body (suc l) ∷ []) a at err
   while_body_fails at err f = fails_as (Fixed punctuation.LeftParen ∷ Expression l ∷ Operators l ∷ Fixed punctuation.RightParen ∷ Body (suc l) ∷ []) (Body (suc l) ∷ []) a b at err
       (test_leads l (Body (suc l) ∷ []) a b x t) (subst (λ u. Fails (Body u ∷ []) b at err) e f)
@@ -75,7 +75,7 @@ module _ (l j : ℕ) (e : j ≡ suc l) (a b : ReaderView) (x : Expr) (t : IsTest
   pub while_reads : (d : ReaderView) (xs : List Stmt) → IsBody limits j b.counts d.counts b.rest d.rest xs → IsKeyed k.While l a.counts d.counts a.rest d.rest (st.While x xs)
   while_reads d xs o p = rw t.3 (is.while t.4 (subst (λ u. IsBody limits u b.counts d.counts b.rest d.rest xs) e o))
 
--- behind `for`: at b behind the parentheses
+-- after `for`: at b after the parentheses
 module _ (l j : ℕ) (e : j ≡ suc l) (a b : ReaderView) (parts : ForParts) (t : IsHeader l a.counts b.counts a.rest b.rest parts) where
   pub for_body_fails : (at : ReaderView) (err : ParseFault) → Fails (Body j ∷ []) b at err → Fails (Fixed punctuation.LeftParen ∷ First (suc l) ∷ Test l ∷ Step (suc l) ∷ Body (suc l) ∷ []) a at err
   for_body_fails at err f = fails_as (Fixed punctuation.LeftParen ∷ First (suc l) ∷ Test l ∷ Step (suc l) ∷ Body (suc l) ∷ []) (Body (suc l) ∷ []) a b at err
@@ -96,7 +96,7 @@ CatchStack l = Fixed punctuation.Catch ∷ Fixed punctuation.LeftParen ∷ Named
 abbrev pub TryStack : ℕ → SymbolStack
 TryStack l = Fixed punctuation.LeftBrace ∷ Block (suc l) ∷ CatchStack l
 
--- behind `try`: at b behind the brace
+-- after `try`: at b after the brace
 module _ (l j : ℕ) (e : j ≡ suc l) (a b : ReaderView) (t : IsPunctuation punctuation.LeftBrace a.counts b.counts a.rest b.rest tt) where
   try_opened : Leads (TryStack l) (Block (suc l) ∷ CatchStack l) a b
   try_opened = punctuation_leads punctuation.LeftBrace (Block (suc l) ∷ CatchStack l) a b t
@@ -104,7 +104,7 @@ module _ (l j : ℕ) (e : j ≡ suc l) (a b : ReaderView) (t : IsPunctuation pun
   pub tried_fails : (at : ReaderView) (err : ParseFault) → Fails (Block j ∷ []) b at err → Fails (TryStack l) a at err
   tried_fails at err f = fails_under (TryStack l) (Block (suc l) ∷ []) (CatchStack l) a b at err try_opened (subst (λ u. Fails (Block u ∷ []) b at err) e f)
 
-  -- at d behind the block
+  -- at d after the block
   module _ (d : ReaderView) (xs : List Stmt) (o : IsBlock limits j b.counts d.counts b.rest d.rest xs) where
     tried_is : IsBlock limits (suc l) b.counts d.counts b.rest d.rest xs
     tried_is = subst (λ u. IsBlock limits u b.counts d.counts b.rest d.rest xs) e o
@@ -115,7 +115,7 @@ module _ (l j : ℕ) (e : j ≡ suc l) (a b : ReaderView) (t : IsPunctuation pun
     pub catch_fails : (at : ReaderView) (err : ParseFault) → Fails (Fixed punctuation.Catch ∷ []) d at err → Fails (TryStack l) a at err
     catch_fails at err f = fails_under (TryStack l) (Fixed punctuation.Catch ∷ []) (Fixed punctuation.LeftParen ∷ NamedStack l) a d at err tried_leads f
 
-    -- at m behind `catch`
+    -- at m after `catch`
     module _ (m : ReaderView) (c : IsPunctuation punctuation.Catch d.counts m.counts d.rest m.rest tt) where
       catch_leads : Leads (TryStack l) (Fixed punctuation.LeftParen ∷ NamedStack l) a m
       catch_leads = then (TryStack l) (CatchStack l) (Fixed punctuation.LeftParen ∷ NamedStack l) a d m tried_leads (punctuation_leads punctuation.Catch (Fixed punctuation.LeftParen ∷ NamedStack l) d m c)
@@ -123,7 +123,7 @@ module _ (l j : ℕ) (e : j ≡ suc l) (a b : ReaderView) (t : IsPunctuation pun
       pub catch_paren_fails : (at : ReaderView) (err : ParseFault) → Fails (Fixed punctuation.LeftParen ∷ []) m at err → Fails (TryStack l) a at err
       catch_paren_fails at err f = fails_under (TryStack l) (Fixed punctuation.LeftParen ∷ []) (NamedStack l) a m at err catch_leads f
 
-      -- at n behind its parenthesis
+      -- at n after its parenthesis
       module _ (n : ReaderView) (p : IsPunctuation punctuation.LeftParen m.counts n.counts m.rest n.rest tt) where
         paren_leads : Leads (TryStack l) (NamedStack l) a n
         paren_leads = then (TryStack l) (Fixed punctuation.LeftParen ∷ NamedStack l) (NamedStack l) a m n catch_leads (punctuation_leads punctuation.LeftParen (NamedStack l) m n p)
@@ -131,7 +131,7 @@ module _ (l j : ℕ) (e : j ≡ suc l) (a b : ReaderView) (t : IsPunctuation pun
         pub exception_fails : (at : ReaderView) (err : ParseFault) → Fails (Word ∷ []) n at err → Fails (TryStack l) a at err
         exception_fails at err f = fails_under (TryStack l) (Word ∷ []) (HandlerStack l) a n at err paren_leads f
 
-        -- at q behind the name
+        -- at q after the name
         module _ (q : ReaderView) (x : List ℕ) (w : IsName n.counts q.counts n.rest q.rest x) where
           exception_leads : Leads (TryStack l) (HandlerStack l) a q
           exception_leads = then (TryStack l) (NamedStack l) (HandlerStack l) a n q paren_leads (name_leads (HandlerStack l) n q x w)
@@ -139,7 +139,7 @@ module _ (l j : ℕ) (e : j ≡ suc l) (a b : ReaderView) (t : IsPunctuation pun
           pub catch_rest_fails : (at : ReaderView) (err : ParseFault) → Fails (CatchRest ∷ []) q at err → Fails (TryStack l) a at err
           catch_rest_fails at err f = fails_under (TryStack l) (CatchRest ∷ []) (Block (suc l) ∷ []) a q at err exception_leads f
 
-          -- at r behind the brace
+          -- at r after the brace
           module _ (r : ReaderView) (y : Option (List ℕ)) (v : IsCatchRest limits q.counts r.counts q.rest r.rest y) where
             pub handler_fails : (at : ReaderView) (err : ParseFault) → Fails (Block j ∷ []) r at err → Fails (TryStack l) a at err
             handler_fails at err f = fails_as (TryStack l) (Block (suc l) ∷ []) a r at err

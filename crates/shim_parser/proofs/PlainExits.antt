@@ -25,7 +25,7 @@ use Rattle.shim_parser.proofs.Exits.{Leads, took, fails_as, unwanted}
 pub name_leads : (z : SymbolStack) (a b : ReaderView) (x : List ℕ) → IsName a.counts b.counts a.rest b.rest x → Leads (Word ∷ z) z a b
 name_leads z a b x n = λ k. ap (λ u. run_parser limits u (Word ∷ (z ++ k)) a.counts) n.1 ∙ ap (λ u. run_parser limits b.rest (z ++ k) u) n.2
 
--- behind `x =`
+-- after `x =`
 pub not_next_or_get : (t : read.Terminal) (p : Place) → (t ≡ here.Key key.Next → ⊥) → (t ≡ here.Key key.Get → ⊥) → is_next_or_get (terminal_view t p) ≡ false
 not_next_or_get (here.Key key.Next) p h i = absurd (h refl)
 not_next_or_get (here.Key key.Get) p h i = absurd (i refl)
@@ -47,7 +47,7 @@ pub get_reads : (l : ℕ) (a b d : ReaderView) (x y : List ℕ) (o : Place) → 
     → IsNameBefore punctuation.Semicolon b.counts d.counts b.rest d.rest y → IsAssigned x l a.counts d.counts a.rest d.rest (st.Get x y)
 get_reads l a b d x y o h e n p q = let w = took {t = Key key.Get o} {a = a} {b = b} h e in rw (w.rest, w.counts, n.2, n.3) is.get
 
--- behind `next`
+-- after `next`
 pub next_reads : (l : ℕ) (a b d : ReaderView) (x : List ℕ) (o : Place) → IsName a.counts b.counts a.rest b.rest x → Sign g.Semicolon o ≡ first b.rest
     → b ≡ record { rest = first b.rest ∷ d.rest; counts = d.counts }
     → IsKeyed key.Next l a.counts d.counts a.rest d.rest (st.Next x)
@@ -68,12 +68,12 @@ pub next_unwanted : (l : ℕ) (a b : ReaderView) (x : List ℕ) (err : ParseFaul
 next_unwanted l a b x err t p n v h i m = fails_as (Word ∷ AfterNext l ∷ []) (AfterNext l ∷ []) a b b err (name_leads (AfterNext l ∷ []) a b x n)
     (unwanted (AfterNext l) [] b err (λ k. ap (λ u. after_next u l k b.counts) (sym v) ∙ no_after_next t p l k b.counts h i) m)
 
--- behind `put`
+-- after `put`
 pub put_reads : (l : ℕ) (a b d : ReaderView) (x : List ℕ) (value : Expr) → IsNameBefore punctuation.Comma a.counts b.counts a.rest b.rest x → IsWholeBefore punctuation.Semicolon l b.counts d.counts b.rest d.rest value
     → IsKeyed key.Put l a.counts d.counts a.rest d.rest (st.Put x value)
 put_reads l a b d x value n v p = rw (n.2, n.3) (is.put v.1)
 
--- behind `throw`
+-- after `throw`
 pub throw_fails : (l : ℕ) (a b at : ReaderView) (x : List ℕ) (err : ParseFault) → IsName a.counts b.counts a.rest b.rest x → Fails (ThrowRest l ∷ []) b at err → Fails (Word ∷ ThrowRest l ∷ []) a at err
 throw_fails l a b at x err n f = fails_as (Word ∷ ThrowRest l ∷ []) (ThrowRest l ∷ []) a b at err (name_leads (ThrowRest l ∷ []) a b x n) f
 

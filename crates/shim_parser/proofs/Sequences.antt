@@ -1,4 +1,4 @@
--- How the machine goes over the parts of a statement, one behind the other.
+-- How the machine goes over the parts of a statement, one after the other.
 use Rattle.std.proofs.Common.{◌≡◌, ℕ, suc, List, ◌∷◌, ◌++◌, refl, ◌∙◌, ap, subst}
 use Rattle.shim_base.specs.Tokens.{Place}
 use Rattle.shim_syntax.specs.declared.Expr.{Expr}

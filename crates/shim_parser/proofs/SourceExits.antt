@@ -31,7 +31,7 @@ module _ (a b : ReaderView) where
   pub source_1_reads : (fs : List Function) → AreAll a.counts b.counts a.rest b.rest fs → IsWholeSource a.counts b.counts a.rest b.rest (record { version = 1; functions = fs })
   source_1_reads fs m = (m.0, m.1, is.version_1 m.2)
 
--- behind the first word of version 2, at e as that version, what stands before the functions, and these
+-- after the first word of version 2, at e as that version, what stands before the functions, and these
 module _ (a b e c d : ReaderView) (h : is_shim (first a.rest) ≡ true) (q : a ≡ record { rest = first a.rest ∷ b.rest; counts = b.counts }) (s : e ≡ reader_with in_version_2 b) where
   shim_took : Took (first a.rest) a b
   shim_took = took refl q

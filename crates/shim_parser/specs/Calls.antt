@@ -8,7 +8,7 @@ use Rattle.shim_syntax.specs.Terminals.{Terminal, Sign}
 use Rattle.shim_syntax.specs.Limits.{Count, limits, is_within}
 use Rattle.shim_syntax.specs.Grammar.{TextCounts, IsWhole, IsArguments}
 
--- the argument of that number
+-- the argument of that number, which is within the limit on arguments
 abbrev pub IsArgument : ℕ → ℕ → TextCounts → TextCounts → List Terminal → List Terminal → Expr → Type 0
 IsArgument n l v w s r x = (is_within (Count Arguments) n ≡ true) × IsWhole limits l v w s r x
 

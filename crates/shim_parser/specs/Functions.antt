@@ -37,7 +37,7 @@ abbrev pub is_end : Terminal → Bool
 is_end (End p) = true
 is_end _ = false
 
--- the parameter of that number
+-- the parameter of that number, which is within the limit on parameters
 abbrev pub IsParameter : ℕ → TextCounts → TextCounts → List Terminal → List Terminal → Param → Type 0
 IsParameter n v w s r x = (is_within (Count Parameters) n ≡ true) × IsParam s r x × (v ≡ w)
 
@@ -45,7 +45,7 @@ IsParameter n v w s r x = (is_within (Count Parameters) n ≡ true) × IsParam s
 abbrev pub IsParameters : TextCounts → TextCounts → List Terminal → List Terminal → List Param → Type 0
 IsParameters v w s r xs = IsParams limits s r xs × (v ≡ w)
 
--- the exception of that number in a `throws`, which changes no count
+-- the exception of that number in a `throws`, which is within the limit on these and changes no count
 abbrev pub IsThrown : ℕ → TextCounts → TextCounts → List Terminal → List Terminal → List ℕ → Type 0
 IsThrown n v w s r x = (p : Place) × (s ≡ Name x p ∷ r) × (is_within (Count Throws) n ≡ true) × (v ≡ w)
 

@@ -23,7 +23,7 @@ pub fn parse(alloc: Global, text: &[u8]) -> Result<Program, ParseFault>
     match source(alloc, &mut tokens) {
         Ok(program) => Ok(program),
         Err(fault) => {
-            tokens.some_left();
+            tokens.some_left(); // for the proof: its clause says that a token is left
             Err(fault)
         }
     }

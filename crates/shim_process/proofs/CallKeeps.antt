@@ -1,4 +1,4 @@
--- A put, a meeting, a throw that is caught and a trap at a fork keep what a call keeps, and make no channel.
+-- A put, a rendezvous, a throw that is caught and a trap at a fork keep what a call keeps, and make no channel.
 use Rattle.std.proofs.Common.{◌≡◌, ℕ, ℤ, ◌||◌, List, Option, Some, None, Result, Ok, Err, sym, ap, subst}
 use Rattle.shim_base.specs.declared.operators.Trap.{Trap}
 use Rattle.shim_base.specs.declared.operators.Trap.TheVariants.{Depth}

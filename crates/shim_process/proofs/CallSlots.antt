@@ -17,7 +17,7 @@ use Rattle.shim_process.specs.Arguments.{Argument, ByReference, ByCopy, ByValue,
 use Rattle.shim_process.proofs.ForkLending.{from_value, ok_same}
 use Rattle.shim_process.specs.OwnSlots.{is_own_slot, has_arguments}
 
--- an own slot is behind the parameters'
+-- an own slot is after the parameters'
 pub own_slot : (u : UnitOf) (x : ℕ) → is_own_slot u x ≡ true → (length u.params ≤ x) × (x < length u.slots)
 own_slot u x h =
     let w = and_parts (nat_le (length u.params) x) (nat_lt x (length u.slots)) h in
@@ -32,7 +32,7 @@ from_number first (s ∷ ss) (suc x) h =
     let w : number_or_any (slice_get (numbers_from (first + 1) ss) x) ≡ (first + 1) + x = from_number (first + 1) ss x (omega (arith, h)) in
     w ∙ (let e : (first + 1) + x ≡ first + suc x = omega arith in e)
 
--- a slot behind those of the arguments
+-- a slot after those of the arguments
 slot_behind : (first : ℕ) (given : List Argument) (ss : List Sort) (x : ℕ) → length given ≤ x → x < length given + length ss → first ≤ number_of (call_slots first given ss) x
 unfolding number_of
 slot_behind first [] ss x h below = let w = from_number first ss x (omega (arith, below)) in omega (arith, w)
@@ -43,7 +43,7 @@ slot_behind first (ByCopy t n ∷ rest) ss (suc x) h below = let w : first + 1 �
 slot_behind first (ByValue t name v ∷ rest) ss zero h below = absurd (omega (arith, h))
 slot_behind first (ByValue t name v ∷ rest) ss (suc x) h below = let w : first + 1 ≤ number_of (call_slots (first + 1) rest ss) x = slot_behind (first + 1) rest ss x (omega (arith, h)) (omega (arith, below)) in omega (arith, w)
 
--- the own slots of a called unit have their locations behind those that were there
+-- the own slots of a called unit have their locations after those that were there
 pub called_slot : (first : ℕ) (u : UnitOf) (given : List Argument) (x : ℕ) → length given ≡ length u.params → is_own_slot u x ≡ true → first ≤ number_of (call_slots first given (declared_slots u)) x
 called_slot first u given x many own =
     let w = own_slot u x own in

@@ -12,7 +12,7 @@ use Rattle.shim_process.proofs.PlaceLocations.{at_empty}
 use Rattle.shim_process.proofs.ForkNames.{same_channel_of}
 use Rattle.shim_base.proofs.Facts.{some_same}
 
--- empty locations behind change nothing
+-- empty locations after change nothing
 
 pub before_empties : (xs : Locations) (ss : List Sort) (n : ℕ) (x : Location) → at_number (xs ++ empties ss) n ≡ Some x → at_number xs n ≡ Some x
 unfolding at_number

@@ -69,7 +69,7 @@ less_below n k bound a b = omega (arith, a, b)
 itself : (n : ℕ) → n ≤ n
 itself n = omega arith
 
--- the called unit's frame fits, with its locations behind the others
+-- the called unit's frame fits, with its locations after the others
 pub fitting_called : (unit : ℕ) (given : List Argument) (labels : List ℕ) (l : LocalState) (ys : Locations) → IsFitting l → length given ≡ length (unit_at l.program unit).params
     → Fitting l.path l.program (entered (unit_at l.program unit) unit (call_slots (length l.locations) given (declared_slots (unit_at l.program unit))) labels (length l.locations) (l.frame.outer + length l.frame.places)) (l.frame ∷ l.callers) (l.locations ++ ys)
 fitting_called unit given labels l ys h many =
@@ -138,7 +138,7 @@ done_fitting Wait l h fit = (h, same_fitting l)
 pub action_fitting : (l : LocalState) → IsFitting l → GoesFitting l (done (next_action l) l)
 action_fitting l h = done_fitting (next_action l) l h (next_fits l h)
 
--- a meeting
+-- a rendezvous
 
 what_fitting : (w : UWhat-F UWhat UStmt) (v : ℤ) (l : LocalState) → IsFitting l → GoesFitting l (what_receive w v l)
 what_fitting (UWhat-F.Next x) v l h = and_then l (stored_in x v l) (gone On (stored_in x v l)) (stored_fitting x v l h) (λ w. gone_fitting On (stored_in x v l) w)

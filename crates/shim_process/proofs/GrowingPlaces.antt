@@ -22,7 +22,7 @@ module _ (path : Path) (untaken : List SerialRun) where
   wider m n [] l h = tt
   wider m n (p ∷ ps) l h = wider_by p.variable m n ps l (λ a b k. wider a b ps k) h
 
-  -- the number below which those behind a place are is no greater
+  -- the number below which those after a place are is no greater
   bound_least : (o : Option HandlerVariable) (m : ℕ) → VariableIsBelow path untaken m o → bound_by m o ≤ m
   bound_least None m h = omega arith
   bound_least (Some y) m h = let below = h.1 in omega (arith, below)

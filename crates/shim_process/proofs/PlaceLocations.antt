@@ -60,7 +60,7 @@ get_append [] ys n a e = inr (n, (let w : n ≡ 0 + n = omega arith in w), e)
 get_append (x ∷ xs) ys zero a e = inl e
 get_append (x ∷ xs) ys (suc n) a e = elim (get_append xs ys n a e) [ inl h ↦ inl h | inr h ↦ inr (h.0, (let w = h.1 in omega (arith, w)), h.2) ]
 
--- behind others
+-- after others
 pub at_append : (first second : Locations) (n : ℕ) (x : Location) → at_number (first ++ second) n ≡ Some x → (at_number first n ≡ Some x) ⊎ ((j : ℕ) × (n ≡ length first + j) × (at_number second j ≡ Some x))
 unfolding at_number
 at_append first second n x e = elim (get_append first second n (Some x) (flattened_is _ x e)) [ inl h ↦ inl (ap flattened h) | inr h ↦ inr (h.0, h.1, ap flattened h.2) ]

@@ -1,4 +1,4 @@
--- Behind a put that puts a byte a process doesn't stand trapped.
+-- After a put that puts a byte a process doesn't stand trapped.
 use Rattle.std.proofs.Common.{◌≡◌, ◌∙◌, ℕ, Bool, true, false, List, [], ◌∷◌, take, Option, Some, None, Ok, Err, refl, subst}
 use Rattle.shim_local.specs.Process.{StopView, AtQuiet, AtPut, AtTrap}
 use Rattle.shim_local.specs.Laws.{IsTrapped}

@@ -27,13 +27,13 @@ pub record Frame : Type 0 where
   pub unit : ℕ
   -- what is still to do in it; a caller still stands at its call
   pub todo : List Item
-  -- of the statement at which it stands the first part is done: of `next x = e` the assignment, of `x = next y` the meeting
+  -- of the statement at which it stands the first part is done: of `next x = e` the assignment, of `x = next y` the rendezvous
   pub halfway : Bool
   -- the numbers of its slots' locations
   pub slots : List ℕ
   -- the labels of the exceptions that the unit was given, which are its first
   pub labels : List ℕ
-  -- how many locations and how many exception places the process had when the unit was entered; the locations behind are its own
+  -- how many locations and how many exception places the process had when the unit was entered; the locations after are its own
   pub floor : ℕ
   pub outer : ℕ
   -- its exception places in force, the outermost first

@@ -6,7 +6,7 @@ use Rattle.shim_base.specs.Paths.{Channel, NamedChannel, same_channel}
 
 -- what a location is to its channel
 pub data Ownership : Type 0 where
-  -- the channel's own variable, whose value a meeting gives to each process that waits at a `next` of the channel
+  -- the channel's own variable, whose value a rendezvous gives to each process that waits at a `next` of the channel
   Own : Ownership
   -- the channel's own variable, but it is with a child of the fork at which the process stands
   Lent : Ownership

@@ -118,18 +118,18 @@ after_throw (Err t) l = trapped t (line_of l.frame.todo) l
 unfoldable pub throw_evaluated : LocalState → LocalState
 throw_evaluated l = after_throw (thrown_value l) l
 
--- The state after the statement's meeting, whose value is stored in the location of the meeting's variable. Of `x = next y` this is y, and the second part comes next. After another statement with a meeting the process goes on.
+-- The state after the statement's rendezvous, whose value is stored in the location of the rendezvous's variable. Of `x = next y` this is y, and the second part comes next. After another statement with a rendezvous the process goes on.
 abbrev pub what_receive : UWhat-F UWhat UStmt → ℤ → LocalState → LocalState
 what_receive (UWhat-F.Next x) v l = gone On (stored_in x v l)
 what_receive (UWhat-F.NextAssign x e) v l = gone On (stored_in x v l)
 what_receive (UWhat-F.AssignNext x y) v l = record (stored_in y v l) { frame = half l.frame }
 what_receive _ v l = l
 
--- the state after a statement received the value of a meeting, and the same state where there is no statement
+-- the state after a statement received the value of a rendezvous, and the same state where there is no statement
 abbrev pub stmt_receive : Option UStmt → ℤ → LocalState → LocalState
 stmt_receive None v l = l
 stmt_receive (Some stmt) v l = what_receive (out-UWhat stmt.what) v l
 
--- the state after the meeting at which the process stands gave this value
+-- the state after the rendezvous at which the process stands gave this value
 unfoldable pub receive : LocalState → ℤ → LocalState
 receive l v = stmt_receive (next_stmt l.frame.todo) v l

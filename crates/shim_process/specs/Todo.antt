@@ -41,7 +41,7 @@ abbrev pub next_stmt : List Item → Option UStmt
 next_stmt (Do n s ∷ k) = Some s
 next_stmt _ = None
 
--- where a process goes from a statement: behind it, or into its first or its second block
+-- where a process goes from a statement: after it, or into its first or its second block
 pub data Successor : Type 0 where
   On : Successor
   First : Successor

@@ -137,7 +137,7 @@ module _ {S : Type 0} (o : Ops S) (states : List S) (n x : ℕ) where
       only = so.only;
     }
 
-    -- behind the last one
+    -- after the last one
     pub no_more : (place : ℕ) (now : List Record) → slice_get (o.given s) place ≡ None → SoFar place now → GivenRecomputed o states s n x start now
     no_more place now e so = record {
       chans = so.chans;

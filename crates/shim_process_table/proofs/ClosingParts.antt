@@ -18,7 +18,7 @@ in_use f (code.Forked n) h = refl
 in_use f code.Ended h = refl
 in_use f (code.Dead x) h = refl
 
-pub one_free : (first at : ℕ) (before now : List Record) (r new : Record) → AreFreed first (at - first) before now → first ≤ at → slice_get now at ≡ Some r → new ≡ record { status = code.Free; first = r.first; parent = r.parent; path = r.path; running_children = r.running_children; pairs = r.pairs } → AreFreed first (at + 1 - first) before (slice_set now at new)
+pub one_free : (first at : ℕ) (before now : List Record) (r new : Record) → AreFreed first (at - first) before now → first ≤ at → slice_get now at ≡ Some r → new ≡ record { status = code.Free; first = r.first; parent = r.parent; path = r.path; going_children = r.going_children; pairs = r.pairs } → AreFreed first (at + 1 - first) before (slice_set now at new)
 one_free first at before now r new h less e is = record {
   freed = freed_one first at before now r new h.freed less e (ap record_view is);
   beside = map_set without_status now at r new e (ap without_status is) ∙ h.beside;

@@ -51,7 +51,7 @@ module _ {S : Type 0} (o : Ops S) (v : TableView S) (i : ℕ) where
   pub due_enabled : LocalLaws o → (e : Event) → CanHappenAt o v i e → IsEnabled o e v
   due_enabled law e due rp t kept = ((record_decides o law).can rp v t e i kept due).0
 
-  -- ---- what a meeting and a poison ask beside that
+  -- ---- what a rendezvous and a poison ask beside that
 
   pub meet_declares : (q : ℕ) (w : IsReadyToMeet o v i q) → Declares o v i w.pair_is.chan.channel
   meet_declares q w = record { first = w.first; state = w.process; status = _; has = w.has.forked; its = w.declared }

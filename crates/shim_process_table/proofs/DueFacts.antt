@@ -61,7 +61,7 @@ module _ {S : Type 0} (o : Ops S) (v : TableView S) (i : ℕ) where
       fork : HasProcessState v i r.first l (forks n)
       fork = its_process (forks n) (code.Forked n) forked refl
 
-      pub is_done : r.running_children ≡ 0 → CanClose v i
+      pub is_done : r.going_children ≡ 0 → CanClose v i
       is_done e = record { first = r.first; many = n; process = l; said = r; forked = fork; there = there; none_goes = e }
 
       has_pair : (q : ℕ) (y : Pair) → slice_get r.pairs.items q ≡ Some y → HasPair v i r.first n l q y
@@ -90,7 +90,7 @@ module _ {S : Type 0} (o : Ops S) (v : TableView S) (i : ℕ) where
             ready = w.4;
           }
 
-      pub nothing_due : r.running_children ≢ 0 → ((q : ℕ) (y : Pair) → slice_get r.pairs.items q ≡ Some y → HasNoPairDue o v l r.first n y) → HasNothingDue o v i
+      pub nothing_due : r.going_children ≢ 0 → ((q : ℕ) (y : Pair) → slice_get r.pairs.items q ≡ Some y → HasNoPairDue o v l r.first n y) → HasNothingDue o v i
       nothing_due some idle = is_open r.first n l r fork there some idle
 
 -- ---- the pairs before a place
@@ -106,8 +106,8 @@ module _ {S : Type 0} (o : Ops S) (v : TableView S) (l : S) (g n : ℕ) (ps : Li
     | inr w ↦ let same = some_same p y (sym at ∙ (ap (slice_get ps) (sym w) ∙ e)) in subst (HasNoPairDue o v l g n) same (idle_pair o v l g n p meets dooms)
   ]
 
--- behind all pairs nothing can happen
-pub all_idle : {S : Type 0} (o : Ops S) (v : TableView S) (i : ℕ) (l : S) (r : Record) → slice_get v.states i ≡ Some l → slice_get v.records i ≡ Some r → (n : ℕ) → r.status ≡ code.Forked n → r.running_children ≢ 0
+-- after all pairs nothing can happen
+pub all_idle : {S : Type 0} (o : Ops S) (v : TableView S) (i : ℕ) (l : S) (r : Record) → slice_get v.states i ≡ Some l → slice_get v.records i ≡ Some r → (n : ℕ) → r.status ≡ code.Forked n → r.going_children ≢ 0
     → (past : ℕ) → length r.pairs.items ≤ past → IdleBefore o v l r.first n r.pairs.items past → HasNothingDue o v i
 all_idle o v i l r state there n forked some past all idle =
     nothing_due o v i l r state there n forked some (λ q y e. idle q y (let w = slice_get_within r.pairs.items q y e in omega (arith, w, all)) e)

@@ -23,7 +23,7 @@ use Rattle.shim_process_table.specs.Lookups.{IsInUse, AreInUse}
 use Rattle.shim_process_table.specs.Descent.{numbers_of_block, ahead_of, children_by, IsSharer, DescendsOn}
 use Rattle.shim_process_table.specs.declared.descent.Block.{Block}
 
--- a block behind the others comes before them
+-- a block after the others comes before them
 pub put_last : (bs : List Block) (b : Block) → ahead_of (bs ++ b ∷ []) ≡ numbers_of_block b ++ ahead_of bs
 put_last [] b = sym (append-nil (numbers_of_block b))
 put_last (x ∷ bs) b = ap (λ z. z ++ numbers_of_block x) (put_last bs b) ∙ append_assoc (numbers_of_block b) (ahead_of bs) (numbers_of_block x)
@@ -74,7 +74,7 @@ module _ {S : Type 0} (o : Ops S) (v : TableView S) (c : Channel) where
 
   -- ---- the loop
 
-  -- what is found from here on, behind what was found, is found from the start
+  -- what is found from here on, after what was found, is found from the start
   abbrev pub FoundSoFar : ℕ → List ℕ → List Block → Type 0
   FoundSoFar i found ahead = (more : List ℕ) → Descends o v c (ahead_of ahead) more → Descends o v c (i ∷ []) (found ++ more)
 

@@ -29,13 +29,13 @@ none_used g n states rs block b d t k less h =
     let r = from_map record_view (slice_get rs (g + b)) (used d k) (sym (map_get record_view rs (g + b)) ∙ h.view_is) in
     free_used d k (sym (block.free_ones b r.0 less r.1) ∙ r.2)
 
-pub its_record : {S : Type 0} (o : Ops S) (g n : ℕ) (p : S) (ks : List S) (was is : Record) (pairs : List Pair) → length ks ≡ n → record_view is ≡ used g (forks n) → is.parent ≡ was.parent → is.path ≡ was.path → is.running_children ≡ n → is.pairs.items ≡ pairs
+pub its_record : {S : Type 0} (o : Ops S) (g n : ℕ) (p : S) (ks : List S) (was is : Record) (pairs : List Pair) → length ks ≡ n → record_view is ≡ used g (forks n) → is.parent ≡ was.parent → is.path ≡ was.path → is.going_children ≡ n → is.pairs.items ≡ pairs
     → FreshPairs o p ks pairs → IsOfFork o g p ks was is
-its_record o g n p ks was is pairs many forked parent path running_children same fresh = record {
+its_record o g n p ks was is pairs many forked parent path going_children same fresh = record {
   forked = forked ∙ ap (λ z. used g (forks z)) (sym many);
   parent = parent;
   path = path;
-  running_children = running_children ∙ sym many;
+  going_children = going_children ∙ sym many;
   pairs = subst (FreshPairs o p ks) (sym same) fresh;
 }
 

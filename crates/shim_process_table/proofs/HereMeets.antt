@@ -1,4 +1,4 @@
--- A meeting in place: one process receives, and then all.
+-- A rendezvous in place: one process receives, and then all.
 use Rattle.std.proofs.Common.{◌≡◌, ◌≤◌, ℕ, zero, suc, ◌+◌, Bool, true, false, Option, Some, None, List, [], ◌∷◌, drop, length, get_or, slice_set, refl, sym, ap, subst, ◌∙◌, arith}
 use Rattle.std.specs.Prelude.{ℤ, slice_get}
 use Rattle.std.proofs.lemmas.List.{drop_all}
@@ -10,7 +10,7 @@ use Rattle.shim_local.specs.Process.{Ops, AtNext}
 use Rattle.shim_local.specs.Laws.{LocalLaws}
 use Rattle.shim_semantics.specs.Nodes.{is_next}
 use Rattle.shim_laws_schedules.proofs.Unshared.{stands_at}
-use Rattle.shim_laws_table.specs.Counts.{Tally, live_child_status}
+use Rattle.shim_laws_table.specs.Counts.{Tally, going_child_status}
 use Rattle.shim_laws_table.specs.Updating.{UpdatedAbove, at_top, no_counts, stays}
 use Rattle.shim_records.specs.Pairs.{child_status_of, up_in, counts_in}
 use Rattle.shim_records.specs.Ways.{IsUpdatedAbove}
@@ -51,7 +51,7 @@ as_read c n x r rs = (way (up_in rs x) refl, record { rest = refl; elsewhere = �
   where
     counted : (j : ℕ) → up_in rs x ≡ Some j → (y : Option Tally) → counts_in c rs j ≡ y → UpdatedAbove (up_in rs) 4294967295 n (counts_in c rs) x (child_status_of r) (child_status_of r) (counts_in c rs)
     counted j e None none = no_counts n (counts_in c rs) x j (child_status_of r) (child_status_of r) e none
-    counted j e (Some y) is = stays n (counts_in c rs) (counts_in c rs) x j (child_status_of r) (child_status_of r) y y e (record { old = is; new = is; moved = λ can. record { live = refl; not_ready = refl; dead = refl }; others = λ i far. refl }) refl
+    counted j e (Some y) is = stays n (counts_in c rs) (counts_in c rs) x j (child_status_of r) (child_status_of r) y y e (record { old = is; new = is; moved = λ can. record { going = refl; not_ready = refl; dead = refl }; others = λ i far. refl }) refl
 
     way : (u : Option ℕ) → up_in rs x ≡ u → UpdatedAbove (up_in rs) 4294967295 n (counts_in c rs) x (child_status_of r) (child_status_of r) (counts_in c rs)
     way None e = at_top n (counts_in c rs) x (child_status_of r) (child_status_of r) e
@@ -65,37 +65,25 @@ module _ {S : Type 0} (o : Ops S) (s : S) (c : Channel) (n x : ℕ) where
     was = ready;
     is = ready;
     status_was = refl;
-    status_is = ap live_child_status (same ∙ (same_both c d.channel ∙ sym (ap (λ z. is_next z c) stop)));
+    status_is = ap going_child_status (same ∙ (same_both c d.channel ∙ sym (ap (λ z. is_next z c) stop)));
     left = as_read c n x ready rs;
     came = no_other (λ e far. ap (λ z. is_next z e) stop ∙ (ap (λ z. same_channel z e) (sym (same_channel_is c d.channel (sym same))) ∙ far)) refl;
   }
     where
       ready : ChildStatus
-      ready = record { alive = true; ready_on = true; dead_on = false }
+      ready = record { going = true; ready_on = true; dead_on = false }
 
   -- at another one
   pub at_other_channel : (d : NamedChannel) (was is : ChildStatus) (before between behind : List Record) → o.stop s ≡ AtNext d → false ≡ same_channel c d.channel → LeavesChannel c n x before between
-      → child_status_of was ≡ live_child_status false → child_status_of is ≡ live_child_status true → IsUpdatedAbove d.channel n x was is between behind → MovesOn o s c n x before behind
+      → child_status_of was ≡ going_child_status false → child_status_of is ≡ going_child_status true → IsUpdatedAbove d.channel n x was is between behind → MovesOn o s c n x before behind
   at_other_channel d was is before between behind stop far off u v way = record {
     between = between;
     was = off.0;
     is = off.1;
     status_was = off.2;
-    status_is = off.3 ∙ ap live_child_status (far ∙ (same_both c d.channel ∙ sym (ap (λ z. is_next z c) stop)));
+    status_is = off.3 ∙ ap going_child_status (far ∙ (same_both c d.channel ∙ sym (ap (λ z. is_next z c) stop)));
     left = off.4;
     came = other d was is stop (sym far) u v way;
-  }
-
-  -- or at none
-  pub at_no_channel : (before behind : List Record) → ((e : Channel) → is_next (o.stop s) e ≡ false) → LeavesChannel c n x before behind → MovesOn o s c n x before behind
-  at_no_channel before behind none off = record {
-    between = behind;
-    was = off.0;
-    is = off.1;
-    status_was = off.2;
-    status_is = off.3 ∙ ap live_child_status (sym (none c));
-    left = off.4;
-    came = no_other (λ e far. none e) refl;
   }
 
 module _ {S : Type 0} (o : Ops S) (c : Channel) where

@@ -1,4 +1,4 @@
--- The name that a channel's first meeting brings, number by number.
+-- The name that a channel's first rendezvous brings, number by number.
 use Rattle.std.proofs.Common.{◌≡◌, ◌≤◌, ℕ, ◌+◌, Bool, true, false, Option, Some, None, List, drop, length, get_or, refl, sym, ap, subst, ◌∙◌}
 use Rattle.std.specs.Prelude.{slice_get, cond}
 use Rattle.std.proofs.lemmas.Option.{slice_get_read, slice_get_within}

@@ -27,7 +27,7 @@ use Rattle.shim_process_table.specs.Touching.{ReadiesAbove, StopReadies}
 use Rattle.shim_process_table.proofs.Readied.{arrival_readies}
 use Rattle.shim_process_table.specs.Stepping.{HasBecome, LivesAt, IsLive, IsBeforeQuiet, StepsAt, QuietlyReaches, is_live}
 
--- one value behind none
+-- one value after none
 pub one_pushed : {A : Type 0} (new old : List A) (x : A) → new ≡ old ++ x ∷ [] → old ≡ [] → new ≡ x ∷ []
 one_pushed new old x e none = e ∙ ap (λ z. z ++ x ∷ []) none
 

@@ -67,4 +67,4 @@ module _ {S : Type 0} (o : Ops S) (v : TableView S) (i : ℕ) where
         at_rest_alone k (inr (inr (x, e))) f = absurd (cc)
 
     pub lives_there : (l : S) → l ≡ get_or v.states i l → r.status ≡ code.Live → HasProcessState v i r.first l lives
-    lives_there l is alive = live_process o v i l r (slice_get_read v.states (length v.states) i l refl (slice_get_within v.states i used.1 used.3.state_is) is) there alive
+    lives_there l is going = live_process o v i l r (slice_get_read v.states (length v.states) i l refl (slice_get_within v.states i used.1 used.3.state_is) is) there going

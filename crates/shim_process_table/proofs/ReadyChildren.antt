@@ -49,7 +49,7 @@ module _ {S : Type 0} (o : Ops S) (c : Channel) where
     pub none_at_all : (i n : ℕ) → n ≤ i → NoneBefore states rs g i → NoneBefore states rs g n
     none_at_all i n past none b less = none b (omega (arith, past, less))
 
--- by a pair without a meeting and without a doomed child nothing can happen
+-- by a pair without a rendezvous and without a doomed child nothing can happen
 pub idle_pair : {S : Type 0} (o : Ops S) (v : TableView S) (l : S) (g n : ℕ) (y : Pair) → (o.path l ≡ y.chan.channel.home → tally_ready (tally y) ≡ false) → DoomedAmong o v.states v.records l g n y None → HasNoPairDue o v l g n y
 idle_pair o v l g n y meets dooms = record {
   meets_not = meets;

@@ -2,7 +2,7 @@
 use Rattle.std.proofs.Common.{◌≡◌, ℕ, ◌+◌, ◌≤◌, true, false, Some, List, map, drop, length, sym, subst, ◌∙◌}
 use Rattle.std.specs.Prelude.{slice_get}
 use Rattle.shim_base.specs.Paths.{NamedChannel}
-use Rattle.shim_laws_table.specs.Counts.{live_child_status}
+use Rattle.shim_laws_table.specs.Counts.{going_child_status}
 use Rattle.shim_records.specs.Pairs.{child_status_of, rest_of}
 use Rattle.shim_records.specs.Fresh.{channels}
 use Rattle.shim_records.specs.Ways.{IsUpdatedAbove, CountsMovedWithin}
@@ -20,7 +20,7 @@ pub record OnTheWays (x : ℕ) (chans : List NamedChannel) (i : ℕ) (start now 
   pub rest : map rest_of now ≡ map rest_of start
 
 pub one_way : (x : ℕ) (chans : List NamedChannel) (i : ℕ) (start now next : List Record) (d : NamedChannel) (was is : ChildStatus) → OnTheWays x chans i start now → slice_get chans i ≡ Some d
-    → child_status_of was ≡ live_child_status false → child_status_of is ≡ live_child_status true
+    → child_status_of was ≡ going_child_status false → child_status_of is ≡ going_child_status true
     → IsUpdatedAbove d.channel 4294967295 x was is now next → OnTheWays x chans (i + 1) start next
 one_way x chans i start now next d was is h e u v way = record {
   goes_on = λ end more. h.goes_on end (subst (λ z. EachUpdatedAbove 4294967295 x (channels z) now end) (sym (drop_one chans i d e)) (one_more d.channel (channels (drop (i + 1) chans)) was is now next end u v way more));

@@ -167,7 +167,7 @@ pub counting_off : (x : ℕ) (before behind : List Record) → HasCountedOff x b
 counting_off x before behind (alone top e) = touches_none 1 x before behind e
 counting_off x before behind (lost j up none e) = touches_none 1 x before behind e
 counting_off x before behind (below j r up there e) =
-    let now = touches_set 1 j before r (record { status = r.status; first = r.first; parent = r.parent; path = r.path; running_children = r.running_children - 1; pairs = r.pairs }) there refl in
+    let now = touches_set 1 j before r (record { status = r.status; first = r.first; parent = r.parent; path = r.path; going_children = r.going_children - 1; pairs = r.pairs }) there refl in
     subst (ChangesOnlyRecords 1 x before) (sym e) (record {
       parents = now.parents;
       as_many = now.as_many;
@@ -175,4 +175,4 @@ counting_off x before behind (below j r up there e) =
     })
   where
     less : Record
-    less = record { status = r.status; first = r.first; parent = r.parent; path = r.path; running_children = r.running_children - 1; pairs = r.pairs }
+    less = record { status = r.status; first = r.first; parent = r.parent; path = r.path; going_children = r.going_children - 1; pairs = r.pairs }

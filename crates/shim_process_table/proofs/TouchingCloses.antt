@@ -1,4 +1,4 @@
--- A close touches the records of its process, of its children, which are free behind it, and of the forks above it.
+-- A close touches the records of its process, of its children, which are free after it, and of the forks above it.
 use Rattle.std.proofs.Common.{arith, length, ◌≡◌, ◌≢◌, ◌<◌, ◌≤◌, ℕ, ◌+◌, Some, List, slice_set, refl, sym, ap, ◌∙◌}
 use Rattle.std.specs.Prelude.{slice_get}
 use Rattle.std.specs.Option.{option_map}

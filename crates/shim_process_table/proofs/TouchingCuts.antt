@@ -1,4 +1,4 @@
--- What a call touches stays so where free records at the end are cut off behind it.
+-- What a call touches stays so where free records at the end are cut off after it.
 use Rattle.std.proofs.Common.{length, ◌≡◌, ◌≢◌, ◌<◌, ◌≤◌, ◌+◌, ℕ, zero, suc, Some, List, [], ◌∷◌, take, inl, inr, refl, sym, ap, ◌∙◌, arith}
 use Rattle.std.specs.Prelude.{slice_get}
 use Rattle.std.specs.Option.{option_map}
@@ -37,7 +37,7 @@ inside [] (suc m) i x e = none_some x e
 inside (y ∷ xs) (suc m) zero x e = omega arith
 inside (y ∷ xs) (suc m) (suc i) x e = let w = inside xs m i x e in omega (arith, w)
 
--- the last record is in use, where what is cut off begins behind one in use
+-- the last record is in use, where what is cut off begins after one in use
 pub cut_at_used : (rs : List Record) (m : ℕ) → m ≤ length rs → ((i : ℕ) (r : Record) → m ≡ i + 1 → slice_get rs i ≡ Some r → record_view r ≢ free) → (i : ℕ) (r : Record) → length (take m rs) ≡ i + 1 → slice_get (take m rs) i ≡ Some r → record_view r ≢ free
 cut_at_used rs m within last i r long e =
     let whole = length-take-le m rs within in

@@ -73,7 +73,7 @@ module _ {S : Type 0} (v : TableView S) (c : Channel) where
 
   -- ---- the loop
 
-  -- what is found from here on, behind what was found, is found from the start
+  -- what is found from here on, after what was found, is found from the start
   abbrev pub VisitedSoFar : ℕ → List ℕ → List Block → Type 0
   VisitedSoFar i found ahead = (more : List ℕ) → Plans v c (ahead_of ahead) more → Plans v c (i ∷ []) (found ++ more)
 

@@ -28,7 +28,7 @@ pub record CanClose {S : Type 0} (v : TableView S) (number : ℕ) : Type 0 where
   pub said : Record
   pub forked : HasProcessState v number first process (forks many)
   pub there : slice_get v.records number ≡ Some said
-  pub none_goes : said.running_children ≡ 0
+  pub none_goes : said.going_children ≡ 0
 
 -- the effects of a close with this outcome
 abbrev pub close_effects : CloseOutcome → Effects
@@ -74,7 +74,7 @@ abbrev pub status_by_close : CloseOutcome → ProcessStatus
 status_by_close GoesOn = lives
 status_by_close (Threw t) = status_by_throw t
 
--- the process p has the values of its n children again, whose states lie together from g on; `goes_on` says whether it then stands behind the fork, or still at it
+-- the process p has the values of its n children again, whose states lie together from g on; `goes_on` says whether it then stands after the fork, or still at it
 abbrev pub HasJoined : {S : Type 0} → Ops S → ℕ → ℕ → ℕ → Bool → List S → List S → Type 0
 HasJoined {S} o p g n goes_on before after = (l : S) → slice_get before p ≡ Some l → after ≡ slice_set before p (o.join l (segment g n before) goes_on)
 

@@ -31,6 +31,6 @@ abbrev pub IsSharer : {S : Type 0} → Ops S → TableView S → Channel → ℕ
 IsSharer {S} o v c i None = (f : ℕ) (s : S) (k : ProcessStatus) → HasProcessState v i f s k → o.shares s c ≡ false
 IsSharer {S} o v c i (Some b) = (s : S) × (k : ProcessStatus) × HasProcessState v i b.first s k × (o.shares s c ≡ true) × (b.count ≡ children k)
 
--- A step of a descent leads from `ahead` and `found` to `ahead'` and `found'`. If a descent from `ahead'` finds `more`, a descent from `ahead` finds some `all`. Then `found` with `all` behind it is `found'` with `more` behind it.
+-- A step of a descent leads from `ahead` and `found` to `ahead'` and `found'`. If a descent from `ahead'` finds `more`, a descent from `ahead` finds some `all`. Then `found` with `all` after it is `found'` with `more` after it.
 abbrev pub DescendsOn : {S : Type 0} → Ops S → TableView S → Channel → List ℕ → List ℕ → List ℕ → List ℕ → Type 0
 DescendsOn o v c ahead found ahead' found' = (more : List ℕ) → Descends o v c ahead' more → (all : List ℕ) × Descends o v c ahead all × (found ++ all ≡ found' ++ more)

@@ -1,10 +1,10 @@
--- Whether a process takes part in a meeting, and one that leaves the channel.
+-- Whether a process takes part in a rendezvous, and one that leaves the channel.
 use Rattle.std.specs.Prelude.{◌≡◌, ℕ, ℤ, Bool, true, false, Option, Some, None, List}
 use Rattle.shim_base.specs.Paths.{Channel, NamedChannel}
 use Rattle.shim_local.specs.Process.{Ops, AtNext}
 use Rattle.shim_semantics.specs.Nodes.{is_next}
 use Rattle.shim_laws_table.specs.NodeStatus.{lives}
-use Rattle.shim_laws_table.specs.Counts.{live_child_status}
+use Rattle.shim_laws_table.specs.Counts.{going_child_status}
 use Rattle.shim_records.specs.Pairs.{child_status_of}
 use Rattle.shim_records.specs.Ways.{IsUpdatedAbove}
 use Rattle.shim_records.specs.declared.pair.ChildStatus.{ChildStatus}
@@ -22,7 +22,7 @@ WaitsAt {S} o c i v false = (f : ℕ) (l : S) → HasProcessState v i f l lives 
 
 -- a live process is at the channel no more: the counts above the record x were updated for it, through at most n forks
 abbrev pub LeavesChannel : Channel → ℕ → ℕ → List Record → List Record → Type 0
-LeavesChannel c n x before after = (was : ChildStatus) × (is : ChildStatus) × (child_status_of was ≡ live_child_status true) × (child_status_of is ≡ live_child_status false) × IsUpdatedAbove c n x was is before after
+LeavesChannel c n x before after = (was : ChildStatus) × (is : ChildStatus) × (child_status_of was ≡ going_child_status true) × (child_status_of is ≡ going_child_status false) × IsUpdatedAbove c n x was is before after
 
 -- The process with this number lived, was at the channel and received the value there. No other process has changed. No record in use is readier than before but its own and those of the first forks above it, as many as `to_requeue` says. It belongs in the queue of `to_requeue` now.
 pub record HasReceived {S : Type 0} (o : Ops S) (c : Channel) (x : ℤ) (number : ℕ) (to_requeue : Requeue) (before after : TableView S) : Type 0 where

@@ -27,6 +27,6 @@ abbrev pub IsSourceOf : Knowledge → Option ℕ → Type 0
 IsSourceOf w None = w.count ≤ w.sharing.source
 IsSourceOf w (Some j) = (w.sharing.source < w.count) × (j ≡ w.first + w.sharing.source)
 
--- A step of the walk leads from `ahead` and `found` to `ahead'` and `found'`. If a walk from `ahead'` finds `more`, a walk from `ahead` finds some `all`. Then `found` with `all` behind it is `found'` with `more` behind it.
+-- A step of the walk leads from `ahead` and `found` to `ahead'` and `found'`. If a walk from `ahead'` finds `more`, a walk from `ahead` finds some `all`. Then `found` with `all` after it is `found'` with `more` after it.
 abbrev pub PlansOn : {S : Type 0} → TableView S → Channel → List ℕ → List ℕ → List ℕ → List ℕ → Type 0
 PlansOn v c ahead found ahead' found' = (more : List ℕ) → Plans v c ahead' more → (all : List ℕ) × Plans v c ahead all × (found ++ all ≡ found' ++ more)

@@ -24,7 +24,7 @@ use shim_records::{
 /// What came of a process whose fork has closed.
 #[derive(Clone, Copy, Debug, PartialEq, Eq)]
 pub enum CloseOutcome {
-    /// All children had ended, and it is behind the fork.
+    /// All children had ended, and it is after the fork.
     GoesOn,
     /// A child had died, and the exception of the prevailing death was thrown in the process.
     Threw(Thrown),
@@ -57,7 +57,7 @@ fn prevailing_death(records: &[Record], first: usize, count: usize) -> Option<De
     death
 }
 
-// The process takes back the values of its children, whose states are behind its own.
+// The process takes back the values of its children, whose states are after its own.
 fn join_after<L: Local>(states: &mut [L], parent: usize, first: usize, count: usize, goes_on: bool)
     requires order { parent < first }
     requires inside { first + count ≤ length states.old }
@@ -262,7 +262,7 @@ fn used_end(records: &[Record]) -> usize
 
 impl<L: Local> ProcessTable<L> {
     /// Closes the fork of the process with this number, of which no child goes on: it takes back its
-    /// children's values, and goes on behind the fork, or the exception of the prevailing death of its
+    /// children's values, and goes on after the fork, or the exception of the prevailing death of its
     /// children is thrown in it. The children's records are free, and those at the end are cut off. The number in
     /// the answer bounds how many forks above the process have changed records. It takes no memory.
     pub fn close(&mut self, number: u32) -> (CloseOutcome, u32)

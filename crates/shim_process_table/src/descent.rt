@@ -28,12 +28,12 @@ pub(crate) struct Block {
 /// a channel, as `ProcessTable::sharers` finds them, or those that a rendezvous may concern, as
 /// `ProcessTable::plan_meeting` does. It keeps the room that it has.
 #[derive(Drop)]
-pub struct Sharers {
+pub struct FoundProcesses {
     pub(crate) numbers: Vec<u32>,
     ahead: Vec<Block>,
 }
 
-impl Model for Sharers {
+impl Model for FoundProcesses {
     ghost use Rattle.std.specs.Prelude.{ℕ, List};
 
     ghost Value = { List ℕ };
@@ -41,12 +41,12 @@ impl Model for Sharers {
     ghost view = { λ s. s.numbers.items };
 }
 
-impl Sharers {
+impl FoundProcesses {
     /// Holds no numbers yet.
-    pub fn new(alloc: Global) -> Sharers
+    pub fn new(alloc: Global) -> FoundProcesses
         ensures { result ≡ [] }
     {
-        Sharers {
+        FoundProcesses {
             numbers: Vec::new(alloc),
             ahead: Vec::new(alloc),
         }
@@ -135,13 +135,19 @@ fn put_ahead(ahead: &mut Vec<Block>, first: usize, count: usize) -> Result<(), N
 impl<L: Local> ProcessTable<L> {
     /// Finds the processes at and below this one that share the channel, whatever came of them. If the
     /// process itself doesn't share it, no clause says which are found.
-    pub fn sharers(&self, number: u32, c: &Chan, sharers: &mut Sharers) -> Result<(), NoMemory>
+    pub fn sharers(
+        &self,
+        number: u32,
+        c: &Chan,
+        sharers: &mut FoundProcesses,
+    ) -> Result<(), NoMemory>
         ensures lists { OnOk result (ListsSharers L.ops self.now c.now.channel number sharers.new) }
         ensures used { OnOk result (AreInUse self.now sharers.new) }
     {
         sharers.numbers.clear();
         sharers.ahead.clear();
         put_ahead(&mut sharers.ahead, number as usize, 1)?;
+        // No list has so many blocks: the bound is there for the proof that the loop ends.
         for looked in 0..usize::MAX {
             match sharers.ahead.pop() {
                 None => return Ok(()),
@@ -160,7 +166,7 @@ impl<L: Local> ProcessTable<L> {
         &self,
         number: u32,
         c: &Chan,
-        sharers: &mut Sharers,
+        sharers: &mut FoundProcesses,
     ) -> Result<i64, NoMemory>
         requires home { Declares L.ops self.now number c.now.channel }
         requires enabled { IsEnabled L.ops (Meet c.now.channel) self.now }
@@ -172,12 +178,13 @@ impl<L: Local> ProcessTable<L> {
     }
 
     // Finds all that live at and below this process as far as forks know of the channel.
-    fn receivers(&self, number: u32, c: &Chan, sharers: &mut Sharers) -> Result<(), NoMemory>
+    fn receivers(&self, number: u32, c: &Chan, sharers: &mut FoundProcesses) -> Result<(), NoMemory>
         ensures { OnOk result (Plans self.now c.now.channel (number ∷ []) sharers.new) }
     {
         sharers.numbers.clear();
         sharers.ahead.clear();
         put_ahead(&mut sharers.ahead, number as usize, 1)?;
+        // as in `sharers`
         for visited in 0..usize::MAX {
             match sharers.ahead.pop() {
                 None => return Ok(()),
@@ -257,6 +264,7 @@ impl<L: Local> ProcessTable<L> {
         ensures { IfOk result (λ x. HasValue L.ops self.now c.now.channel x) }
     {
         let mut at = number as usize;
+        // No tree is so deep: the bound is there for the proof that the loop ends.
         for walked in 0..usize::MAX {
             match self.source_child(at, c) {
                 None => return Ok(self.value_at(at, c)),

@@ -89,7 +89,7 @@ fn due_below<L: Local>(
 ) -> Due
     ensures { (i : ℕ) → slice_get states.now i ≡ Some process.now → slice_get records.now i ≡ Some fork.now → fork.now.status ≡ Forked count → DueIs L.ops (record { states = states.now; records = records.now }) i result }
 {
-    if fork.running_children == 0 {
+    if fork.going_children == 0 {
         return Due::Close;
     }
     for place in 0..fork.pairs.len() {

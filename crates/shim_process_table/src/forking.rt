@@ -17,7 +17,7 @@ use crate::process_table::ProcessTable;
 use shim_base::{Chan, NoMemory};
 use shim_local::{Forked, Local};
 use shim_records::{
-    Pair, Record, Status, fork_pairs, is_free, live_child_status, put_block, tally_ready,
+    Pair, Record, Status, fork_pairs, going_child_status, is_free, put_block, tally_ready,
     update_counts_above,
 };
 use std::alloc::Global;
@@ -25,7 +25,7 @@ use std::alloc::Global;
 /// What came of a process that was to fork.
 #[derive(Clone, Copy, Debug, PartialEq, Eq)]
 pub enum ForkOutcome {
-    /// It forked: the number of its first child, behind which the others come, and how many there are.
+    /// It forked: the number of its first child, after which the others come, and how many there are.
     Forked(u32, u32),
     /// Its fork trapped, and it lives on.
     Trapped,
@@ -93,7 +93,7 @@ fn child_record<L: Local>(alloc: Global, parent: u32, child: &L) -> Result<Recor
         first: 0,
         parent: Some(parent),
         path,
-        running_children: 0,
+        going_children: 0,
         pairs: Vec::new(alloc),
     })
 }
@@ -113,7 +113,7 @@ fn child_records<L: Local>(
     Ok(records)
 }
 
-// Puts the pair's channel behind the others, if a fork with its counts is ready.
+// Puts the pair's channel after the others, if a fork with its counts is ready.
 fn add_ready(pair: &Pair, chans: &mut Vec<Chan>) -> Result<(), NoMemory>
     ensures { OnOk result (channels chans.new.items ≡ channels chans.old.items ++ cond (tally_ready (tally pair.now)) (pair.now.chan.channel ∷ []) []) }
 {
@@ -146,8 +146,8 @@ fn update_ready(records: &mut Vec<Record>, at: usize, chans: &[Chan]) -> u32
             records,
             at,
             &chans[i],
-            live_child_status(false),
-            live_child_status(true),
+            going_child_status(false),
+            going_child_status(true),
             u32::MAX,
         );
         furthest = furthest.max(reached);
@@ -171,7 +171,7 @@ fn is_free_block(records: &[Record], first: u32, count: u32) -> bool
     true
 }
 
-// From which number on so many records can be put: from that of the hint, if they are free there, or behind
+// From which number on so many records can be put: from that of the hint, if they are free there, or after
 // all others.
 fn block_for(records: &[Record], hint: Option<u32>, count: u32) -> Result<u32, NoMemory>
     ensures free { IfOk result (λ first. IsFreeBlock first count records.now) }
@@ -199,16 +199,16 @@ fn note_fork(parent: &mut Record, first: u32, count: u32, pairs: Vec<Pair>)
     ensures forked { record_view parent.new ≡ used first (forks count) }
     ensures parent { parent.new.parent ≡ parent.old.parent }
     ensures path { parent.new.path ≡ parent.old.path }
-    ensures running_children { parent.new.running_children ≡ count }
+    ensures going_children { parent.new.going_children ≡ count }
     ensures pairs { parent.new.pairs.items ≡ pairs.items }
 {
     parent.status = Status::Forked(count);
     parent.first = first;
-    parent.running_children = count;
+    parent.going_children = count;
     parent.pairs = pairs;
 }
 
-// Puts the fork's children from the hint's number on, if the records there are free, or behind all others,
+// Puts the fork's children from the hint's number on, if the records there are free, or after all others,
 // and brings the counts above up to date. An error changes nothing.
 fn put_fork<L: Local>(
     alloc: Global,

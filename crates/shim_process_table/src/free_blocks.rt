@@ -9,7 +9,7 @@ pub(crate) struct FreeBlocks {
     by_count: Vec<Blocks>,
 }
 
-// The blocks of one count of records: how many were put behind all others, and where those begin that were
+// The blocks of one count of records: how many were put after all others, and where those begin that were
 // given back. Room is asked for where a block is made, so giving one back takes no memory.
 #[derive(Drop)]
 struct Blocks {
@@ -54,7 +54,7 @@ impl FreeBlocks {
         }
     }
 
-    /// A block of so many records was put from this number on: that of the hint, or one behind all others. The
+    /// A block of so many records was put from this number on: that of the hint, or one after all others. The
     /// hint is used up.
     pub(crate) fn put(&mut self, count: u32, first: u32) {
         if let Some(blocks) = self.by_count.get_mut(count as usize) {

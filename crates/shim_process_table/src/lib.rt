@@ -24,7 +24,7 @@ mod terminating;
 
 pub use acting::Thrown;
 pub use closing::CloseOutcome;
-pub use descent::Sharers;
+pub use descent::FoundProcesses;
 pub use due::Due;
 pub use forking::{Fork, ForkOutcome};
 pub use process_table::ProcessTable;

@@ -1,4 +1,4 @@
-// A meeting, one process after the other.
+// A rendezvous, one process after the other.
 ghost use Rattle.std.specs.Prelude.{ℕ};
 ghost use Rattle.shim_laws_table.specs.NodeStatus.{lives};
 ghost use Rattle.shim_records.specs.Ways.{most_forks, NoneReadied};
@@ -15,7 +15,7 @@ use crate::queue::{Queue, queue_at};
 use shim_base::Chan;
 use shim_local::{Local, Stop};
 use shim_records::{
-    Record, is_at_channel, live_child_status, propagate_stop_above, update_counts_above,
+    Record, going_child_status, is_at_channel, propagate_stop_above, update_counts_above,
 };
 
 // Brings the counts above a process up to date that was at the channel and is there no more. No fork
@@ -28,8 +28,8 @@ fn leave_channel(c: &Chan, records: &mut Vec<Record>, at: usize)
         records,
         at,
         c,
-        live_child_status(true),
-        live_child_status(false),
+        going_child_status(true),
+        going_child_status(false),
         u32::MAX,
     );
 }

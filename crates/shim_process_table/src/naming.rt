@@ -1,4 +1,4 @@
-// The name that a channel's first meeting brings.
+// The name that a channel's first rendezvous brings.
 ghost use Rattle.std.specs.Prelude.{◌≡◌};
 ghost use Rattle.shim_semantics.specs.Nodes.{next_channel, name_for};
 ghost use Rattle.shim_semantics.specs.Trees.{Meet};
@@ -7,7 +7,7 @@ ghost use Rattle.shim_laws_table_events.specs.meetings.Meetings.{IsEnabled, Decl
 ghost use Rattle.shim_laws_table_events.specs.meetings.Names.{HasName};
 ghost use Rattle.shim_process_table.specs.Naming.{NamesIt, IsChannelName};
 
-use crate::descent::Sharers;
+use crate::descent::FoundProcesses;
 use crate::process_table::ProcessTable;
 use shim_base::Chan;
 use shim_local::{Local, Stop};
@@ -30,7 +30,7 @@ fn name_of<L: Local>(process: &L, c: &Chan) -> Option<u32>
 impl<L: Local> ProcessTable<L> {
     /// The name that a rendezvous of the channel brings whose home has this number, if it is the first one: that of
     /// the first process which waits at the channel, on a walk from the root with leftmost children first.
-    pub fn meeting_name(&self, number: u32, c: &Chan, sharers: &Sharers) -> u32
+    pub fn meeting_name(&self, number: u32, c: &Chan, sharers: &FoundProcesses) -> u32
         requires home { Declares L.ops self.now number c.now.channel }
         requires enabled { IsEnabled L.ops (Meet c.now.channel) self.now }
         requires sharers { ListsSharers L.ops self.now c.now.channel number sharers.now }
@@ -40,7 +40,7 @@ impl<L: Local> ProcessTable<L> {
     }
 
     // The name that the first of these has for the channel which lives and is at it; 0 if there is none.
-    fn first_name(&self, sharers: &Sharers, c: &Chan) -> u32
+    fn first_name(&self, sharers: &FoundProcesses, c: &Chan) -> u32
         ensures { IsChannelName L.ops self.now c.now.channel sharers.now result }
     {
         for place in 0..sharers.numbers.len() {

@@ -5,7 +5,7 @@ ghost use Rattle.shim_process_table.specs.Poisoning.{IsKilledBy, CanPoison, Pois
 ghost use Rattle.shim_process_table.specs.Touching.{ChangesOnlyEach, ChangesOnlyOne};
 ghost use Rattle.shim_process_table.specs.Changing.{IsChanged};
 
-use crate::descent::Sharers;
+use crate::descent::FoundProcesses;
 use crate::process_table::ProcessTable;
 use shim_base::Chan;
 use shim_local::{Death, Local};
@@ -15,7 +15,7 @@ impl<L: Local> ProcessTable<L> {
     /// The child with this number is poisoned on the channel: all that live there or below and share it die of the
     /// innermost label in force at the fork that made the child. That poison has to be enabled, `label` has to be
     /// that label, and `sharers` those which `sharers` finds from the child on. It takes no memory.
-    pub fn poison(&mut self, number: u32, c: &Chan, label: u32, sharers: &Sharers)
+    pub fn poison(&mut self, number: u32, c: &Chan, label: u32, sharers: &FoundProcesses)
         requires can { CanPoison L.ops c.now.channel label number self.old }
         requires sharers { ListsSharers L.ops self.old c.now.channel number sharers.now }
         ensures died { AllDied L.ops c.now.channel label number self.old self.new }
@@ -27,7 +27,7 @@ impl<L: Local> ProcessTable<L> {
     }
 
     // Each of these that lives dies of an exception with this label, if it has no handler for it.
-    fn kill_each(&mut self, sharers: &Sharers, label: u32)
+    fn kill_each(&mut self, sharers: &FoundProcesses, label: u32)
         ensures die { AllDie L.ops label sharers.now self.old self.new }
         ensures touches { ChangesOnlyEach sharers.now self.old self.new }
     {

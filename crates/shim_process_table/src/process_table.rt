@@ -63,7 +63,7 @@ fn root_record<L: Local>(alloc: Global, root: &L) -> Result<Record, NoMemory>
         first: 0,
         parent: None,
         path,
-        running_children: 0,
+        going_children: 0,
         pairs: Vec::new(alloc),
     })
 }

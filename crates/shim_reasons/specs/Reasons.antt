@@ -1,7 +1,7 @@
 -- Why a blocked run is blocked, as text.
 use Rattle.std.specs.Prelude.{ℕ, List, ◌++◌, codes, flat_map}
 use Rattle.shim_base.specs.Paths.{Path}
-use Rattle.shim_report.specs.Report.{channel_text, path_text}
+use Rattle.shim_base.specs.PathTexts.{channel_text, path_text}
 use Rattle.shim_waits.specs.declared.explained.Explained.{Explained}
 use Rattle.shim_waits.specs.declared.explained.Wait.{Wait}
 

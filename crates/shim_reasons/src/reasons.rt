@@ -2,8 +2,7 @@
 ghost use Rattle.std.specs.Prelude.{◌≡◌, ◌++◌, OnOk, flat_map};
 ghost use Rattle.shim_reasons.specs.Reasons.{because_line, cycle_line, reasons, spaced_path};
 
-use shim_base::{List, NoMemory, Path};
-use shim_report::{push_channel, push_path};
+use shim_base::{List, NoMemory, Path, push_channel, push_path};
 use shim_waits::{Explained, Wait};
 
 /// Adds a line for each process that waits, and then a line with a cycle of waits. The line of a process

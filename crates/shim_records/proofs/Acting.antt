@@ -48,7 +48,7 @@ module _ {S : Type 0} (o : Ops S) (law : LocalLaws o) (rp : Path) (states : List
   was_read out =
       let far : c.home ≢ o.path (state m) = λ e. out [] (e ∙ (same_path ∙ sym (append-nil (o.path s)))) in
       let shares = sym ((foreign_stays o law).shares old m (place o rp s) a c sound rep.was acts far) ∙ ap (λ z. o.shares z c) its_state in
-      (actors_are_read o).before c m a acts ∙ ap {B = Read} (λ b. record { alive = b; ready_on = false; dead_on = false }) shares
+      (actors_are_read o).before c m a acts ∙ ap {B = Read} (λ b. record { going = b; ready_on = false; dead_on = false }) shares
 
   pub is_read : child_status o c a.node ≡ leaf_status o c s k
   is_read = (actors_are_read o).behind c a.node leaf ∙ (λ i. leaf_status o c (its_state i) (its_status i))

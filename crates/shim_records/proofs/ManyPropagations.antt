@@ -19,7 +19,7 @@ use Rattle.shim_records.specs.declared.record.Record.{Record}
 use Rattle.shim_records.proofs.FullPropagation.{rest_ups}
 use Rattle.shim_records.proofs.ReadOff.{same_views}
 
--- another channel than the first is among those behind it
+-- another channel than the first is among those after it
 pub among_rest : (c d : Channel) (cs : List Channel) → same_channel d c ≡ false → IsAmong c (d ∷ cs) → IsAmong c cs
 among_rest c d cs far (zero, e) = absurd (clash (same_channel d c) (ap (λ z. same_channel z c) (some_same d c e) ∙ same_channel_refl c) far)
 among_rest c d cs far (suc i, e) = (i, e)

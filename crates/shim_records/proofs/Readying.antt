@@ -3,7 +3,7 @@ use Rattle.std.proofs.Common.{◌≡◌, ◌≤◌, ◌⊎◌, ℕ, suc, ◌+◌
 use Rattle.shim_base.specs.Paths.{Channel}
 use Rattle.shim_base.proofs.Facts.{some_same, none_some}
 use Rattle.shim_semantics.proofs.HowMany.{clash}
-use Rattle.shim_laws_table.specs.Counts.{live_child_status}
+use Rattle.shim_laws_table.specs.Counts.{going_child_status}
 use Rattle.shim_laws_table.proofs.SameTrees.{same_or_not}
 use Rattle.shim_records.specs.Pairs.{child_status_of, counts_in, counts_ready, min_labels_in, up_in}
 use Rattle.shim_records.specs.Ways.{IsAbove, OnlyCounts, ChangesParent, BecomesUnready, ReadsParent, NoneReadied, HasReadied, ReadiesWithin}
@@ -22,13 +22,13 @@ is_or_not (Some j) i = elim (same_or_not j i) [ inl e ↦ inl (ap Some e) | inr 
 
 -- so far no record has become ready
 abbrev pub StillFalls : Channel → ChildStatus → ChildStatus → List Record → List Record → CountChange → Type 0
-StillFalls c was is start now here = child_status_of was ≡ live_child_status true → child_status_of is ≡ live_child_status false → BecomesUnready here × NoneReadied c start now
+StillFalls c was is start now here = child_status_of was ≡ going_child_status true → child_status_of is ≡ going_child_status false → BecomesUnready here × NoneReadied c start now
 
 pub falls_at_first : (c : Channel) (was is : ChildStatus) (x : ℕ) (start : List Record) → StillFalls c was is start start (record { at = x; was = was; is = is })
 falls_at_first c was is x start e f = ((e, f), λ i ready. ready)
 
 module _ (c : Channel) (was is : ChildStatus) (start now : List Record) (here : CountChange) (so : StillFalls c was is start now here) (next : Option CountChange) (due : Bool) (behind : List Record) (moves : ChangesParent c now here next behind) (reads : ReadsParent c now here next due behind) where
-  none_readied : child_status_of was ≡ live_child_status true → child_status_of is ≡ live_child_status false → NoneReadied c start behind
+  none_readied : child_status_of was ≡ going_child_status true → child_status_of is ≡ going_child_status false → NoneReadied c start behind
   none_readied e f i ready =
       let w = so e f in
       elim (is_or_not (up_in now here.at) i) [
@@ -36,7 +36,7 @@ module _ (c : Channel) (was is : ChildStatus) (start now : List Record) (here : 
         | inr far ↦ w.1 i (ap counts_ready (sym (moves.others i far)) ∙ ready)
       ]
 
-  pub no_more_fall : next ≡ None → child_status_of was ≡ live_child_status true → child_status_of is ≡ live_child_status false → NoneReadied c start behind
+  pub no_more_fall : next ≡ None → child_status_of was ≡ going_child_status true → child_status_of is ≡ going_child_status false → NoneReadied c start behind
   no_more_fall end = none_readied
 
   pub still_falls : (above : CountChange) → next ≡ Some above → StillFalls c was is start behind above

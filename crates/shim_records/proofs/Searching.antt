@@ -8,12 +8,12 @@ use Rattle.shim_base.specs.Paths.{Channel, same_channel}
 use Rattle.shim_records.specs.Pairs.{pair_index}
 use Rattle.shim_records.specs.declared.pair.Pair.{Pair}
 
--- a place behind the first one, counted from a number on
+-- a place after the first one, counted from a number on
 behind_first : (i : ℕ) (o : Option ℕ) → option_map (λ k. i + 1 + k) o ≡ option_map (λ k. i + k) (option_map suc o)
 behind_first i None = refl
 behind_first i (Some k) = ap Some (omega arith)
 
--- a search that counts from a number on finds the pair as many places behind it
+-- a search that counts from a number on finds the pair as many places after it
 found_from : (c : Channel) (i : ℕ) (ps : List Pair) → position_from (λ (p : Pair). same_channel p.chan.channel c) i ps ≡ option_map (λ k. i + k) (pair_index c ps)
 found_from c i [] = refl
 found_from c i (p ∷ ps) = at_first (same_channel p.chan.channel c) (found_from c (i + 1) ps)

@@ -7,7 +7,7 @@ use mathlib.Core.Bool.{beq}
 use Rattle.std.proofs.lemmas.Option.{slice_get_read}
 use Rattle.shim_base.specs.Paths.{Channel}
 use Rattle.shim_base.proofs.Facts.{some_same, none_some}
-use Rattle.shim_laws_table.specs.Counts.{live_child_status, fork_status, tally_ready, IsExchanged}
+use Rattle.shim_laws_table.specs.Counts.{going_child_status, fork_status, tally_ready, IsExchanged}
 use Rattle.shim_laws_table.specs.Updating.{CanMove, AreMoved, UpdatedAbove, at_top, no_counts, stays, goes_on}
 use Rattle.shim_laws_table.proofs.SameTrees.{same_or_not}
 use Rattle.shim_records.specs.Pairs.{tally, child_status_of, pair_index, pair_of, counts_at, counts_in, counts_ready, min_label_of, min_label_at, min_labels_in, up_at, up_in, rest_of, chans_of, KnownPair, known_by, known_of}
@@ -74,12 +74,12 @@ nothing_changed c rs = record { rest = refl; elsewhere = λ d far i. refl; label
 
 -- what is read of two pairs' counts in one record
 abbrev pub with_pair : Record → ℕ → Pair → Record
-with_pair r i q = record { status = r.status; first = r.first; parent = r.parent; path = r.path; running_children = r.running_children; pairs = with_item r.pairs i q }
+with_pair r i q = record { status = r.status; first = r.first; parent = r.parent; path = r.path; going_children = r.going_children; pairs = with_item r.pairs i q }
 
 -- a record whose pairs have the same channels, and know the same of them
 pub rest_with : (r : Record) (cs : List Channel) (ks : List KnownPair) → cs ≡ chans_of r.pairs.items → ks ≡ known_of r.pairs.items
-    → record { status = r.status; first = r.first; parent = r.parent; path = r.path; running_children = r.running_children; chans = cs; known = ks } ≡ rest_of r
-rest_with r cs ks e f = λ i. record { status = r.status; first = r.first; parent = r.parent; path = r.path; running_children = r.running_children; chans = e i; known = f i }
+    → record { status = r.status; first = r.first; parent = r.parent; path = r.path; going_children = r.going_children; chans = cs; known = ks } ≡ rest_of r
+rest_with r cs ks e f = λ i. record { status = r.status; first = r.first; parent = r.parent; path = r.path; going_children = r.going_children; chans = e i; known = f i }
 
 -- a pair with the same channel knows the same of it
 pub known_with : (p q : Pair) → q.chan ≡ p.chan → q.sharing ≡ p.sharing → known_by q ≡ known_by p
@@ -171,7 +171,7 @@ module _ (c : Channel) (rs : List Record) (here : CountChange) where
     }
 
     -- how the parent is read by these counts
-    module _ (due : Bool) (is_closed : due ≡ false → (tally_ready (tally q) ≡ false) × (q.min_dead_label ≡ None)) (unready : child_status_of here.was ≡ live_child_status true → child_status_of here.is ≡ live_child_status false → tally_ready (tally q) ≡ false) where
+    module _ (due : Bool) (is_closed : due ≡ false → (tally_ready (tally q) ≡ false) × (q.min_dead_label ≡ None)) (unready : child_status_of here.was ≡ going_child_status true → child_status_of here.is ≡ going_child_status false → tally_ready (tally q) ≡ false) where
       its_place : (i : ℕ) → up_in rs here.at ≡ Some i → i ≡ j
       its_place i e = some_same i j (sym e ∙ up)
 
@@ -207,12 +207,12 @@ module _ (c : Channel) (rs : List Record) (here : CountChange) where
             (subst (λ z. UpdatedAbove (up_in rs) 4294967295 n (counts_in c now) z (child_status_of next.was) (child_status_of next.is) behind) at rest)))),
         only,
         moves (Some next) (λ above e. ap (λ z. z.at) (sym (some_same next above e)) ∙ at),
-        reads (Some next) (λ e. none_some next (sym e)) (λ f above e. subst BecomesUnready (some_same next above e) (was ∙ ap live_child_status (other (unready f.0 f.1)), is ∙ ap live_child_status (unready f.0 f.1))),
+        reads (Some next) (λ e. none_some next (sym e)) (λ f above e. subst BecomesUnready (some_same next above e) (was ∙ ap going_child_status (other (unready f.0 f.1)), is ∙ ap going_child_status (unready f.0 f.1))),
       )
 
 -- what is read of a fork that shares the channel
-pub fork_read : (r : ChildStatus) (b : Bool) (p : Pair) → child_status_of r ≡ live_child_status b → b ≡ tally_ready (tally p) → child_status_of r ≡ fork_status true (tally p)
-fork_read r b p e f = e ∙ ap live_child_status f
+pub fork_read : (r : ChildStatus) (b : Bool) (p : Pair) → child_status_of r ≡ going_child_status b → b ≡ tally_ready (tally p) → child_status_of r ≡ fork_status true (tally p)
+fork_read r b p e f = e ∙ ap going_child_status f
 
 -- what isn't due has neither all there nor a label
 pub closed_by : (due all : Bool) (p : Pair) → all ≡ tally_ready (tally p) → (due ≡ false → (all ≡ false) × (p.min_dead_label ≡ None)) → due ≡ false → (tally_ready (tally p) ≡ false) × (p.min_dead_label ≡ None)

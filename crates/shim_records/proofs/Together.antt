@@ -19,10 +19,6 @@ one_behind [] g x h = refl
 one_behind (y ∷ ys) zero x h = absurd (omega (arith, h))
 one_behind (y ∷ ys) (suc g) x h = ap (λ z. y ∷ z) (one_behind ys g x (omega (arith, h)))
 
--- none is freed yet
-pub none_freed : (g : ℕ) (rs : List Record) (n : ℕ) → n ≡ 0 → IsFreed g n rs rs
-none_freed g rs n e = record { inside = λ b r less. absurd (omega (arith, less, e)); outside = λ j h. refl }
-
 pub freed_one : (first at : ℕ) (before now : List Record) (r new : Record) → IsFreed first (at - first) before now → first ≤ at → slice_get now at ≡ Some r → record_view new ≡ free → IsFreed first (at + 1 - first) before (slice_set now at new)
 freed_one first at before now r new h less e is = record {
   inside = λ b x within there. elim (same_or_not (first + b) at) [

@@ -62,7 +62,7 @@ not_both bs n e f = absurd (true≢false (some_same true false (sym f ∙ e)))
 pub has_room : (old : Vec ℕ) (bs : List Bool) (n : ℕ) → KeepsRoom old bs → slice_get bs n ≡ Some false → length old.items < vec_capacity old
 has_room old bs n k e = let a = k.as_many in let b = k.room in let w = flags_less bs n e in omega (arith, a, b, w)
 
--- a number comes behind the others
+-- a number comes after the others
 pub added : (old new : Vec ℕ) (bs : List Bool) (n : ℕ) → KeepsRoom old bs → slice_get bs n ≡ Some false → new.items ≡ old.items ++ n ∷ [] → vec_capacity new ≡ vec_capacity old → KeepsRoom new (slice_set bs n true)
 added old new bs n k e items cap = record {
   listed_in = λ m h. elim (same_or_not m n) [
@@ -148,7 +148,7 @@ raised old new bs k items room = record {
   room = let a = one_more_flag bs in omega (arith, a, room);
 }
 
--- one flag more behind so many more
+-- one flag more after so many more
 pub raised_again : (old now next : List Bool) → AreGrown old now → next ≡ now ++ false ∷ [] → AreGrown old next
 raised_again old now next so e = (suc so.0, e ∙ (ap (λ z. z ++ false ∷ []) so.1 ∙ (append_assoc old (replicate so.0 false) (false ∷ []) ∙ ap (λ z. old ++ z) (at_end so.0))))
   where

@@ -32,7 +32,7 @@ process_status_of (code.Dead d) = dies d
 
 -- what a fork read of a process before it did anything by itself
 abbrev pub acting : {S : Type 0} → Ops S → S → Channel → Read
-acting o s c = record { alive = o.shares s c; ready_on = false; dead_on = false }
+acting o s c = record { going = o.shares s c; ready_on = false; dead_on = false }
 
 -- the channel is at a place before this one, of those that the process was given
 abbrev pub Earlier : {S : Type 0} → Ops S → S → Channel → ℕ → Type 0

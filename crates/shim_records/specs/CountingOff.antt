@@ -8,4 +8,4 @@ pub data HasCountedOff (x : ℕ) (before after : List Record) : Type 0 where
   alone : up_in before x ≡ None → after ≡ before → HasCountedOff x before after
   lost : (j : ℕ) → up_in before x ≡ Some j → slice_get before j ≡ None → after ≡ before → HasCountedOff x before after
   below : (j : ℕ) (r : Record) → up_in before x ≡ Some j → slice_get before j ≡ Some r
-      → after ≡ slice_set before j (record { status = r.status; first = r.first; parent = r.parent; path = r.path; running_children = r.running_children - 1; pairs = r.pairs }) → HasCountedOff x before after
+      → after ≡ slice_set before j (record { status = r.status; first = r.first; parent = r.parent; path = r.path; going_children = r.going_children - 1; pairs = r.pairs }) → HasCountedOff x before after

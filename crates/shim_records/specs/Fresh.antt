@@ -34,12 +34,12 @@ abbrev pub Rises : List Channel → Type 0
 Rises [] = Unit {0}
 Rises (c ∷ cs) = RisesFrom c cs
 
--- there is no pair, or the channel comes behind that of the pair
+-- there is no pair, or the channel comes after that of the pair
 abbrev pub is_after : Option Pair → Channel → Bool
 is_after None c = true
 is_after (Some p) c = is_lt (channel_order p.chan.channel c)
 
--- there is no pair, or the channel comes behind that of the last one
+-- there is no pair, or the channel comes after that of the last one
 abbrev pub comes_after : List Pair → Channel → Bool
 comes_after ps c = is_after (slice_get ps (length ps - 1)) c
 
@@ -63,7 +63,7 @@ pub data LooksAt {S : Type 0} (o : Ops S) (c : Channel) (b : ℕ) (s : S) (befor
   shares : after.first ≤ b → after.first ≤ before.first → after.last ≡ b → o.carries s c ≡ false → after.source ≡ before.source → LooksAt o c b s before after
   takes : after.first ≤ b → after.first ≤ before.first → after.last ≡ b → o.carries s c ≡ true → after.source ≡ b → LooksAt o c b s before after
 
--- a pair of the channel is added behind the others, unless the channel doesn't come after that of the last pair
+-- a pair of the channel is added after the others, unless the channel doesn't come after that of the last pair
 pub data IsOneMore {S : Type 0} (o : Ops S) (ks : List S) (c : Channel) (before after : List Pair) : Type 0 where
   skipped : comes_after before c ≡ false → after ≡ before → IsOneMore o ks c before after
   added : (p : Pair) → comes_after before c ≡ true → after ≡ before ++ p ∷ [] → p.chan.channel ≡ c → tally p ≡ fresh_tally o c ks → p.min_dead_label ≡ None → FreshSharing o c ks p.sharing → IsOneMore o ks c before after

@@ -15,11 +15,11 @@ use Rattle.shim_records.specs.declared.record.Status.TheVariants as code
 
 -- the counts of a pair
 abbrev pub tally : Pair → Tally
-tally p = record { live = p.live; not_ready = p.not_ready; dead = p.dead }
+tally p = record { going = p.going; not_ready = p.not_ready; dead = p.dead }
 
 -- a child's status of the code, as the laws have it
 abbrev pub child_status_of : ChildStatus → Read
-child_status_of r = record { alive = r.alive; ready_on = r.ready_on; dead_on = r.dead_on }
+child_status_of r = record { going = r.going; ready_on = r.ready_on; dead_on = r.dead_on }
 
 -- the channels of the pairs
 abbrev pub chans_of : List Pair → List Channel
@@ -133,13 +133,13 @@ pub record UncountedRecord : Type 0 where
   pub first : ℕ
   pub parent : Option ℕ
   pub path : Path
-  pub running_children : ℕ
+  pub going_children : ℕ
   pub chans : List Channel
   pub known : List KnownPair
 
 -- what the record says without the counts and the labels of its pairs
 abbrev pub rest_of : Record → UncountedRecord
-rest_of r = record { status = r.status; first = r.first; parent = r.parent; path = r.path; running_children = r.running_children; chans = chans_of r.pairs.items; known = known_of r.pairs.items }
+rest_of r = record { status = r.status; first = r.first; parent = r.parent; path = r.path; going_children = r.going_children; chans = chans_of r.pairs.items; known = known_of r.pairs.items }
 
 -- the pairs of each record are in order
 abbrev pub AreOrdered : List Record → Type 0

@@ -20,7 +20,7 @@ AllLive rs = (b : ℕ) (r : Record) → slice_get rs b ≡ Some r → (f : ℕ) 
 
 -- What records show when a block was put, or was freed:
 pub record BlocksAreEvents {S : Type 0} (o : Ops S) : Type 0 where
-  -- a process has forked whose record says so, and whose children's states and records were put together in place of free ones or behind all
+  -- a process has forked whose record says so, and whose children's states and records were put together in place of free ones or after all
   pub fork : (states : List S) (rs born : List Record) (i f g : ℕ) (l p : S) (ks : List S) (r : Record) → length states ≡ length rs → g ≤ length rs → length born ≡ length ks → AllLive born
       → Has states (map record_view rs) i f l lives → ((b d : ℕ) (t : S) (x : ProcessStatus) → b < length ks → Has states (map record_view rs) (g + b) d t x → ⊥) → record_view r ≡ used g (forks (length ks))
       → HasForked states (with_block g ks (slice_set states i p)) (map record_view rs) (map record_view (with_block g born (slice_set rs i r))) i g p ks

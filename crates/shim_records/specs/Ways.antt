@@ -1,7 +1,7 @@
 -- How the counts of records are brought up to date on the way up.
 use Rattle.std.specs.Prelude.{◌≡◌, ◌⊎◌, ℕ, suc, Bool, true, false, Option, Some, None, List, map}
 use Rattle.shim_base.specs.Paths.{Channel, same_channel}
-use Rattle.shim_laws_table.specs.Counts.{Tally, live_child_status}
+use Rattle.shim_laws_table.specs.Counts.{Tally, going_child_status}
 use Rattle.shim_laws_table.specs.Updating.{UpdatedAbove}
 use Rattle.shim_records.specs.Pairs.{child_status_of, counts_in, counts_ready, min_labels_in, up_in, rest_of}
 use Rattle.shim_records.specs.declared.upward.CountChange.{CountChange}
@@ -47,7 +47,7 @@ pub record ChangesParent (c : Channel) (before : List Record) (here : CountChang
 
 -- a process that goes on was ready here, and isn't any more
 abbrev pub BecomesUnready : CountChange → Type 0
-BecomesUnready here = (child_status_of here.was ≡ live_child_status true) × (child_status_of here.is ≡ live_child_status false)
+BecomesUnready here = (child_status_of here.was ≡ going_child_status true) × (child_status_of here.is ≡ going_child_status false)
 
 -- What one step of an update gives for the parent: whether more may be due at it, and whether it is ready by its counts.
 pub record ReadsParent (c : Channel) (before : List Record) (here : CountChange) (next : Option CountChange) (due : Bool) (after : List Record) : Type 0 where
@@ -76,7 +76,7 @@ NoneReadied c before after = (i : ℕ) → counts_ready (counts_in c after i) �
 
 -- a live process came to the channel: the counts above the record x were updated for it, through at most n forks
 abbrev pub BecomesReady : Channel → ℕ → ℕ → List Record → List Record → Type 0
-BecomesReady c n x before after = (was : ChildStatus) × (is : ChildStatus) × (child_status_of was ≡ live_child_status false) × (child_status_of is ≡ live_child_status true) × IsUpdatedAbove c n x was is before after
+BecomesReady c n x before after = (was : ChildStatus) × (is : ChildStatus) × (child_status_of was ≡ going_child_status false) × (child_status_of is ≡ going_child_status true) × IsUpdatedAbove c n x was is before after
 
 -- j is x, or the record j has become ready for the channel by its counts
 abbrev pub HasReadied : Channel → ℕ → List Record → List Record → ℕ → Type 0

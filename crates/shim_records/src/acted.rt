@@ -18,17 +18,17 @@ fn status_now<L: Local>(process: &L, status: Status, c: &Chan) -> ChildStatus
 {
     match status {
         Status::Live => ChildStatus {
-            alive: process.shares(c),
+            going: process.shares(c),
             ready_on: is_at_channel(process, c),
             dead_on: false,
         },
         Status::Dead(_) => ChildStatus {
-            alive: false,
+            going: false,
             ready_on: false,
             dead_on: process.shares(c),
         },
         Status::Free | Status::Forked(_) | Status::Ended => ChildStatus {
-            alive: false,
+            going: false,
             ready_on: false,
             dead_on: false,
         },
@@ -75,7 +75,7 @@ fn update_for_one<L: Local>(
         return 0;
     }
     let was = ChildStatus {
-        alive: true,
+        going: true,
         ready_on: false,
         dead_on: false,
     };

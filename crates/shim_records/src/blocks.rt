@@ -2,7 +2,7 @@
 ghost use Rattle.std.specs.Prelude.{◌≡◌, ◌≤◌, ◌<◌, ◌+◌, vec_len, vec_capacity};
 ghost use Rattle.shim_records.specs.Blocks.{with_one, with_block};
 
-// Puts one item in place of another, or behind all others.
+// Puts one item in place of another, or after all others.
 fn put_one<T: Drop>(items: &mut Vec<T>, at: usize, item: T)
     requires within { at ≤ vec_len items.old }
     requires room { at < vec_capacity items.old }
@@ -17,7 +17,7 @@ fn put_one<T: Drop>(items: &mut Vec<T>, at: usize, item: T)
     }
 }
 
-/// Puts the items of a block from the number `first` on, in place of others or behind all others. It takes no
+/// Puts the items of a block from the number `first` on, in place of others or after all others. It takes no
 /// memory.
 pub fn put_block<T: Drop>(items: &mut Vec<T>, first: usize, block: Vec<T>)
     requires within { first ≤ vec_len items.old }

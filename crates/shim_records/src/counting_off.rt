@@ -18,5 +18,5 @@ pub fn count_off(records: &mut Vec<Record>, at: usize)
         return;
     }
     let record = &mut records[parent];
-    record.running_children = record.running_children.saturating_sub(1);
+    record.going_children = record.going_children.saturating_sub(1);
 }

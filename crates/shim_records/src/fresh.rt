@@ -63,7 +63,7 @@ fn counted<L: Local>(chan: Chan, children: &[L]) -> Pair
     ensures label { result.min_dead_label ≡ None }
     ensures sharing { FreshSharing L.ops chan.channel children.now result.sharing }
 {
-    let mut live = 0;
+    let mut going = 0;
     let mut not_ready = 0;
     let mut sharing = Sharing {
         first: u32::MAX,
@@ -73,13 +73,13 @@ fn counted<L: Local>(chan: Chan, children: &[L]) -> Pair
     for i in 0..children.len() {
         let child = &children[i];
         let shares = child.shares(&chan);
-        live = more(live, shares);
+        going = more(going, shares);
         not_ready = more(not_ready, isnt_ready(child, &chan, shares));
         sharing = with_child(sharing, i as u32, child, &chan, shares);
     }
     Pair {
         chan,
-        live,
+        going,
         not_ready,
         dead: 0,
         min_dead_label: None,
@@ -87,7 +87,7 @@ fn counted<L: Local>(chan: Chan, children: &[L]) -> Pair
     }
 }
 
-// Puts the channel behind the others, if the process shares it.
+// Puts the channel after the others, if the process shares it.
 fn gather_one<L: Local>(process: &L, chan: &Chan, chans: &mut Vec<Chan>) -> Result<(), NoMemory>
     ensures { OnOk result (chans.new.items ≡ chans.old.items ++ cond (L.ops.shares process.now chan.now.channel) (chan.now ∷ []) []) }
 {
@@ -97,7 +97,7 @@ fn gather_one<L: Local>(process: &L, chan: &Chan, chans: &mut Vec<Chan>) -> Resu
     Ok(())
 }
 
-// Puts the channels that a child was given and its parent shares behind the others.
+// Puts the channels that a child was given and its parent shares after the others.
 fn gather<L: Local>(parent: &L, child: &L, chans: &mut Vec<Chan>) -> Result<(), NoMemory>
     ensures { OnOk result (chans.new.items ≡ chans.old.items ++ shared_of L.ops parent.now (L.ops.given child.now)) }
 {
@@ -121,7 +121,7 @@ fn gather_all<L: Local>(alloc: Global, parent: &L, children: &[L]) -> Result<Vec
     Ok(chans)
 }
 
-// Whether the channel comes behind that of the last pair, or there is no pair.
+// Whether the channel comes after that of the last pair, or there is no pair.
 fn follows(pairs: &[Pair], chan: &Chan) -> bool
     ensures { result ≡ comes_after pairs.now chan.now.channel }
 {
@@ -134,7 +134,7 @@ fn follows(pairs: &[Pair], chan: &Chan) -> bool
     }
 }
 
-// Adds the pair of a channel behind the others, if there are none or the channel comes behind that of the last.
+// Adds the pair of a channel after the others, if there are none or the channel comes after that of the last.
 fn pair_one<L: Local>(pairs: &mut Vec<Pair>, chan: Chan, children: &[L]) -> Result<(), NoMemory>
     requires few { length children.now ≤ 4294967295 }
     ensures { OnOk result (IsOneMore L.ops children.now chan.channel pairs.old.items pairs.new.items) }

@@ -16,7 +16,7 @@ fn status_alive<L: Local>(process: &L, c: &Chan) -> ChildStatus
     ensures { child_status_of result ≡ living L.ops process.now c.now.channel }
 {
     ChildStatus {
-        alive: process.shares(c),
+        going: process.shares(c),
         ready_on: is_at_channel(process, c),
         dead_on: false,
     }
@@ -27,7 +27,7 @@ fn status_dead<L: Local>(process: &L, c: &Chan) -> ChildStatus
     ensures { child_status_of result ≡ as_dead L.ops process.now c.now.channel }
 {
     ChildStatus {
-        alive: false,
+        going: false,
         ready_on: false,
         dead_on: process.shares(c),
     }

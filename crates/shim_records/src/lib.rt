@@ -28,7 +28,7 @@ pub use died::lower_all_labels;
 pub use fresh::fork_pairs;
 pub use killed::kill_all;
 pub use labels::lower_min_labels;
-pub use pair::{ChildStatus, Pair, Sharing, live_child_status, place_in, tally_ready};
+pub use pair::{ChildStatus, Pair, Sharing, going_child_status, place_in, tally_ready};
 pub use receiving::is_at_channel;
 pub use recomputing::recompute_min_labels;
 pub use record::{Record, Status, fork_size, is_free};

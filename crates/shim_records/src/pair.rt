@@ -1,7 +1,7 @@
 // What is counted of the children of a fork for a channel.
 ghost use Rattle.std.specs.Prelude.{◌≡◌, ◌≤◌, ◌+◌, true, false, position};
 ghost use Rattle.shim_base.specs.Paths.{same_channel};
-ghost use Rattle.shim_laws_table.specs.Counts.{bit, tally_ready, live_child_status, IsExchanged};
+ghost use Rattle.shim_laws_table.specs.Counts.{bit, tally_ready, going_child_status, IsExchanged};
 ghost use Rattle.shim_laws_table.specs.Updating.{CanMove};
 ghost use Rattle.shim_records.specs.declared.pair.Pair.{Pair as PairOf};
 ghost use Rattle.shim_records.specs.Pairs.{tally, child_status_of, pair_index};
@@ -25,7 +25,7 @@ pub struct Sharing {
 #[derive(Drop)]
 pub struct Pair {
     pub chan: Chan,
-    pub live: u32,
+    pub going: u32,
     pub not_ready: u32,
     pub dead: u32,
     /// The least label of those at and below the children that share it and are dead.
@@ -38,17 +38,17 @@ pub struct Pair {
 /// shares it and is dead.
 #[derive(Clone, Copy)]
 pub struct ChildStatus {
-    pub alive: bool,
+    pub going: bool,
     pub ready_on: bool,
     pub dead_on: bool,
 }
 
 /// What a fork reads of a child that goes on and shares the channel, and is ready on it or not.
-pub fn live_child_status(ready_on: bool) -> ChildStatus
-    ensures { child_status_of result ≡ live_child_status ready_on }
+pub fn going_child_status(ready_on: bool) -> ChildStatus
+    ensures { child_status_of result ≡ going_child_status ready_on }
 {
     ChildStatus {
-        alive: true,
+        going: true,
         ready_on,
         dead_on: false,
     }
@@ -70,7 +70,7 @@ fn moved(count: u32, was: bool, is: bool) -> u32
 pub fn tally_ready(pair: &Pair) -> bool
     ensures { result ≡ tally_ready (tally pair.now) }
 {
-    if pair.live == 0 {
+    if pair.going == 0 {
         return false;
     }
     if pair.not_ready == 0 {
@@ -83,16 +83,16 @@ pub fn tally_ready(pair: &Pair) -> bool
 /// The counts with another status of a child in place of that before.
 pub(crate) fn move_pair(pair: &mut Pair, was: ChildStatus, is: ChildStatus)
     ensures moved { CanMove 4294967295 (child_status_of was) (child_status_of is) (tally pair.old) → IsExchanged (child_status_of was) (child_status_of is) (tally pair.old) (tally pair.new) }
-    ensures falls { child_status_of was ≡ live_child_status true → child_status_of is ≡ live_child_status false → tally_ready (tally pair.new) ≡ false }
+    ensures falls { child_status_of was ≡ going_child_status true → child_status_of is ≡ going_child_status false → tally_ready (tally pair.new) ≡ false }
     ensures same { pair.new.chan ≡ pair.old.chan }
     ensures label { pair.new.min_dead_label ≡ pair.old.min_dead_label }
     ensures sharing { pair.new.sharing ≡ pair.old.sharing }
 {
-    pair.live = moved(pair.live, was.alive, is.alive);
+    pair.going = moved(pair.going, was.going, is.going);
     pair.not_ready = moved(
         pair.not_ready,
-        was.alive && !was.ready_on,
-        is.alive && !is.ready_on,
+        was.going && !was.ready_on,
+        is.going && !is.ready_on,
     );
     pair.dead = moved(pair.dead, was.dead_on, is.dead_on);
 }

@@ -43,12 +43,12 @@ pub fn is_free(place: &Record) -> bool
 #[derive(Drop)]
 pub struct Record {
     pub status: Status,
-    /// The number of the first child of its fork; the others come behind it.
+    /// The number of the first child of its fork; the others come after it.
     pub first: u32,
     /// The number of the process whose fork made it; none at the root.
     pub parent: Option<u32>,
     /// How many children of its fork have neither ended nor died.
-    pub running_children: u32,
+    pub going_children: u32,
     pub path: Path,
     /// The counts of its fork's children, for each channel that it shares and gave to one of them.
     pub pairs: Vec<Pair>,

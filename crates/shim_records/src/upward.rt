@@ -1,10 +1,10 @@
 // Counts brought up to date on the way up.
 ghost use Rattle.std.specs.Prelude.{◌≡◌, ◌≤◌, ◌+◌, true, false, None, if◌then◌else◌};
-ghost use Rattle.shim_laws_table.specs.Counts.{live_child_status};
+ghost use Rattle.shim_laws_table.specs.Counts.{going_child_status};
 ghost use Rattle.shim_records.specs.Pairs.{child_status_of};
 ghost use Rattle.shim_records.specs.Ways.{most_forks, StepsUp, IsUpdatedAbove, CountsMovedWithin, NoneReadied, BecomesReady, ReadiesWithin};
 
-use crate::pair::{ChildStatus, live_child_status, move_pair, place_in, tally_ready};
+use crate::pair::{ChildStatus, going_child_status, move_pair, place_in, tally_ready};
 use crate::record::Record;
 use shim_base::Chan;
 
@@ -56,8 +56,8 @@ fn step_up(records: &mut Vec<Record>, c: &Chan, here: CountChange) -> (Option<Co
     }
     let next = CountChange {
         at: above,
-        was: live_child_status(before),
-        is: live_child_status(after),
+        was: going_child_status(before),
+        is: going_child_status(after),
     };
     (Some(next), due)
 }
@@ -76,7 +76,7 @@ pub fn update_counts_above(
     ensures counts { IsUpdatedAbove c.now.channel forks at was is records.old.items records.new.items }
     ensures reaches { CountsMovedWithin c.now.channel result at records.old.items records.new.items }
     ensures most { result ≤ forks }
-    ensures falls { child_status_of was ≡ live_child_status true → child_status_of is ≡ live_child_status false → NoneReadied c.now.channel records.old.items records.new.items }
+    ensures falls { child_status_of was ≡ going_child_status true → child_status_of is ≡ going_child_status false → NoneReadied c.now.channel records.old.items records.new.items }
 {
     let mut here = CountChange { at, was, is };
     for walked in 0..forks {
@@ -105,10 +105,11 @@ pub fn propagate_stop_above(records: &mut Vec<Record>, at: usize, c: &Chan) -> u
 {
     let mut here = CountChange {
         at,
-        was: live_child_status(false),
-        is: live_child_status(true),
+        was: going_child_status(false),
+        is: going_child_status(true),
     };
     let mut again = 0;
+    // No tree is so deep: the bound is there for the proof that the loop ends.
     for walked in 0..u32::MAX {
         let (next, due) = step_up(records, c, here);
         again = looked_at(again, walked, due);

@@ -25,7 +25,7 @@ unfolding meaning_of
 led_to (Ok t) program input b l is leads = leads ∙ ap (λ (k : LocalState). meaning process_ops b (start k)) is
 led_to (Err e) program input b l is leads = tt
 
--- what is read off that tree is what the program means, where these are the names behind its `throws`
+-- what is read off that tree is what the program means, where these are the names after its `throws`
 pub end_was : (program : Form) (input : List ℕ) (b : ℕ) (t : Tree LocalState) (read e : Ended) (throws : List ℕ) → t ≡ meaning_of program input b → throws ≡ program.main_throws
     → read ≡ ended process_ops t → e ≡ named throws read → e ≡ reference_of program input b
 unfolding reference_of

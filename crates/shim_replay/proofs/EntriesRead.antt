@@ -5,7 +5,7 @@ use Rattle.std.specs.List.{starts_with}
 use Rattle.shim_base.specs.Paths.{Path, Channel}
 use Rattle.shim_semantics.specs.Trees.{Event, Own, Meet, Poison, Close, End}
 use Rattle.shim_laws_replay.specs.Journals.{Entry, Quiet, Did}
-use Rattle.shim_replay.specs.PathTexts.{path_text, channel_text}
+use Rattle.shim_base.specs.PathTexts.{path_text, channel_text}
 use Rattle.shim_replay.specs.JournalTexts.{FitsPath, FitsChannel, FitsEntry, entry_words, first_words, stop_words, line}
 use Rattle.shim_replay.specs.Scanning.{◌>>=◌, step_limit, scan_count, scan_word, scan_path, scan_channel, scan_path_line, scan_of_path, scan_quiet, scan_meet, scan_poison, scan_entry, scan_budget, scan_steps_line}
 use Rattle.shim_replay.proofs.NumbersRead.{bind_some, some_is, chosen, word_takes, word_again, begins_is, Takes, count_takes, count_again}
@@ -13,7 +13,7 @@ use Rattle.shim_replay.proofs.PathsRead.{path_takes, path_again, channel_takes, 
 
 -- ---- what was read
 
--- behind a first word, an entry
+-- after a first word, an entry
 abbrev TakesEntry : List ℕ → List ℕ → Entry × List ℕ → Type 0
 TakesEntry word bytes x = Takes (word ++ bytes) (line (entry_words x.0)) x.1 × FitsEntry x.0
 

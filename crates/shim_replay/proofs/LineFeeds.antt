@@ -5,7 +5,7 @@ use Rattle.std.proofs.lemmas.Bool.{ne_eqb}
 use Rattle.shim_base.specs.Paths.{Path, Channel}
 use Rattle.shim_semantics.specs.Trees.{Own, Meet, Poison, Close, End}
 use Rattle.shim_laws_replay.specs.Journals.{Entry, Quiet, Did}
-use Rattle.shim_replay.specs.PathTexts.{pair_text, path_text, channel_text}
+use Rattle.shim_base.specs.PathTexts.{pair_text, path_text, channel_text}
 use Rattle.shim_replay.specs.JournalTexts.{FitsPath, FitsChannel, FitsEntry, entry_words, line, line_feeds, first_line}
 use Rattle.shim_replay.proofs.NumbersRead.{AreDigits, decimal_digits}
 
@@ -68,7 +68,7 @@ pub first_line_of : (words rest : List ℕ) → Plain words → first_line (line
 first_line_of [] rest p = refl
 first_line_of (c ∷ cs) rest p = let h = plain_head c cs p in rw h.0 (ap (λ (r : List ℕ). c ∷ r) (first_line_of cs rest h.1))
 
--- a text is its first line and what is behind it
+-- a text is its first line and what is after it
 pub line_after : (bytes : List ℕ) → (after : List ℕ) × (bytes ≡ first_line bytes ++ after)
 line_after [] = ([], refl)
 line_after (c ∷ cs) = by_test (eqb c 10) (line_after cs)

@@ -4,7 +4,7 @@ use Rattle.std.specs.Prelude.{codes, decimal, flat_map}
 use Rattle.std.specs.List.{starts_with}
 use Rattle.std.proofs.lemmas.List.{length-append}
 use Rattle.shim_base.specs.Paths.{Path, Channel}
-use Rattle.shim_replay.specs.PathTexts.{pair_text, path_text, channel_text}
+use Rattle.shim_base.specs.PathTexts.{pair_text, path_text, channel_text}
 use Rattle.shim_replay.specs.JournalTexts.{FitsPath, FitsChannel}
 use Rattle.shim_replay.specs.Scanning.{◌>>=◌, number_limit, scan_number, scan_word, scan_pair, scan_pairs, scan_path, scan_channel}
 use Rattle.shim_replay.proofs.NumbersRead.{bind_some, some_is, chosen, word_takes, begins_is, Stops, Takes, number_takes, number_again}

@@ -15,7 +15,7 @@ use Rattle.shim_replay.specs.declared.fault.ReplayFault.{ReplayFault}
 use Rattle.shim_replay.specs.declared.fault.ReplayFault.TheVariants as faults
 use Rattle.shim_run_log.specs.declared.entry.Entry.{Entry}
 
--- the entries up to one, that one, and those behind it
+-- the entries up to one, that one, and those after it
 parted : (es : List Entry) (i : ℕ) (d : Entry) → i < length es → entries_of es ≡ entries_of (take i es) ++ entry_of (get_or es i d) ∷ entries_of (drop (i + 1) es)
 parted es i d inside =
     ap entries_of (sym (take-append-drop i es) ∙ at_drop_more (λ (l : List Entry). take i es ++ l) es i d inside) ∙ map-append entry_of (take i es) (get_or es i d ∷ drop (i + 1) es)

@@ -5,7 +5,7 @@ use Rattle.shim_base.specs.Paths.{Path, Channel}
 use Rattle.shim_laws_journals.specs.Ranges.{steps_in_all}
 use Rattle.shim_semantics.specs.Trees.{Event, Own, Meet, Poison, Close, End}
 use Rattle.shim_laws_replay.specs.Journals.{Entry, Quiet, Did}
-use Rattle.shim_replay.specs.PathTexts.{path_text, channel_text}
+use Rattle.shim_base.specs.PathTexts.{path_text, channel_text}
 
 -- the line of an entry, without its line feed
 unfoldable pub entry_words : Entry → List ℕ

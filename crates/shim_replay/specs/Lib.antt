@@ -1,5 +1,4 @@
 -- The definitions of this crate, one module for each subject.
-pub mod PathTexts
 pub mod JournalTexts
 pub mod Entries
 pub mod Scanning

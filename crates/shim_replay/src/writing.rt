@@ -1,51 +1,18 @@
 // Writes the text of a journal.
-ghost use Rattle.std.specs.Prelude.{◌≡◌, ◌≤◌, ◌<◌, ◌++◌, ◌*◌, OnOk, IfOk, flat_map, length};
+ghost use Rattle.std.specs.Prelude.{◌≡◌, ◌≤◌, ◌<◌, ◌++◌, ◌*◌, OnOk, IfOk, length};
 ghost use Rattle.std.specs.List.{All};
 ghost use Rattle.shim_replay.specs.Entries.{entry_of, entries_of, event_of};
 ghost use Rattle.shim_semantics.specs.Trees as trees;
 ghost use Rattle.shim_laws_replay.specs.Journals as journals;
-ghost use Rattle.shim_replay.specs.PathTexts.{path_text, pair_text, channel_text};
+ghost use Rattle.shim_base.specs.PathTexts.{path_text, channel_text};
 ghost use Rattle.shim_laws_journals.specs.Ranges.{HasStepsInRange, IsInRange, steps_in_all};
 ghost use Rattle.shim_replay.specs.JournalTexts.{IsJournalText, entry_lines, entry_words, journal_of, joined_lines, line};
 
 use crate::journal::steps_in;
 use crate::ranges::entries_fit;
-use shim_base::{Chan, List, NoMemory, Path, push_decimal};
+use shim_base::{Chan, List, NoMemory, Path, push_channel, push_decimal, push_path};
 use shim_run_log::{Entry, Event};
 use std::alloc::Global;
-
-fn push_pair(text: &mut List<u8>, pair: (u32, u32)) -> Result<(), NoMemory>
-    ensures { OnOk result (text.new ≡ text.old ++ pair_text pair) }
-{
-    text.extend_from_slice(b"/")?;
-    push_decimal(text, pair.0 as u64)?;
-    text.extend_from_slice(b".")?;
-    push_decimal(text, pair.1 as u64)
-}
-
-fn push_pairs(text: &mut List<u8>, pairs: &[(u32, u32)]) -> Result<(), NoMemory>
-    ensures { OnOk result (text.new ≡ text.old ++ flat_map pair_text pairs.now) }
-{
-    for pair in pairs {
-        push_pair(text, *pair)?;
-    }
-    Ok(())
-}
-
-fn push_path(text: &mut List<u8>, path: &Path) -> Result<(), NoMemory>
-    ensures { OnOk result (text.new ≡ text.old ++ path_text path.now) }
-{
-    text.extend_from_slice(b"main")?;
-    push_pairs(text, path.pairs())
-}
-
-fn push_channel(text: &mut List<u8>, chan: &Chan) -> Result<(), NoMemory>
-    ensures { OnOk result (text.new ≡ text.old ++ channel_text chan.now.channel) }
-{
-    push_path(text, chan.home())?;
-    text.extend_from_slice(b"#")?;
-    push_decimal(text, chan.serial() as u64)
-}
 
 // A word, and a path after it.
 fn push_word(text: &mut List<u8>, word: &[u8], path: &Path) -> Result<(), NoMemory>

@@ -46,13 +46,13 @@ total_joined (v ∷ vs) b = let e = total_joined vs b in omega (arith, ints)
 pub list_added : (s : ℕ) (a b : List ℤ) → residue (pos (residue (pos s +ℤ sum_of_values a)) +ℤ sum_of_values b) ≡ residue (pos s +ℤ sum_of_values (a ++ b))
 list_added s a b = residue_first (pos s +ℤ sum_of_values a) (sum_of_values b) ∙ ap residue (let e = total_joined a b in omega (arith, ints))
 
--- So the values behind a place are brought to the same residue from the sum that has the value of that place as from the one that lacks it.
+-- So the values after a place are brought to the same residue from the sum that has the value of that place as from the one that lacks it.
 pub value_added : (s r i g : ℕ) (vs : List ℤ) (d : ℤ) → i < length vs → r ≡ residue (get_or vs i d) → residue (pos s +ℤ sum_of_values (drop i vs)) ≡ g → residue (pos ((s + r) % 1000000) +ℤ sum_of_values (drop (i + 1) vs)) ≡ g
 value_added s r i g vs d inside is e =
     ap (λ x. residue (pos ((s + x) % 1000000) +ℤ sum_of_values (drop (i + 1) vs))) is ∙ one_added s (get_or vs i d) (sum_of_values (drop (i + 1) vs))
     ∙ sym (at_drop_more (λ l. residue (pos s +ℤ sum_of_values l)) vs i d inside) ∙ e
 
--- and the histories behind a place likewise
+-- and the histories after a place likewise
 pub history_added : (s r i g : ℕ) (hs : List History) (d : History) → i < length hs → r ≡ residue (pos s +ℤ sum_of_values (get_or hs i d).values) → residue (pos s +ℤ sum_of_values (all_values (drop i hs))) ≡ g
     → residue (pos r +ℤ sum_of_values (all_values (drop (i + 1) hs))) ≡ g
 history_added s r i g hs d inside is e =

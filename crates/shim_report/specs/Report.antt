@@ -1,7 +1,8 @@
 -- The report of a run.
 use Rattle.std.specs.Prelude.{ℕ, ℤ, ◌+◌, ◌/◌, ◌%◌, List, [], ◌∷◌, ◌++◌, length, if◌then◌else◌, nat_lt, codes, decimal, flat_map, slice_get, unwrap_or}
 use Rattle.std.specs.Fmt.{signed_decimal}
-use Rattle.shim_base.specs.Paths.{Path, Channel}
+use Rattle.shim_base.specs.Paths.{Path}
+use Rattle.shim_base.specs.PathTexts.{channel_text, path_text}
 use Rattle.shim_base.specs.declared.operators.Trap.{Trap}
 use Rattle.shim_base.specs.declared.operators.Trap.TheVariants.{Overflow, Zero, Shift, Depth}
 use Rattle.shim_local.specs.declared.ended.Ended.{Ended}
@@ -34,18 +35,6 @@ hex_part (b ∷ bytes) = 32 ∷ flat_map hex_byte (b ∷ bytes)
 -- a number in decimal, with a `-` before a negative one
 abbrev pub number_text : ℤ → List ℕ
 number_text v = signed_decimal v
-
--- `/FORK.BRANCH`
-unfoldable pub pair_text : ℕ × ℕ → List ℕ
-pair_text p = codes "/" ++ (decimal p.0 ++ (codes "." ++ decimal p.1))
-
--- `main`, and `/FORK.BRANCH` for each pair
-unfoldable pub path_text : Path → List ℕ
-path_text path = codes "main" ++ flat_map pair_text path
-
--- `HOME#SERIAL`
-unfoldable pub channel_text : Channel → List ℕ
-channel_text c = path_text c.home ++ (codes "#" ++ decimal c.serial)
 
 -- the name of a number, or `?` where the number is past the names
 abbrev pub name_text : Names → ℕ → List ℕ

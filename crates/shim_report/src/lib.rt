@@ -6,7 +6,7 @@ mod line;
 mod report;
 
 pub use fault::fault_text;
-pub use report::{push_channel, push_path, summary, text};
+pub use report::{summary, text};
 pub use shim_front_end::SourceFault;
 pub use shim_local::{Ended, History, Log, LogWhat, Outcome, OwnSteps, WaitAt};
 pub use shim_parser::ParseFault;

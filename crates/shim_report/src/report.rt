@@ -11,7 +11,6 @@ use shim_base::{List, Name, NoMemory};
 use shim_local::{Ended, History, Log, Outcome, OwnSteps, WaitAt};
 use std::alloc::Global;
 pub use sums::summary;
-pub use words::{push_channel, push_path};
 
 /// The report of a run: what was put, what each channel's rendezvous gave, what was caught and what trapped, who
 /// waits, and last how it ended. Before the end a run that was stopped has how many steps of its own each process

@@ -1,4 +1,4 @@
--- The units of functions stand at the numbers of their functions, and what is lifted out of them behind them all: so the count of the former is that of the functions.
+-- The units of functions stand at the numbers of their functions, and what is lifted out of them after them all: so the count of the former is that of the functions.
 use Rattle.std.proofs.Common.{ℕ, ◌+◌, ◌<◌, ◌≤◌, ◌≡◌, ◌∙◌, Bool, List, [], ◌∷◌, ◌++◌, Option, None, Some, Result, Ok, Err, length, eq-eqb, ne_eqb, refl, sym, ap, arith, if◌then◌else◌}
 use Rattle.shim_syntax.specs.Names.{Texts, with_functions}
 use Rattle.shim_syntax.specs.declared.Function.{Function}
@@ -59,7 +59,7 @@ lifted_below names all number next m (f ∷ fs) few =
     below_both m number r.lifted (lift_functions names all (number + 1) (next + length r.lifted) fs).lifted (omega (arith, few)) (body_stays f.body _ _ next)
     (lifted_below names all (number + 1) (next + length r.lifted) m fs (omega (arith, few)))
 
--- behind the functions' own units no unit stands at its function's number
+-- after the functions' own units no unit stands at its function's number
 none_more : (m : ℕ) (us : List UnitOf) → AreBelow m us → functions_from m us ≡ m
 none_more m [] h = refl
 none_more m (u ∷ us) h = ap (λ (b : Bool). if b then functions_from (m + 1) us else m) (ne_eqb u.function m (λ e. omega (arith, e, h.0)))

@@ -28,7 +28,7 @@ history_channel kept i = option_map (λ h. h.chan.channel) (slice_get kept i)
 abbrev pub number_in : BTreeMap NamedChannel ℕ → Channel → Option ℕ
 number_in numbers c = get_by (λ k. channel_order c k.channel) numbers
 
--- what the meetings on each channel gave
+-- what the rendezvous on each channel gave
 abbrev pub histories_of : BTreeMap NamedChannel ℕ → List History → finite.FinMap channel_order Met
 histories_of numbers kept = finite.from_entries (map (λ e. (e.0.channel, met_at kept e.1)) numbers.entries)
 

@@ -1,4 +1,4 @@
-// The values that the meetings on each channel gave.
+// The values that the rendezvous on each channel gave.
 ghost use Rattle.std.specs.Prelude.{◌≡◌, ℕ, None, true, false, [], ◌∷◌, ◌↔◌, IsTrue, OnOk, OnErr, IfOk, map};
 ghost use Rattle.std.specs.Option.{option_copied};
 ghost use Rattle.std.specs.FinMap as finite;
@@ -18,7 +18,7 @@ use std::sync::Arc;
 /// finds them by the table of recent channels, and the map is asked only where that doesn't have the channel.
 #[derive(Drop)]
 pub struct Histories {
-    // in the order of the first meetings
+    // in the order of the first rendezvous
     kept: Vec<History>,
     // where in that order each channel stands
     numbers: BTreeMap<Chan, usize, Global>,
@@ -147,7 +147,7 @@ fn is_of(kept: &[History], number: usize, chan: &Chan) -> bool
     }
 }
 
-// The history of a channel at its first meeting.
+// The history of a channel at its first rendezvous.
 fn first_history(alloc: Global, chan: &Chan, name: u32, value: i64) -> Result<History, NoMemory>
     ensures { IfOk result (λ first. first ≡ record { chan = record { channel = chan.now.channel; name = name }; values = value ∷ [] }) }
 {

@@ -1,5 +1,5 @@
 //! What a run leaves, beside how its processes stand: its events and the entries of its journal, the values that
-//! meetings gave, what was logged, who waits, and how many steps of its own each process did.
+//! rendezvous gave, what was logged, who waits, and how many steps of its own each process did.
 #![tactic(auto)]
 
 mod entry;

@@ -1,4 +1,4 @@
--- A fork closes: its children's counts are kept behind the others.
+-- A fork closes: its children's counts are kept after the others.
 use Rattle.std.proofs.Common.{◌≡◌, ◌≢◌, ◌<◌, ◌+◌, ◌⊎◌, inl, inr, ℕ, true, Some, None, List, [], ◌++◌, length, refl, sym, ap, subst, ◌∙◌, arith}
 use Rattle.std.proofs.lemmas.List.{append-nil}
 use Rattle.shim_local.specs.Process.{Ops}

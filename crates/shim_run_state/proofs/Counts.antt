@@ -66,7 +66,7 @@ fresh f g (n ∷ ns) past h =
     on a b (inl e) es fs go = ap (λ k. counted (entry k n ++ es)) e ∙ front a n es fs go
     on a b (inr w) es fs go = nothing b es (some_same n 0 w.1) ∙ (go ∙ sym (ap (λ k. counted (entry k n ++ fs)) w.0))
 
--- where some numbers go out of use, whose counts are kept behind those of the others
+-- where some numbers go out of use, whose counts are kept after those of the others
 pub split : (f g h : ℕ → Option Path) (ns : List ℕ) (past : List StepCount) → ((i : ℕ) → ((g i ≡ f i) × (h i ≡ None)) ⊎ ((g i ≡ None) × (h i ≡ f i)))
     → counted (counts_from f ns ++ past) ≡ counted (counts_from g ns ++ (counts_from h ns ++ past))
 split f g h [] past w = refl

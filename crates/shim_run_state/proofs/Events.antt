@@ -78,7 +78,7 @@ module _ {S : Type 0} (o : Ops S) where
         let root = root_is behind m.0.root m.2 in
         happened (Close (o.path l)) m.0 m.1 m.2 (is ∙ (ap (λ (z : Acted S). with_event_effects (tree_in o before) m.0.root (o.path l) z.effects) (sym did) ∙ sym (λ t. tree_with (root t) (output t) (histories t) (logs t) (counts t) (events t))))
 
-    -- a meeting, which gave the value of the channel's source, under the name that its first one brings
+    -- a rendezvous, which gave the value of the channel's source, under the name that its first one brings
     pub meet : (c : Channel) → Performs o (Meet c) before.table behind.table → behind.output ≡ before.output
         → behind.histories ≡ recorded before.histories c (unwrap_or (first_name o c (tree_in o before).root) 0) (value_of o c (source o c (tree_in o before).root)) → behind.logs ≡ before.logs
         → counts_in behind ≡ counts_in before → behind.events ≡ before.events + 1 → Happened (Meet c)

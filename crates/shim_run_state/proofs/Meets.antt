@@ -1,4 +1,4 @@
--- A meeting has happened: its value is recorded, and all that share the channel have received it.
+-- A rendezvous has happened: its value is recorded, and all that share the channel have received it.
 use Rattle.std.proofs.Common.{◌≡◌, ◌<◌, ◌+◌, ℕ, ℤ, Bool, List, [], inr, refl, ap, ◌∙◌, arith}
 use Rattle.std.specs.Prelude.{unwrap_or}
 use Rattle.std.specs.FinMap as finite

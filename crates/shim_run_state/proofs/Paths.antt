@@ -31,7 +31,7 @@ module _ {S : Type 0} (o : Ops S) where
       on (Some s) (Some free) e f = inr (λ t. path_by o (e t) (f t))
       on (Some s) (Some (used g k)) e f = inl (record { first = g; process = s; status_is = k; has = record { state_is = e; view_is = f } })
 
-  -- a number has the same path, where it is in use with that path before and behind, or neither
+  -- a number has the same path, where it is in use with that path before and after, or neither
   pub same_path_at : (v w : TableView S) (i : ℕ) → ((u : InUse v i) → path_at o w i ≡ Some (o.path u.process)) → (InUse w i → InUse v i) → path_at o w i ≡ path_at o v i
   same_path_at v w i to from = elim (in_use_or_not v i) [
     | inl u ↦ to u ∙ sym (path_of v i u.first u.process u.status_is u.has)

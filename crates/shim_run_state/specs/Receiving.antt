@@ -1,4 +1,4 @@
--- What a meeting leaves of processes, of the lists kept of them, and of the values that were met.
+-- What a rendezvous leaves of processes, of the lists kept of them, and of the values that were met.
 use Rattle.std.specs.Prelude.{◌≡◌, ℤ, unwrap_or}
 use Rattle.std.specs.FinMap as finite
 use Rattle.shim_base.specs.Paths.{Path, Channel, channel_order}

@@ -17,7 +17,7 @@ use shim_local::{Local, Log, LogWhat};
 use shim_process_table::{Queue, Requeue, Thrown};
 use shim_run_log::Event;
 
-// A byte that was put, if there is one, comes behind the others.
+// A byte that was put, if there is one, comes after the others.
 fn append_byte(output: &mut Vec<u8>, byte: Option<u8>)
     requires { vec_len output.old < vec_capacity output.old }
     ensures { output.new.items ≡ output.old.items ++ (putting byte).bytes }
@@ -28,7 +28,7 @@ fn append_byte(output: &mut Vec<u8>, byte: Option<u8>)
     }
 }
 
-/// That the process of this path caught what it threw, if it did, is logged behind the rest.
+/// That the process of this path caught what it threw, if it did, is logged after the rest.
 pub(crate) fn log_catch(logs: &mut Vec<Log>, path: Path, thrown: Thrown)
     requires { vec_len logs.old < vec_capacity logs.old }
     ensures { logged logs.new.items ≡ with_logs (logged logs.old.items) path (throw_effects thrown).logs }

@@ -19,7 +19,7 @@ use shim_process_table::{CloseOutcome, ProcessTable, Requeue};
 use shim_run_log::Event;
 use std::alloc::Global;
 
-// That the process of this path caught what a child had died of, if it did, is logged behind the rest.
+// That the process of this path caught what a child had died of, if it did, is logged after the rest.
 fn log_close(logs: &mut Vec<Log>, path: Path, outcome: CloseOutcome)
     requires { vec_len logs.old < vec_capacity logs.old }
     ensures { logged logs.new.items ≡ with_logs (logged logs.old.items) path (close_effects outcome).logs }

@@ -1,4 +1,4 @@
-// A meeting, and the value that is recorded of it.
+// A rendezvous, and the value that is recorded of it.
 ghost use Rattle.std.specs.Prelude.{◌≡◌, ◌<◌, IfOk, OnOk, OnErr};
 ghost use Rattle.std.specs.Option.{option_copied};
 ghost use Rattle.shim_semantics.specs.Nodes.{next_channel};
@@ -17,7 +17,7 @@ use crate::process_lists::ProcessLists;
 use crate::run_state::RunState;
 use shim_base::{Chan, NoMemory};
 use shim_local::{Local, Stop};
-use shim_process_table::{ProcessTable, Sharers};
+use shim_process_table::{FoundProcesses, ProcessTable};
 use shim_run_log::{Event, Histories};
 
 // The channel at which the process is, if it is at one.
@@ -35,14 +35,15 @@ fn awaited<L: Local>(process: &L) -> Option<&Chan>
     }
 }
 
-// The value comes behind the others of the channel, whose home has this number. Its name is looked for at its
-// first meeting alone, since no other one brings it, and among all that share the channel, which are then listed.
+// The value comes after the others of the channel, whose home has this number. The channel's name is looked for at
+// its first rendezvous alone, since later ones bring none, and among all that share the channel, which are then
+// listed.
 fn record<L: Local>(
     table: &ProcessTable<L>,
     histories: &mut Histories,
     number: u32,
     c: &Chan,
-    sharers: &mut Sharers,
+    sharers: &mut FoundProcesses,
     value: i64,
 ) -> Result<(), NoMemory>
     requires home { Declares L.ops table.now number c.now.channel }
@@ -97,7 +98,7 @@ fn receive_one<L: Local>(
 }
 
 impl<L: Local> RunState<L> {
-    // The meeting of the channel at which the process is, which declared it.
+    // The rendezvous of the channel at which the process is, which declared it.
     pub(crate) fn meet_alone(&mut self, number: u32) -> Result<Event, NoMemory>
         requires few { steps (tree_in L.ops self.old) < 4000000 }
         requires alone { MeetsAlone L.ops self.old.table number }
@@ -113,7 +114,7 @@ impl<L: Local> RunState<L> {
         }
     }
 
-    // The meeting of the channel of this pair of the process's fork, which declared it.
+    // The rendezvous of the channel of this pair of the process's fork, which declared it.
     pub(crate) fn meet(&mut self, number: u32, pair: usize) -> Result<Event, NoMemory>
         requires few { steps (tree_in L.ops self.old) < 4000000 }
         requires there { IsReadyToMeet L.ops self.old.table number pair }
@@ -124,7 +125,7 @@ impl<L: Local> RunState<L> {
         self.meet_on(number, chan)
     }
 
-    // The meeting of the channel, whose home has this number. Its value is recorded first, which may want
+    // The rendezvous of the channel, whose home has this number. Its value is recorded first, which may want
     // memory.
     fn meet_on(&mut self, number: u32, chan: Chan) -> Result<Event, NoMemory>
         requires few { steps (tree_in L.ops self.old) < 4000000 }

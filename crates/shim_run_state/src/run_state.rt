@@ -10,7 +10,7 @@ ghost use Rattle.shim_run_state.specs.CheckingOut.{NoneCheckedOut};
 use crate::process_lists::ProcessLists;
 use shim_base::{Chan, NoMemory, Path};
 use shim_local::{Local, Log};
-use shim_process_table::{ProcessTable, Sharers};
+use shim_process_table::{FoundProcesses, ProcessTable};
 use shim_run_log::Histories;
 use std::alloc::Global;
 use std::marker::Model;
@@ -39,7 +39,7 @@ pub struct RunState<L: Local> {
     pub(crate) events: u64,
     pub(crate) taken: u64,
     /// The numbers of processes that a rendezvous or a poison may concern. Their room is used again.
-    pub(crate) sharers: Sharers,
+    pub(crate) sharers: FoundProcesses,
 }
 
 impl<L: Local> Model for RunState<L> {
@@ -80,7 +80,7 @@ impl<L: Local> RunState<L> {
             past: Vec::new(alloc),
             events: 0,
             taken: 0,
-            sharers: Sharers::new(alloc),
+            sharers: FoundProcesses::new(alloc),
         })
     }
 

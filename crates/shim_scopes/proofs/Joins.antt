@@ -1,4 +1,4 @@
--- One more function behind those that are done.
+-- One more function after those that are done.
 use Rattle.std.proofs.Common.{◌≡◌, List, [], ◌∷◌, ◌++◌, Result, Ok, Err, refl, ap, sym}
 use Rattle.std.proofs.lemmas.List.{append_assoc}
 use Rattle.shim_scopes.specs.declared.tree.RFunction.{RFunction}

@@ -1,4 +1,4 @@
--- One more statement of a list, and one more branch of a fork, behind those that are done.
+-- One more statement of a list, and one more branch of a fork, after those that are done.
 use Rattle.std.proofs.Common.{ℕ, ◌+◌, ◌≡◌, ◌∙◌, List, [], ◌∷◌, ◌++◌, Ok, Err, drop, refl, sym, ap}
 use Rattle.std.proofs.lemmas.List.{append_assoc}
 use Rattle.shim_syntax.specs.declared.tree.Stmt.{Stmt}

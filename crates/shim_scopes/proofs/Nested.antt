@@ -93,7 +93,7 @@ begins start n s e = ap (λ i. before_of i s) e ∙ before_inside start s
 pub kept_both : {n : ℕ} {s t u : Scope} → Kept n s t → Kept n t u → Kept n s u
 kept_both k l = record { outer = l.outer ∙ k.outer; long = l.long; handled = l.handled ∙ k.handled; throws = l.throws ∙ k.throws }
 
--- what was in scope before a block is in scope behind it
+-- what was in scope before a block is in scope after it
 kept_cut : {n : ℕ} {s t : Scope} → n ≡ length s.visible → Kept n s t → take n t.visible ≡ s.visible
 kept_cut {n = n} {s = s} e k =
     let all : take (length s.visible) s.visible ≡ s.visible = grind (arith, common_steps) in
@@ -224,7 +224,7 @@ try_behind start n names x s one two three made len t k cut =
     let handled : take n two.handled ≡ s.handled = ap (λ (hs : List Handled). take n hs) whole ∙ ap (λ i. take i (s.handled ++ record { name = x; number = s.throws + length s.tries } ∷ [])) len ∙ front in
     ap (λ (v : Scope). around_of start v) cut ∙ rw (outer, handled, throws) refl
 
--- the place inside a handler, behind its variable
+-- the place inside a handler, after its variable
 in_handler : (w : Whole) (start n : ℕ) (s t : Scope) (y : Option (List ℕ)) (slot : Option ℕ) (f : Bodies) (m : Meant (List RStmt))
     → n ≡ length s.visible → IsBegun w.names y (before_of n s) slot (before_of n t) → Kept n s t → f (around_of n t) (before_of n t) ≡ m
     → bind_handler w y f (inside_block (around_of start s) (before_of start s)) (opened (before_of start s)) ≡ m

@@ -47,7 +47,7 @@ pub behind_body : (w : Whole) (start n : ℕ) (s t : Scope) (body : List Stmt) (
     → HasRoom (stmts_size body + n) s → HasRoom n t
 behind_body w start n s t body made e k r = room_behind (stmts_size body) n start s t (body_adds w body (around_of start s) (before_of start s) _ e) k.throws r
 
--- behind one statement of a list, and one branch of a fork
+-- after one statement of a list, and one branch of a fork
 
 pub behind_stmt : (w : Whole) (start i : ℕ) (s t : Scope) (body : List Stmt) (stmt : Stmt) (made : RStmt) → drop i body ≡ stmt ∷ drop (i + 1) body
     → bind_stmt w stmt (around_of start s) (before_of start s) ≡ Ok (record { tree = made; before = before_of start t }) → Kept start s t

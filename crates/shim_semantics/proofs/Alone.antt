@@ -4,7 +4,7 @@ use Rattle.shim_base.specs.Paths.{Path, same_path}
 use Rattle.shim_local.specs.Process.{Ops, StopView, AtQuiet, AtNext, AtPut, AtFork, AtFinish, AtThrow, AtTrap}
 use Rattle.shim_semantics.specs.Nodes.{Node, Nodes, Live, Forked, Ended, Dead, states, all_done, prevailing_death}
 use Rattle.shim_semantics.specs.Acts.{Acted, closed, act_here, act_live}
-use Rattle.shim_semantics.specs.Listing.{IsAmong}
+use Rattle.shim_base.specs.Lists.{IsAmong}
 use Rattle.shim_semantics.specs.Trees.{Event, Own, Meet, Poison, Close, End, OwnAction, Steps, Ends, Closes, Nothing, own_action_at, same_own_action, is_its}
 use Rattle.shim_semantics.specs.Walks.{all_waited, in_order, own_events, meets_here, here}
 use Rattle.shim_semantics.proofs.Members.{among_left, among_either, among_mapped}

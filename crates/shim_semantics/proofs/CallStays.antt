@@ -1,4 +1,4 @@
--- A put, a meeting's value and a throw that traps keep a tree sound: no process shares, carries or holds more.
+-- A put, a rendezvous's value and a throw that traps keep a tree sound: no process shares, carries or holds more.
 use Rattle.std.proofs.Common.{◌≡◌, true, inl, inr, sym, ◌∙◌}
 use Rattle.shim_base.specs.Paths.{Channel}
 use Rattle.shim_local.specs.Process.{Ops}

@@ -5,7 +5,8 @@ use Rattle.shim_local.specs.Process.{Ops}
 use Rattle.shim_semantics.specs.Nodes.{Node, state, ready, source, value_of}
 use Rattle.shim_semantics.specs.Acts.{Acted}
 use Rattle.shim_semantics.specs.Poison.{is_ready_child, is_doomed, can_poison, to_fork, last_branch, poison_route}
-use Rattle.shim_semantics.specs.Listing.{IsAmong, ListsEnabled}
+use Rattle.shim_semantics.specs.Listing.{ListsEnabled}
+use Rattle.shim_base.specs.Lists.{IsAmong}
 use Rattle.shim_semantics.specs.Places.{at, route, at_route, led_to, home_is_ready, meets, has_path, SoundBelow}
 use Rattle.shim_semantics.specs.Trees.{Tree, Event, Own, Meet, Poison, Close, End, Steps, Ends, Closes, is_its, act_route, acts, count_own, count_event, change_nodes, poisons, met, after, IsQuiescent}
 use Rattle.shim_semantics.specs.Walks.{waited, in_order, poisons_here, poisons_of, walk, head}
@@ -89,7 +90,7 @@ module _ {S : Type 0} (o : Ops S) where
           let w = among_mapped (Poison (o.path (state k))) e (in_order (filter (poisons_here o l ks i k) (waited o k))) z in
           absurd (d (ap does w.1))
 
-  -- ---- meetings
+  -- ---- rendezvous
 
   meet_listed : (c : Channel) (t a : Tree S) → after o (Meet c) t ≡ Some a → IsAmong (Meet c) (walk o t.root)
   meet_listed c t a e = at_branches (route (o.path (state t.root)) c.home) (chosen (meets o c t.root) (Some (met o c (value_of o c (source o c t.root)) t)) a e).0

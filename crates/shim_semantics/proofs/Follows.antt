@@ -75,7 +75,7 @@ module _ {S : Type 0} (o : Ops S) where
   pub stays_keeps_own : (m n : Node S) → Stays o m n → KeepsOwn o m n
   stays_keeps_own m n h = record { below = h.below; follows = h.follows; carried = λ c. inl (h.carried c); no_more_holders = h.no_more_holders }
 
-  -- behind a change after which the process shares the same
+  -- after a change after which the process shares the same
   pub keeps_own_after : (k m n : Node S) → Stays o k m → ((c : Channel) → o.shares (state m) c ≡ o.shares (state k) c) → KeepsOwn o m n → KeepsOwn o k n
   keeps_own_after k m n f alike g = record {
     below = g.below;

@@ -8,7 +8,7 @@ use Rattle.shim_semantics.specs.Places.{after_front, branches, option_branches, 
 use Rattle.shim_semantics.specs.Trees.{act_route}
 use Rattle.shim_base.proofs.Facts.{some_same}
 
--- a route is made of the branches behind the front
+-- a route is made of the branches after the front
 pub route_rest : (r p : Path) (q : List ℕ) → route r p ≡ Some q → (length r ≤ length p) × (q ≡ branches (drop (length r) p))
 route_rest [] p q e = (omega arith, some_same q (branches p) (sym e))
 route_rest (x ∷ r) [] q e = absurd cc

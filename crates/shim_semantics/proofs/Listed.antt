@@ -9,7 +9,8 @@ use Rattle.shim_semantics.specs.Places.{SoundBelow}
 use Rattle.shim_semantics.specs.Trees.{Tree, Event, after, IsQuiescent}
 use Rattle.shim_semantics.specs.Walks.{walk}
 use Rattle.shim_semantics.specs.Endings.{is_empty, outcome_of_label, outcome_of_root, outcome, ended}
-use Rattle.shim_semantics.specs.Listing.{IsAmong, AreEnabled}
+use Rattle.shim_semantics.specs.Listing.{AreEnabled}
+use Rattle.shim_base.specs.Lists.{IsAmong}
 use Rattle.shim_semantics.proofs.Enabled.{listed_enabled, enabled_listed, empty_is_quiescent}
 use Rattle.shim_base.proofs.Facts.{none_some}
 

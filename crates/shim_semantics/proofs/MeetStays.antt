@@ -1,4 +1,4 @@
--- A meeting keeps a tree sound.
+-- A rendezvous keeps a tree sound.
 use Rattle.std.proofs.Common.{◌≡◌, ◌≢◌, ◌≤◌, ℕ, ℤ, ◌+◌, Bool, true, List, [], ◌∷◌, ◌++◌, cond, inl, inr, refl, sym, subst}
 use Rattle.shim_base.specs.Paths.{Channel, NamedChannel}
 use Rattle.shim_local.specs.Process.{Ops, StopView, AtQuiet, AtNext, AtPut, AtFork, AtFinish, AtThrow, AtTrap}

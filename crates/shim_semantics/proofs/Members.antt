@@ -7,7 +7,7 @@ use Rattle.shim_base.specs.PathLaws.{exact_channel, channel_order_total}
 use Rattle.shim_base.proofs.Facts.{no_items}
 use Rattle.std.specs.FinMap.{put, entries, empty, from_entries, entries-insert, len-entries, len-empty}
 use Rattle.std.specs.FinMap.Entries.{by_order}
-use Rattle.shim_semantics.specs.Listing.{IsAmong}
+use Rattle.shim_base.specs.Lists.{IsAmong}
 use Rattle.shim_semantics.specs.Walks.{as_key, in_order}
 
 abbrev firsts : {A B : Type 0} → List (A × B) → List A

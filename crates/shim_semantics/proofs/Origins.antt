@@ -2,7 +2,7 @@
 use Rattle.std.proofs.Common.{◌≡◌, ℕ, zero, suc, ◌+◌, Some, List, [], ◌∷◌, ◌++◌, inl, inr, refl, sym, subst, arith}
 use Rattle.shim_local.specs.Process.{Ops}
 use Rattle.shim_semantics.specs.Nodes.{Node, Nodes, Live, Forked, Ended, Dead, no_node, node_and}
-use Rattle.shim_semantics.specs.Listing.{IsAmong}
+use Rattle.shim_base.specs.Lists.{IsAmong}
 use Rattle.shim_semantics.specs.Places.{at, child_at}
 use Rattle.shim_semantics.specs.Trees.{Event}
 use Rattle.shim_semantics.specs.Walks.{here, poisons_of, walk, walk_all}

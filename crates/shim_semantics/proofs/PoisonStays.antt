@@ -53,7 +53,7 @@ module _ {S : Type 0} (o : Ops S) where
     | false ↦ record { below = s; state_is = refl; all = refl }
   ]
 
-  -- the children behind a fork, each as it was or as it is then
+  -- the children after a fork, each as it was or as it is then
   forked_alike : (l : S) (ks js : Nodes S) (s : SoundBelow o (Forked l ks)) → AreAlike l s.number 0 ks js → IsAlike (Forked l ks) (Forked l js)
   forked_alike l ks js s w = record {
     below = record {

@@ -1,9 +1,9 @@
--- Where a node is ready on a channel some live process stands at it; so the node that declared the channel lists the meeting just where it is ready.
+-- Where a node is ready on a channel some live process stands at it; so the node that declared the channel lists the rendezvous just where it is ready.
 use Rattle.std.proofs.Common.{◌≡◌, Bool, true, false, [], ◌∷◌, ◌&&◌, ◌||◌, inl, inr, not, cond, map, filter, refl, sym, ap, subst, ◌∙◌}
 use Rattle.shim_base.specs.Paths.{Path, Channel, same_path, same_channel}
 use Rattle.shim_local.specs.Process.{Ops, StopView, AtQuiet, AtNext, AtPut, AtFork, AtFinish, AtThrow, AtTrap}
 use Rattle.shim_semantics.specs.Nodes.{Node, Nodes, Live, Forked, Ended, Dead, no_node, node_and, state, goes, is_dead, all_done, next_channel, is_next, any_sharer, ready, all_ready}
-use Rattle.shim_semantics.specs.Listing.{IsAmong}
+use Rattle.shim_base.specs.Lists.{IsAmong}
 use Rattle.shim_semantics.specs.Trees.{Meet, Poison, Close}
 use Rattle.shim_semantics.specs.Walks.{as_list, waited, all_waited, in_order, own_events, meets_here, here}
 use Rattle.shim_semantics.proofs.Alone.{among_close}
@@ -99,7 +99,7 @@ module _ {S : Type 0} (o : Ops S) where
           | inr z ↦ among_right c (waited o k) (all_waited o ks) (all_ready_waited c ks z (second_holds first (all_ready o c ks) h))
         ]
 
-  -- the node that lists a meeting declared the channel, and is ready on it
+  -- the node that lists a rendezvous declared the channel, and is ready on it
   pub listed_meets : (c : Channel) (m : Node S) → IsAmong (Meet c) (here o m) → meets_here o m c ≡ true
   listed_meets c (Live l) h =
       let w = live_meets c (o.path l) (o.stop l) h in

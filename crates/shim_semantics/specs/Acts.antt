@@ -48,7 +48,7 @@ abbrev pub throwing : {S : Type 0} → Ops S → S → ℕ → Option ℤ → Ac
 throwing o l x None = record { node = Live (o.thrown l); effects = nothing }
 throwing o l x (Some v) = thrown o l (death_with x v)
 
--- A fork whose children are done closes: the process has their values again, and stands behind the fork where all have ended. Where some died it still stands at the fork, and the exception of the prevailing death is thrown in it.
+-- A fork whose children are done closes: the process has their values again, and stands after the fork where all have ended. Where some died it still stands at the fork, and the exception of the prevailing death is thrown in it.
 abbrev pub closed : {S : Type 0} → Ops S → S → List S → Option Death → Acted S
 closed o l ks None = record { node = Live (o.join l ks true); effects = nothing }
 closed o l ks (Some d) = thrown o (o.join l ks false) d
@@ -93,6 +93,6 @@ done_above = record { above = within; first = in_front; later = in_later; nowher
 abbrev pub act : {S : Type 0} → Ops S → List ℕ → Node S → Option (Acted S)
 act o = apply_at done_above (act_here o)
 
--- the same from some children, by the branch to one of them and those behind it
+-- the same from some children, by the branch to one of them and those after it
 abbrev pub act_child : {S : Type 0} → Ops S → ℕ → List ℕ → Nodes S → Option (Nodes S × Effects)
 act_child o = apply_among done_above (act_here o)

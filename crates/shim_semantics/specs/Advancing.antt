@@ -21,7 +21,7 @@ replaced_above = record { above = Forked; first = λ ks k. node_and k ks; later 
 abbrev pub with_state_at : {S : Type 0} → S → List ℕ → Node S → Node S
 with_state_at m = apply_at replaced_above (with_state m)
 
--- the same from some children, by the branch to one of them and those behind it
+-- the same from some children, by the branch to one of them and those after it
 abbrev pub with_state_in : {S : Type 0} → S → ℕ → List ℕ → Nodes S → Nodes S
 with_state_in m = apply_among replaced_above (with_state m)
 

@@ -6,7 +6,7 @@ use Rattle.shim_semantics.specs.Nodes.{Node, Nodes, Live, Forked, Ended, Dead, n
 pub record Ascent (S A B : Type 0) : Type 0 where
   -- of a fork, from what is made of its children
   pub above : S → B → A
-  -- of some children, from what is made of the first of them, or of those behind it
+  -- of some children, from what is made of the first of them, or of those after it
   pub first : Nodes S → A → B
   pub later : Node S → B → B
   -- the branches lead on from a node that has no children, or to a child that isn't there

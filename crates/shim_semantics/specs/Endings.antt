@@ -96,10 +96,10 @@ abbrev pub values_in : Option Met → Option (List ℤ)
 values_in None = None
 values_in (Some h) = Some h.values
 
--- the values that the channel's meetings gave, where it had one
+-- the values that the channel's rendezvous gave, where it had one
 abbrev pub history_at : {S : Type 0} → Channel → Tree S → Option (List ℤ)
 history_at c t = values_in (finite.get t.histories c)
 
--- The values that the channel's meetings gave as one list, which is empty where it had none.
+-- The values that the channel's rendezvous gave as one list, which is empty where it had none.
 abbrev pub values_on : {S : Type 0} → Channel → Tree S → List ℤ
 values_on c t = unwrap_or (history_at c t) []

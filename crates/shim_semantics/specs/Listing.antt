@@ -1,14 +1,10 @@
 -- What it means that a walk lists the enabled events.
 use Rattle.std.specs.Prelude.{◌≡◌, ◌≢◌, ◌⊎◌, ◌↔◌, Some, None, List, [], ◌∷◌}
+use Rattle.shim_base.specs.Lists.{IsAmong}
 use Rattle.shim_local.specs.Process.{Ops}
 use Rattle.shim_semantics.specs.Places.{SoundBelow}
 use Rattle.shim_semantics.specs.Trees.{Tree, Event, after}
 use Rattle.shim_semantics.specs.Walks.{walk}
-
--- e equals an element of the list
-abbrev pub IsAmong : {E : Type 0} → E → List E → Type 0
-IsAmong e [] = ⊥
-IsAmong e (f ∷ fs) = (e ≡ f) ⊎ IsAmong e fs
 
 -- where `SoundBelow` holds of the root, each event of the walk is enabled, and each enabled event is of the walk
 abbrev pub ListsEnabled : {S : Type 0} → Ops S → Type 0

@@ -13,7 +13,7 @@ found_above = record { above = λ l n. n; first = λ ks n. n; later = λ k n. n;
 abbrev pub at : {S : Type 0} → List ℕ → Node S → Option (Node S)
 at = apply_at found_above Some
 
--- the same from some children, by the branch to one of them and those behind it
+-- the same from some children, by the branch to one of them and those after it
 abbrev pub child_at : {S : Type 0} → ℕ → List ℕ → Nodes S → Option (Node S)
 child_at = apply_among found_above Some
 
@@ -22,7 +22,7 @@ abbrev pub branches : Path → List ℕ
 branches [] = []
 branches (x ∷ p) = x.1 ∷ branches p
 
--- what is left of the second path behind the first, where that is a prefix of it
+-- what is left of the second path after the first, where that is a prefix of it
 abbrev pub after_front : Path → Path → Option Path
 after_front [] q = Some q
 after_front (x ∷ p) [] = None

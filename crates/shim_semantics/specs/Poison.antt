@@ -81,7 +81,7 @@ changed_above = record { above = above; first = before_rest; later = after_one; 
 abbrev pub poison : {S : Type 0} → Ops S → Channel → ℕ → List ℕ → Node S → Option (Node S)
 poison o c i = apply_at changed_above (poison_node o c i)
 
--- the same from some children, by the branch to one of them and those behind it
+-- the same from some children, by the branch to one of them and those after it
 abbrev pub poison_child : {S : Type 0} → Ops S → Channel → ℕ → ℕ → List ℕ → Nodes S → Option (Nodes S)
 poison_child o c i = apply_among changed_above (poison_node o c i)
 

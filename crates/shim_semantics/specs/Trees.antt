@@ -9,7 +9,7 @@ use Rattle.shim_semantics.specs.Acts.{Acted, act}
 use Rattle.shim_semantics.specs.Poison.{poison_route}
 use Rattle.shim_semantics.specs.Places.{route, led_to, has_path, meets}
 
--- the values that the meetings on a channel gave, and the number of the name by which it is printed
+-- the values that the rendezvous on a channel gave, and the number of the name by which it is printed
 pub record Met : Type 0 where
   pub name : ℕ
   pub values : List ℤ
@@ -142,7 +142,7 @@ with_met name v (Some h) = record { name = h.name; values = h.values ++ v ∷ []
 abbrev pub recorded : map.FinMap channel_order Met → Channel → ℕ → ℤ → map.FinMap channel_order Met
 recorded m c name v = map.insert m c (with_met name v (map.get m c))
 
--- the channel's meeting gave this value
+-- the channel's rendezvous gave this value
 abbrev pub met : {S : Type 0} → Ops S → Channel → ℤ → Tree S → Tree S
 met o c v t = record { root = received o c v t.root; output = t.output; histories = recorded t.histories c (unwrap_or (first_name o c t.root) 0) v; logs = t.logs; counts = t.counts; events = t.events + 1 }
 

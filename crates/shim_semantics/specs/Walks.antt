@@ -32,7 +32,7 @@ as_key c = (c, tt)
 abbrev pub in_order : List Channel → List Channel
 in_order cs = finite.keys (finite.from_entries {R = channel_order} (map as_key cs))
 
--- what a live process can do: its own step or its end, or the meeting of the channel at which it stands, if it declared that
+-- what a live process can do: its own step or its end, or the rendezvous of the channel at which it stands, if it declared that
 abbrev pub own_events : Path → StopView → List Event
 own_events p AtQuiet = Own p ∷ []
 own_events p AtPut = Own p ∷ []
@@ -46,7 +46,7 @@ own_events p (AtTrap kind line) = Own p ∷ []
 abbrev pub meets_here : {S : Type 0} → Ops S → Node S → Channel → Bool
 meets_here o n c = same_path c.home (o.path (state n)) && ready o c n
 
--- The events at the node itself. Of a live process they are its own. Of a fork they are its close, if its children are done, and then the meetings of the channels that it declared and is ready on. Where it is ready on a channel, some live process below it stands there.
+-- The events at the node itself. Of a live process they are its own. Of a fork they are its close, if its children are done, and then the rendezvous of the channels that it declared and is ready on. Where it is ready on a channel, some live process below it stands there.
 abbrev pub here : {S : Type 0} → Ops S → Node S → List Event
 here o (Live l) = own_events (o.path l) (o.stop l)
 here o (Forked l ks) = cond (all_done ks) (Close (o.path l) ∷ []) [] ++ map Meet (in_order (filter (meets_here o (Forked l ks)) (all_waited o ks)))

@@ -20,7 +20,7 @@ forks_joined n [] qs h k = k
 forks_joined n (Fork line branches ∷ ps) qs h k = (h.0, forks_joined n ps qs h.1 k)
 forks_joined n (Called line gs ∷ ps) qs h k = forks_joined n ps qs h k
 
--- of two texts, one behind the other
+-- of two texts, one after the other
 pub forks_of_both : (a b n : ℕ) (ps qs : List SharingPlace) → a ≤ n → b ≤ n → ForksWithin a ps → ForksWithin b qs → ForksWithin n (ps ++ qs)
 forks_of_both a b n ps qs l m h k = forks_joined n ps qs (forks_fewer a n ps l h) (forks_fewer b n qs m k)
 

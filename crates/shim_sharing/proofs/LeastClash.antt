@@ -44,7 +44,7 @@ least_of (suc n) p x e =
           }
     ]
 
--- of the branch i with those behind it, the first of which is j
+-- of the branch i with those after it, the first of which is j
 record ClashWith (n i j : ℕ) (s : Captures) (ts : List Captures) (c : Clash) : Type 0 where
   is_i : c.first ≡ i
   at : ℕ

@@ -100,7 +100,7 @@ args_within slots ps (a ∷ es) = omega (arith, arg_within slots (lends_first ps
 call_within : (fs : List RFunction) (c : RCall) (w : SlotMap) → unit_call_size (moved_call fs c w) ≤ call_size c
 call_within fs c w = omega (arith, args_within w.slots (params_at fs c.function) c.args)
 
--- the units that are lifted, one list behind another
+-- the units that are lifted, one list after another
 
 pub joined_sizes : (us vs : List UnitOf) → units_size (us ++ vs) ≡ units_size us + units_size vs
 joined_sizes [] vs = omega arith

@@ -1,4 +1,4 @@
--- Trees that are lifted one after another, each behind the units of those before it.
+-- Trees that are lifted one after another, each after the units of those before it.
 use Rattle.std.proofs.Common.{◌≡◌, ◌∙◌, ℕ, ◌+◌, List, [], ◌∷◌, ◌++◌, length, sym, ap, arith, length-append, append_assoc}
 use Rattle.shim_scopes.specs.declared.tree.RBranch.{RBranch, fold_out-RBranch}
 use Rattle.shim_scopes.specs.declared.tree.RBranchWhat.{RBranchWhat-F, roll-RBranchWhat, fold-roll-RBranchWhat}
@@ -98,7 +98,7 @@ block_unit context w body o n made captured =
     ∙ ap (λ i. branch_unit context n (branch_captures context body) (branch_slots context body w) (branch_exceptions body w) i o.tries made) captured.inner
     ∙ ap (λ xs. branch_unit context n (branch_captures context body) (branch_slots context body w) (branch_exceptions body w) (branch_inner context body w) xs made) captured.tries
 
--- the unit goes behind the others, and then what was lifted out of it
+-- the unit goes after the others, and then what was lifted out of it
 pub block_units : (context : LiftContext) (w : SlotMap) (body : List (Part UStmt)) (o : BranchCaptures) (n u after : ℕ) (made : List UStmt) (unit : UnitOf) (us start nested vs ws : List UnitOf) → IsBranchCaptures o context w body
     → u ≡ n → after ≡ u + 1 → start ≡ [] → made ≡ (lift_all body context o.inner (after + length start)).tree → nested ≡ start ++ (lift_all body context o.inner (after + length start)).units
     → unit ≡ branch_unit context u (captures_of o.captures) o.slots o.exceptions o.inner o.tries made

@@ -1,4 +1,4 @@
--- What has room for the whole of a part has room for each thing in it, and behind what was lifted for the rest.
+-- What has room for the whole of a part has room for each thing in it, and after what was lifted for the rest.
 use Rattle.std.proofs.Common.{ℕ, ◌+◌, ◌^◌, ◌≡◌, ◌∙◌, ◌≤◌, ◌<◌, List, [], ◌∷◌, ◌++◌, Option, length, sym, ap, subst, arith, length-append, append_assoc}
 use Rattle.shim_scopes.specs.declared.tree.UExpr.{UExpr}
 use Rattle.shim_scopes.specs.declared.tree.RStmt.{RStmt}
@@ -71,7 +71,7 @@ pub room_for_fork : (w : SlotMap) (n : ℕ) (s : RStmt) (branches : List RBranch
 room_for_fork w n s branches kind h =
     room_for_less w n n (in_own_units (fork_extent branches)) (fork_extent branches) (omega (arith, (fork_within branches).slots)) (omega arith) (subst (λ e. HasRoomToLift w n e) (of_stmt s.line s.what ∙ ap what_extent kind ∙ at_par branches) h)
 
--- one of a list, and what stands behind it
+-- one of a list, and what stands after it
 
 pub room_behind_stmt : (context : LiftContext) (w : SlotMap) (n : ℕ) (us vs : List UnitOf) (s : RStmt) (body : List RStmt) → vs ≡ us ++ ((part s).lift context w (n + length us)).units
     → HasRoomToLift w (n + length us) (extent (s ∷ body)) → HasRoomToLift w (n + length vs) (extent body)
@@ -101,7 +101,7 @@ exceptions_in_branch context w body o n captured h =
     let less : length (branch_exceptions (parts body) w) ≤ length w.exceptions = fewer_taken (is_among (all_raises (parts body))) w.exceptions in
     omega (arith, ap (λ (l : List ℕ). length l) captured.exceptions, less, h.exceptions)
 
--- a function, and the functions behind it
+-- a function, and the functions after it
 
 pub room_in_function : (next : ℕ) (f : RFunction) (w : SlotMap) → w ≡ function_slot_map f → FunctionHasRoom next f → HasRoomToLift w next (extent f.body)
 room_in_function next f w is h =

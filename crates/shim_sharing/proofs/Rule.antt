@@ -127,7 +127,7 @@ again_none true before after None f = refl
 again_none true before after (Some y) f = if_not_true y (stands_in y before || stands_in y after) (f y refl refl)
 again_none false before after bare f = refl
 
--- what is given by reference in a part of a call's arguments, behind others
+-- what is given by reference in a part of a call's arguments, after others
 OnceBehind : List Given → List Given → Type 0
 OnceBehind before gs = (mid : List Given) (g : Given) (after : List Given) (x : ℕ) → gs ≡ mid ++ g ∷ after → IsTrue g.lent → g.bare ≡ Some x → IsTrue (stands_in x (before ++ mid) || stands_in x after) → ⊥
 

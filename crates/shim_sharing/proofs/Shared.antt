@@ -43,7 +43,7 @@ unshared x c (t ∷ ts) n =
     let e : is_reference (t x) ≡ false = false_unless (is_reference (t x)) n.0 in
     ap (λ b. (b && c) || shared x (b || c) ts) e ∙ unshared x c ts n.1
 
--- of the first and those behind it
+-- of the first and those after it
 behind_taken : (x : ℕ) (b : Bool) (ts : List Captures) → ((b && false) || shared x (b || false) ts) ≡ false → b ≡ true → NoneTakes x ts
 behind_taken x true ts e t = none_takes x ts e
 behind_taken x false ts e t = cc

@@ -1,4 +1,4 @@
-// Laws of the sharing rule, and of a program in version 2.
+// Laws of the sharing rule.
 ghost use Rattle.std.specs.Prelude.{◌≡◌, ◌↔◌, ℕ, List, [], None, Some, Ok};
 ghost use Rattle.shim_syntax.specs.declared.tree.Sort.{Sort};
 ghost use Rattle.shim_scopes.specs.declared.form.Form.{Form as Resolved};
@@ -17,10 +17,6 @@ ghost use Rattle.shim_units.specs.OfText.{IsAcceptedForm};
 ghost use Rattle.shim_units.specs.Parts.{SharingPlace};
 ghost use Rattle.shim_units.specs.Rule.{Obeys};
 ghost use Rattle.shim_sharing.specs.Refusals.{refusal};
-
-pub use shim_laws_up::laws::{
-    program_in_version_2_is_printed, some_program_in_version_2, up, up_is_one_program,
-};
 
 /// Nothing of a program is refused exactly where every fork and call of it obeys the sharing rule.
 pub fn refused_unless_obeyed()

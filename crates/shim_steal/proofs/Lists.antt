@@ -2,7 +2,7 @@
 use Rattle.std.proofs.Common.{◌≡◌, ◌⊎◌, inl, inr, ⊎_elim, ℕ, zero, suc, ◌+◌, ◌<◌, List, [], ◌∷◌, ◌++◌, length, get_or, map, set, refl, sym, ap, ◌∙◌, subst, arith}
 use mathlib.Core.Option.{some, some-injective, some-ne-none}
 use lib.ListN.{get_elem?}
-use Rattle.shim_steal.specs.Counting.{IsAmong}
+use Rattle.shim_base.specs.Lists.{IsAmong}
 
 module _ {A : Type 0} where
   pub among-left : (x : A) (xs ys : List A) → IsAmong x xs → IsAmong x (xs ++ ys)

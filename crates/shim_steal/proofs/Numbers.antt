@@ -2,7 +2,8 @@
 use Rattle.std.proofs.Common.{◌≡◌, ◌⊎◌, inl, inr, ⊎_elim, ℕ, zero, suc, ◌+◌, ◌<◌, ◌≤◌, List, [], ◌∷◌, ◌++◌, length, refl, sym, ap, ◌∙◌, subst, arith}
 use mathlib.Core.Option.{some, some-injective, some-ne-none}
 use lib.ListN.{get_elem?}
-use Rattle.shim_steal.specs.Counting.{one_at, total, times, numbered, IsAmong, IsPart}
+use Rattle.shim_steal.specs.Counting.{times, numbered, IsPart}
+use Rattle.shim_base.specs.Lists.{one_at, total, IsAmong}
 use Rattle.shim_steal.proofs.Lists.{at-among, head_same, tail_same, not_empty}
 
 module _ {T : Type 0} where
@@ -39,7 +40,7 @@ module _ {T : Type 0} where
       by (suc a) zero = inr (omega arith)
       by (suc a) (suc b) = ⊎_elim (λ (h : a < b + 1). inl (omega arith)) (λ (h : b < a). inr (omega arith)) (by a b)
 
-  -- the first pieces have lower numbers than those behind them
+  -- the first pieces have lower numbers than those after them
   pub numbered-split : (n : ℕ) (xs : List T) (ps qs : List (ℕ × T)) → numbered n xs ≡ ps ++ qs → ((p : ℕ × T) → IsAmong p ps → (n ≤ p.0) × (p.0 < n + length ps)) × ((q : ℕ × T) → IsAmong q qs → n + length ps ≤ q.0)
   numbered-split n xs [] qs e = ((λ p h. absurd h), λ q h. let r = among-at n xs q (subst (IsAmong q) (sym e) h) in let z = r.1 in omega arith)
   numbered-split n [] (p ∷ ps) qs e = absurd (not_empty p (ps ++ qs) e)

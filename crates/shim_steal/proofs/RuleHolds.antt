@@ -3,7 +3,8 @@ use Rattle.std.proofs.Common.{◌≡◌, inl, inr, ⊎_elim, ℕ, ◌+◌, ◌<�
 use mathlib.Core.Option.{some, some-injective}
 use lib.ListN.{get_elem?}
 use Rattle.shim_steal.specs.declared.view.View.{View}
-use Rattle.shim_steal.specs.Counting.{times, IsAmong}
+use Rattle.shim_steal.specs.Counting.{times}
+use Rattle.shim_base.specs.Lists.{IsAmong}
 use Rattle.shim_steal.specs.Kept.{Kept}
 use Rattle.shim_steal.specs.Rule.{Rule, WasPushed, WasTaken}
 use Rattle.shim_steal.proofs.Totals.{times-append}

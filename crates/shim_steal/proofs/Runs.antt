@@ -5,7 +5,8 @@ use mathlib.Core.Option as maybe
 use lib.ListN.{get_elem?}
 use Rattle.crossbeam_deque.proofs.Lists.{at_longer}
 use Rattle.shim_steal.specs.declared.view.View.{View}
-use Rattle.shim_steal.specs.Counting.{times, numbered, IsAmong, IsPart}
+use Rattle.shim_steal.specs.Counting.{times, numbered, IsPart}
+use Rattle.shim_base.specs.Lists.{IsAmong}
 use Rattle.shim_steal.specs.Views.{after_pass, fresh}
 use Rattle.shim_steal.specs.Kept.{Kept}
 use Rattle.shim_steal.specs.Run.{DequeRun, DequeStepKind, pass, push, pop, steal, LaneStep, takes_first, by_view, port_of, after_step, after, new_deque, lanes_run, EachOnce}

@@ -5,7 +5,8 @@ use mathlib.Core.Option.{some, some-injective, some-ne-none}
 use lib.ListN.{get_elem?}
 use Rattle.shim_steal.specs.declared.view.View.{View}
 use Rattle.shim_steal.specs.declared.other_deque.OtherDeque.{OtherDeque}
-use Rattle.shim_steal.specs.Counting.{IsAmong, numbered}
+use Rattle.shim_steal.specs.Counting.{numbered}
+use Rattle.shim_base.specs.Lists.{IsAmong}
 use Rattle.shim_steal.proofs.Lists.{among-either, head_same, tail_same, not_empty, at-place}
 use Rattle.crossbeam_deque.specs.Handles.{view}
 use Rattle.shim_steal.specs.Places.{lane_at, deque_index, from_home}
@@ -21,7 +22,7 @@ lane_at-other home place = by (nat_lt place home) refl
     by false is e = let l = ltb-false place home is in omega arith
 
 module _ {T : Type 0} where
-  -- the piece behind the first ones has the next number, and the first ones have lower ones
+  -- the piece after the first ones has the next number, and the first ones have lower ones
   pub numbered-next : (n : ℕ) (xs : List T) (ps qs : List (ℕ × T)) (b : ℕ × T) → numbered n xs ≡ ps ++ b ∷ qs → (b.0 ≡ n + length ps) × (get_elem? xs (length ps) ≡ some b.1) × ((p : ℕ × T) → IsAmong p ps → p.0 < n + length ps)
   numbered-next n [] [] qs b e = absurd (not_empty b qs e)
   numbered-next n [] (a ∷ ps) qs b e = absurd (not_empty a (ps ++ b ∷ qs) e)

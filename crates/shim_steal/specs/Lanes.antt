@@ -5,9 +5,9 @@ use lib.ListN.{get_elem?}
 use Rattle.crossbeam_deque.specs.Handles.{view, stealer_deque}
 use Rattle.shim_steal.specs.declared.other_deque.OtherDeque.{OtherDeque}
 use Rattle.shim_steal.specs.declared.lane.Lane.{Lane}
-use Rattle.shim_steal.specs.Counting.{IsAmong}
+use Rattle.shim_base.specs.Lists.{IsAmong}
 use Rattle.shim_steal.specs.Places.{lane_at, deque_index, from_home}
-use Rattle.shim_steal.specs.Steps.{WasEmptyAt, WasEmpty}
+use Rattle.shim_steal.specs.Steps.{MayBeEmptyAt, MayBeEmpty}
 use Rattle.shim_steal.specs.Deques.{view_of, IsSameDeque}
 
 module _ {T : Type 0} where
@@ -61,9 +61,9 @@ module _ {T : Type 0} where
   IsSameLane old new = (home_of new ≡ home_of old) × (lanes_of new ≡ lanes_of old) × IsSameDeque old.own new.own × AreSameDeques old.others.items new.others.items
 
   -- the rule of deques allows that the lane's own deque is empty, after what the lane did at it
-  abbrev pub OwnWasEmpty : Lane T → Type 0
-  OwnWasEmpty l = WasEmptyAt 0 (view_of l.own)
+  abbrev pub OwnMayBeEmpty : Lane T → Type 0
+  OwnMayBeEmpty l = MayBeEmptyAt 0 (view_of l.own)
 
   -- the rule of deques allows that the deque of the lane `from` is empty, after what this lane took from it
-  abbrev pub OtherWasEmpty : Lane T → ℕ → Type 0
-  OtherWasEmpty l from = (t : OtherDeque T) × (get_elem? l.others.items (deque_index l.home from) ≡ some t) × WasEmpty (view t.pass)
+  abbrev pub OtherMayBeEmpty : Lane T → ℕ → Type 0
+  OtherMayBeEmpty l from = (t : OtherDeque T) × (get_elem? l.others.items (deque_index l.home from) ≡ some t) × MayBeEmpty (view t.pass)

@@ -43,7 +43,7 @@ fn place_of(home: u64, from: u64) -> usize
 
 impl<T> Lane<T> {
     ghost use Rattle.std.specs.Prelude.{◌∷◌, [], ◌++◌, IfOk, IfErr, MatchOption, IsNone, ◌↔◌, ◌<◌};
-    ghost use Rattle.shim_steal.specs.Lanes.{home_of, lanes_of, pushes_of, takes_of, IsOtherLane, IsSameLane, HasSamePushes, HasSameTakes, HasTakenOne, HasTakenAll, OwnWasEmpty, OtherWasEmpty};
+    ghost use Rattle.shim_steal.specs.Lanes.{home_of, lanes_of, pushes_of, takes_of, IsOtherLane, IsSameLane, HasSamePushes, HasSameTakes, HasTakenOne, HasTakenAll, OwnMayBeEmpty, OtherMayBeEmpty};
 
     /// Its number.
     pub fn home(&self) -> u64
@@ -73,11 +73,11 @@ impl<T> Lane<T> {
         }
     }
 
-    /// Takes the first piece of its own deque. `None` comes only where that was empty at one moment of the call, and
-    /// with one lane exactly where it took all that it pushed.
+    /// Takes the first piece of its own deque. `None` comes only where that may be empty by what this lane did to it,
+    /// and with one lane exactly where it took all that it pushed.
     pub fn pop(&mut self) -> Option<Piece<T>>
         ensures same { IsSameLane self.old self.new × HasSamePushes self.old self.new }
-        ensures taken { MatchOption result (HasSameTakes self.old self.new × OwnWasEmpty self.old) (λ piece. (piece.home ≡ home_of self.old) × HasTakenOne self.old self.new piece.home piece.number piece.value) }
+        ensures taken { MatchOption result (HasSameTakes self.old self.new × OwnMayBeEmpty self.old) (λ piece. (piece.home ≡ home_of self.old) × HasTakenOne self.old self.new piece.home piece.number piece.value) }
         ensures alone { lanes_of self.old ≡ 1 → IsNone result ↔ HasTakenAll self.old }
     {
         match self.own.pop() {
@@ -90,12 +90,12 @@ impl<T> Lane<T> {
         }
     }
 
-    /// Takes the first piece of another lane's deque. `None` comes only where that was empty at one moment of the
-    /// call. Where the piece went to another lane meanwhile it tries again.
+    /// Takes the first piece of another lane's deque. `None` comes only where that may be empty by what this lane
+    /// took from it. Where the piece went to another lane meanwhile it tries again.
     pub fn steal<R: Wait>(&mut self, rt: &R, from: u64) -> Option<Piece<T>>
         requires from { IsOtherLane self.old from }
         ensures same { IsSameLane self.old self.new × HasSamePushes self.old self.new }
-        ensures taken { MatchOption result (HasSameTakes self.old self.new × OtherWasEmpty self.old from) (λ piece. (piece.home ≡ from) × HasTakenOne self.old self.new from piece.number piece.value) }
+        ensures taken { MatchOption result (HasSameTakes self.old self.new × OtherMayBeEmpty self.old from) (λ piece. (piece.home ≡ from) × HasTakenOne self.old self.new from piece.number piece.value) }
     {
         let place = place_of(self.home, from);
         match self.others[place].take_first(rt) {

@@ -20,12 +20,12 @@ pub struct OtherDeque<T> {
 impl<T> OtherDeque<T> {
     ghost use Rattle.std.specs.Prelude.{◌∷◌, [], MatchOption};
     ghost use Rattle.shim_steal.specs.Views.{after_take};
-    ghost use Rattle.shim_steal.specs.Steps.{WasEmpty};
+    ghost use Rattle.shim_steal.specs.Steps.{MayBeEmpty};
 
     /// Takes the first piece. Where that went to another lane meanwhile it tries again.
     pub(crate) fn take_first<R: Wait>(&mut self, rt: &R) -> Option<(u64, T)>
         ensures same { stealer_deque self.new.deque ≡ stealer_deque self.old.deque }
-        ensures taken { MatchOption result ((view self.new.pass ≡ view self.old.pass) × WasEmpty (view self.old.pass)) (λ piece. view self.new.pass ≡ after_take (view self.old.pass) (piece ∷ [])) }
+        ensures taken { MatchOption result ((view self.new.pass ≡ view self.old.pass) × MayBeEmpty (view self.old.pass)) (λ piece. view self.new.pass ≡ after_take (view self.old.pass) (piece ∷ [])) }
     {
         for _ in rt.forever() {
             match self.deque.steal_as::<TakeFirst>(&mut self.pass) {

@@ -30,7 +30,7 @@ impl<T> OwnDeque<T> {
     ghost use Rattle.std.specs.Prelude.{◌∷◌, [], IfOk, IfErr, MatchResult, MatchOption};
     ghost use Rattle.crossbeam_deque.specs.Handles.{view};
     ghost use Rattle.shim_steal.specs.Views.{fresh, after_push, after_pass};
-    ghost use Rattle.shim_steal.specs.Steps.{HasPopped, WasEmptyAt};
+    ghost use Rattle.shim_steal.specs.Steps.{HasPopped, MayBeEmptyAt};
     ghost use Rattle.shim_steal.specs.Deques.{view_of, IsSameDeque, IsSameAsOwn};
 
     /// An empty one.
@@ -66,7 +66,7 @@ impl<T> OwnDeque<T> {
     /// Takes the first piece.
     pub(crate) fn pop(&mut self) -> Option<(u64, T)>
         ensures same { IsSameDeque self.old self.new }
-        ensures taken { MatchOption result ((view_of self.new ≡ view_of self.old) × WasEmptyAt 0 (view_of self.old)) (λ piece. HasPopped (view_of self.old) (piece ∷ []) (view_of self.new)) }
+        ensures taken { MatchOption result ((view_of self.new ≡ view_of self.old) × MayBeEmptyAt 0 (view_of self.old)) (λ piece. HasPopped (view_of self.old) (piece ∷ []) (view_of self.new)) }
     {
         self.deque.pop_as::<Pop>()
     }

@@ -90,7 +90,7 @@ while_stmt {x = x} line xs some h part =
       build k a b _ q (_, _, here i, (_, _, here j, (_, _, whole, (_, _, here n, (ys, same, body))))) =
           (record { line = i.line; what = st.While x ys }, same_while i.line line x xs ys same, λ no_par no_else. gr.plain (gr.while whole (body no_par)))
 
--- the pieces of a `for`, its parts each with what stands behind it
+-- the pieces of a `for`, its parts each with what stands after it
 for_pieces : (first test step body : List PrintedPiece) → (first ++ sign_piece g.Semicolon ∷ []) ++ ((test ++ sign_piece g.Semicolon ∷ []) ++ ((step ++ sign_piece g.RightParen ∷ []) ++ body)) ≡
     first ++ sign_piece g.Semicolon ∷ (test ++ sign_piece g.Semicolon ∷ (step ++ sign_piece g.RightParen ∷ body))
 for_pieces first test step body =
@@ -120,7 +120,7 @@ for_stmt {x = x} line xs ys zs some first_h test_h step_h part =
             gr.plain (gr.for_loop is_first is_test is_step (body no_par)),
       )
 
--- what stands behind the exception of a `catch`, with the handler's left brace
+-- what stands after the exception of a `catch`, with the handler's left brace
 abbrev CatchRest : Option (List ℕ) → ReadRelation
 CatchRest y k a b t q = IsCatchRest limits a b t q y
 
@@ -159,7 +159,7 @@ try_stmt {b = e} {x = x} {y = y} line xs ys some part is_catch handler =
       build k a b _ q (_, _, here i, (_, _, here j, (_, _, (us, us_same, block), (_, _, here n, (_, _, here e, (_, _, here f, (_, _, rest, (vs, vs_same, second)))))))) =
           (record { line = i.line; what = st.Try us x y vs }, same_try i.line line xs us x y ys vs us_same vs_same, λ no_par no_else. gr.plain (gr.try block rest second))
 
--- the same first branch, and the same ones behind it
+-- the same first branch, and the same ones after it
 same_branches : (b c : Branch) (bs cs : List Branch) → branch_without_lines c ≡ branch_without_lines b → AreSameBranches cs bs → AreSameBranches (c ∷ cs) (b ∷ bs)
 same_branches b c bs cs one more = ap (λ (x : Branch). x ∷ map branch_without_lines cs) one ∙ ap (λ (l : List Branch). branch_without_lines b ∷ l) more
 

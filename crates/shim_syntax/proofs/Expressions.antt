@@ -215,7 +215,7 @@ row_kept n l v w s r x kept = record {
   inside = λ h. kept.inside (looser_still n (expr_row x) h);
 }
 
--- two operands, the first of which was read before the operator, and both behind t
+-- two operands, the first of which was read before the operator, and both after t
 binary_kept : (n l : ℕ) (b v u : TextCounts) (o : SignOf) (p : Place) (t s m : List Terminal) (x z : Expr) → row_of_sign o ≡ suc n → is_within (Count Operators) (suc v.operators) ≡ true →
     IsReadBack (suc n) l b v t (Sign o p ∷ s) x → IsReadBack n l (with_operator v) u s m z → IsReadBack (suc n) l b u t m (e.Binary (operator_of_sign o) x z)
 binary_kept n l b v u o p t s m x z is count left right = record {

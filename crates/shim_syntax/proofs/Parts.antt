@@ -21,7 +21,7 @@ use Rattle.shim_syntax.proofs.Standing.{ArePrefix, nothing, piece, split, tokens
 use Rattle.shim_syntax.proofs.Shapes.{sign_spells, key_spells}
 use Rattle.shim_syntax.proofs.Expressions.{IsAlike, expr_kept, looser, level_is}
 
--- How terminals at the front are read: at which level, with what was counted before them and behind them, and what follows.
+-- How terminals at the front are read: at which level, with what was counted before them and after them, and what follows.
 abbrev pub ReadRelation : Type 1
 ReadRelation = ℕ → TextCounts → TextCounts → List Terminal → List Terminal → Type 0
 
@@ -119,7 +119,7 @@ front_sort (Value ty) = front_type ty
 front_sort Input = front_key kw.Istream
 front_sort Output = front_key kw.Ostream
 
--- one thing and then another, which both stand behind one terminal
+-- one thing and then another, which both stand after one terminal
 pub both_after : {l : ℕ} {v u w : TextCounts} {x : Terminal} {s m r : List Terminal} {ps qs : List PrintedPiece} {R Q : ReadRelation} → IsPart l v u (x ∷ s) m ps R → IsPart l u w (x ∷ m) r qs Q
     → IsPart l v w (x ∷ s) r (ps ++ qs) (Both R Q)
 both_after {l = l} {v = v} {w = w} {x = x} {s = s} {r = r} {ps = ps} {qs = qs} {R = R} {Q = Q} one two = record {
@@ -206,7 +206,7 @@ MoreArguments n xs k a b t q = IsMoreArguments limits k n a b t q xs
 abbrev pub Arguments : List Expr → ReadRelation
 Arguments xs k a b t q = IsArguments limits k a b t q xs
 
--- the arguments behind n of them
+-- the arguments after n of them
 more_args_part : (l n : ℕ) (v w : TextCounts) (s r : List Terminal) (xs : List Expr) → IsMoreArguments limits l n v w s r xs →
     IsPart l v w s r (more_args_pieces xs ++ sign_piece g.RightParen ∷ []) (MoreArguments n xs)
 more_args_part l n v _ _ r _ gr.arguments_end = mapped build (front_sign g.RightParen) where

@@ -27,7 +27,7 @@ One x k a b t q = (y : Stmt) × (stmt_without_lines y ≡ stmt_without_lines x) 
 abbrev pub Stmts : List Stmt → ReadRelation
 Stmts xs k a b t q = (ys : List Stmt) × AreSame ys xs × ((c : TextCounts) (z : List Terminal) (zs : List Stmt) → IsBlock limits k b c q z zs → IsBlock limits k a c t z (ys ++ zs))
 
--- a block behind its left brace
+-- a block after its left brace
 abbrev pub Block : List Stmt → ReadRelation
 Block xs k a b t q = (ys : List Stmt) × AreSame ys xs × IsBlock limits k a b t q ys
 
@@ -38,7 +38,7 @@ Body xs k a b t q = (ys : List Stmt) × AreSame ys xs × (is_par (first q) ≡ f
 abbrev pub OneBranch : Branch → ReadRelation
 OneBranch x k a b t q = (y : Branch) × (branch_without_lines y ≡ branch_without_lines x) × IsBranch limits k a b t q y
 
--- the branches behind n of them, without the first `par`
+-- the branches after n of them, without the first `par`
 abbrev pub Branches : ℕ → List Branch → ReadRelation
 Branches n xs k a b t q = (ys : List Branch) × AreSameBranches ys xs × (is_par (first q) ≡ false → IsBranches limits k n a b t q ys)
 
@@ -162,7 +162,7 @@ same_both xs ys us vs one two =
     ∙ ap (λ (l : List Stmt). map stmt_without_lines xs ++ l) two
     ∙ sym (map-append stmt_without_lines xs ys)
 
--- the same where both stand behind one terminal
+-- the same where both stand after one terminal
 pub stmts_more_behind : {l : ℕ} {v u w : TextCounts} {x : Terminal} {s m r : List Terminal} (xs ys : List Stmt) → IsStmtsPart l v u (x ∷ s) m xs → IsStmtsPart l u w (x ∷ m) r ys → IsStmtsPart l v w (x ∷ s) r (xs ++ ys)
 stmts_more_behind xs ys one two = same_pieces (sym (all_of_both xs ys)) (mapped build (both_after one two)) where
   build : (k : ℕ) (a b : TextCounts) (t q : List Terminal) → Both (Stmts xs) (Stmts ys) k a b t q → Stmts (xs ++ ys) k a b t q
@@ -209,7 +209,7 @@ into_body part = record {
       record { behind = behind_body a.deepest done.behind; alike = done.alike; is = in_body done.is };
 }
 
--- statements with the right brace behind them are a block
+-- statements with the right brace after them are a block
 close : (xs : List Stmt) (k : ℕ) (a b : TextCounts) (t q : List Terminal) → Both (Stmts xs) (IsPiece (line_end_piece g.RightBrace)) k a b t q → Block xs k a b t q
 close xs k a _ t q (_, _, (ys, same, before), here p) = (ys ++ [], ap (λ (l : List Stmt). map stmt_without_lines l) (append_nothing ys) ∙ same, before _ q [] gr.block_end)
 

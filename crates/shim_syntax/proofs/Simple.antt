@@ -92,7 +92,7 @@ one_declared line ty x value some h =
           One (declare_stmt line ty x value) k a b t q
       build k a b t q (c, m, word, rest) = behind_type k a c b t m q (type_read ty k a c t m word) rest
 
--- the declarations behind a type
+-- the declarations after a type
 declarations : (l line : ℕ) (ty : Ty) (v w : TextCounts) (p : Place) (s r : List Terminal) (xs : List Stmt) → l ≤ v.deepest → IsDeclarations limits l ty line v w s r xs
     → IsStmtsPart l v w (Sort (Value ty) p ∷ s) r xs
 declarations l line ty v w p s r _ some (gr.last_declared {x = x} {value = value} h) = one_declared line ty x value some h
@@ -173,7 +173,7 @@ put_part {q = d} {x = x} {value = value} line some h =
       build k a _ _ q (_, _, here i, (_, _, here j, (_, _, here m, (_, _, whole, here z)))) =
           (record { line = i.line; what = st.Put x value }, other_line i.line line (st.Put x value), λ no_par no_else. gr.plain (gr.put whole))
 
--- what stands behind the exception of a `throw`, with the semicolon
+-- what stands after the exception of a `throw`, with the semicolon
 abbrev ThrowRest : Option Expr → ReadRelation
 ThrowRest x k a b t q = IsThrowRest limits k a b t q x
 

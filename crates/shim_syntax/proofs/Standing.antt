@@ -28,7 +28,7 @@ pub data ArePrefix : List PrintedPiece → List Terminal → List Terminal → T
   nothing : {r : List Terminal} → ArePrefix [] r r
   piece : {p : PrintedPiece} {ps : List PrintedPiece} {s r : List Terminal} (place : Place) → ArePrefix ps s r → ArePrefix (p ∷ ps) (shown_as p place ∷ s) r
 
--- pieces of two parts stand as the first and behind it the second
+-- pieces of two parts stand as the first and after it the second
 pub split : (ps qs : List PrintedPiece) (s r : List Terminal) → ArePrefix (ps ++ qs) s r → (m : List Terminal) × ArePrefix ps s m × ArePrefix qs m r
 split [] qs s r h = (s, nothing, h)
 split (p ∷ ps) qs _ r (piece place h) = let more = split ps qs _ r h in (more.0, piece place more.1, more.2)

@@ -22,7 +22,7 @@ use Rattle.shim_syntax.proofs.Readings.{Stmts, Block, OneBranch, Branches, IsStm
 use Rattle.shim_syntax.proofs.Simple.{declare_part, assign_part, assign_next_part, get_part, next_part, next_assign_part, put_part, throw_part, call_part}
 use Rattle.shim_syntax.proofs.Compound.{block_stmt, body_of_block, if_alone, if_else, while_stmt, for_stmt, try_stmt, block_fork, call_fork, block_branch, call_branch}
 
--- a type has a declared name behind it
+-- a type has a declared name after it
 declares_some : {l line : ℕ} {ty : Ty} {v w : TextCounts} {s r : List Terminal} {xs : List Stmt} → IsDeclarations limits l ty line v w s r xs → xs ≡ [] → ⊥
 declares_some (gr.last_declared _) e = absurd (cc)
 declares_some (gr.declared _ _) e = absurd (cc)

@@ -1,4 +1,4 @@
--- A name put behind others: its place, the places of the others, and the map that has them.
+-- A name put after others: its place, the places of the others, and the map that has them.
 use Rattle.std.proofs.Common.{ℕ, ◌≡◌, ◌≤◌, ◌<◌, ◌+◌, Bool, true, false, cond, List, [], ◌∷◌, ◌++◌, length, get_or, Some, None, is_some, position, nat_eq, nat_lt, refl, sym, ap, subst, ◌∙◌, ◌⊎◌, inl, inr, arith, length-append}
 use Rattle.std.specs.declared.cmp.Ordering.{Ordering}
 use Rattle.std.specs.BTreeMap.{BTreeMap, UpdatesBy}
@@ -75,7 +75,7 @@ apart : (x y k : List ℕ) → bytes_eq x y ≡ false → is_eq (slice_cmp nat_c
 apart x y k n t =
     is_eq-slice_cmp y k ∙ nat_list_eq_equiv.symm y k ∙ sym (nat_list_eq_equiv.congr x k y (sym (is_eq-slice_cmp x k) ∙ t)) ∙ n
 
--- the number of y, when x was put behind the others and into the map
+-- the number of y, when x was put after the others and into the map
 indexed_by : (names : Texts) (m n : BTreeMap (Vec ℕ) ℕ) (x y : List ℕ) → IsIndex names m → position (is_name x) names ≡ None
     → UpdatesBy keys_cmp (against_key x) m n (Some (length names))
     → (bytes_eq x y ≡ true) ⊎ (bytes_eq x y ≡ false) → number_at n y ≡ position (is_name y) (names ++ x ∷ [])

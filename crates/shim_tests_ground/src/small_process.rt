@@ -15,7 +15,7 @@ fn tell(reply: &mut List<u8>, what: &[u8], number: u32) -> Result<(), NoMemory> 
     push_decimal(reply, number as u64)
 }
 
-// Tells at what the process stands, and takes it on from there, where it can go on. A meeting gives 5.
+// Tells at what the process stands, and takes it on from there, where it can go on. A rendezvous gives 5.
 fn go_on<L: Local>(process: &mut L, reply: &mut List<u8>) -> Result<(), NoMemory> {
     match process.stop() {
         Stop::Quiet => {
@@ -74,7 +74,7 @@ fn tell_path(path: &Path, reply: &mut List<u8>) -> Result<(), NoMemory> {
 }
 
 // Tells the pairs of the path and of each child's path, and of each child how many exception places are
-// around it and the channels that it was given. The first child receives 0 if it stands at a meeting, and
+// around it and the channels that it was given. The first child receives 0 if it stands at a rendezvous, and
 // the process goes on after the fork.
 fn fork_and_join<L: Local>(process: &mut L, reply: &mut List<u8>) -> Result<(), NoMemory>
     requires { L.ops.stop process.old ≡ AtFork }
@@ -103,7 +103,7 @@ fn tell_given<L: Local>(process: &L, reply: &mut List<u8>) -> Result<(), NoMemor
     Ok(())
 }
 
-// Gives 0 to the first child if it stands at a meeting. The children stay those of their parent.
+// Gives 0 to the first child if it stands at a rendezvous. The children stay those of their parent.
 fn meet_first<L: Local>(children: &mut Vec<L>)
     ensures { (parent : L) → L.ops.born parent children.old.items → L.ops.born parent children.new.items }
 {

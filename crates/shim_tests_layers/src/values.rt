@@ -45,7 +45,7 @@ pub fn across(
     line_of(same_across(alloc, &one, &other)?)
 }
 
-/// `met {syntax|code} FILE A B`: whether a process and its copy are told apart, once the meeting after a quiet step
+/// `met {syntax|code} FILE A B`: whether a process and its copy are told apart, once the rendezvous after a quiet step
 /// gave A to the process and B to the copy.
 pub fn met(alloc: Global, setup: &Setup, words: &[String]) -> Result<Option<List<u8>>, NoMemory> {
     let Some(over) = over_of(words) else {

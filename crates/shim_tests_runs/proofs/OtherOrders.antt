@@ -3,7 +3,8 @@ use Rattle.std.proofs.Common.{◌≡◌, ◌≢◌, ◌<◌, ℕ, zero, suc, Opt
 use Rattle.std.specs.Prelude.{length}
 use lib.ListN.{get_or}
 use Rattle.shim_local.specs.Process.{Ops}
-use Rattle.shim_semantics.specs.Listing.{IsAmong, AreEnabled}
+use Rattle.shim_semantics.specs.Listing.{AreEnabled}
+use Rattle.shim_base.specs.Lists.{IsAmong}
 use Rattle.shim_semantics.specs.Trees.{Tree, Event, after, IsQuiescent}
 use Rattle.shim_base.proofs.Facts.{none_some}
 

@@ -46,7 +46,7 @@ pub enum Step {
 const MOST_PLACES: u32 = 4;
 
 /// A process that does the steps it was given, for tests of what runs processes. Each `next` of it is
-/// of one channel, and its value is what the last meeting gave, or the number of the last exception that it
+/// of one channel, and its value is what the last rendezvous gave, or the number of the last exception that it
 /// caught, or 0. It puts 1 for each value but 0. The children of a fork share the channel, and the value of
 /// the first comes back. The root carries the channel and holds the output.
 ///

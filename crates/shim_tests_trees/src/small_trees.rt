@@ -59,7 +59,7 @@ enum Ask<'a> {
     BeforeQuiet(&'a [(u32, u32)]),
     // The root and its first four children.
     Children,
-    // What the meetings on the root's channel of this serial number gave.
+    // What the rendezvous on the root's channel of this serial number gave.
     Met(u32),
     // What so many quiet steps of the process come to, and what is enabled then.
     Steps(&'a [(u32, u32)], u8),

@@ -98,7 +98,7 @@ pub fn add_before_quiet<L: Local>(
     }
 }
 
-// Tells what the meetings on the root's channel of this serial number gave.
+// Tells what the rendezvous on the root's channel of this serial number gave.
 pub fn add_met<L: Local>(
     reply: &mut List<u8>,
     tree: &Tree<L>,

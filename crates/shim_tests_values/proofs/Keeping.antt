@@ -23,7 +23,7 @@ quiet_steps o laws (suc n) l m taken sound =
     let moved : Moved o l (o.quiet l) = by_quiet first.0 refl in
     stays_then o (one_call o laws sound moved) (quiet_steps o laws n (o.quiet l) m first.1 (laws.moved_sound l (o.quiet l) sound moved))
 
--- by a fork and the close behind it, where the children stayed its own
+-- by a fork and the close after it, where the children stayed its own
 pub fork_and_join : {S : Type 0} (o : Ops S) → LocalLaws o → (l p m : S) (ks ms : List S) (goes_on : Bool) → o.sound l → o.stop l ≡ AtFork → o.fork l ≡ Parted p ks
     → StayChildren o ks ms → AllOf o.sound ms → m ≡ o.join p ms goes_on → StaysChild o l m
 fork_and_join o laws l p m ks ms goes_on sound at parts stay sounds is =
@@ -31,7 +31,7 @@ fork_and_join o laws l p m ks ms goes_on sound at parts stay sounds is =
     let born = stay p (laws.fork_born l p ks sound (at, parts)) in
     stays_then o (one_call o laws sound forks) (one_call o laws (laws.moved_sound l p sound forks) (by_join ms goes_on sounds born is))
 
--- of the children one is moved, which stands at this place behind others
+-- of the children one is moved, which stands at this place after others
 moved_behind : {S : Type 0} (o : Ops S) → (parent k m : S) (before children : List S) (at : ℕ) → at < length children → k ≡ slice_index_or children at k → StaysChild o k m
     → o.born parent (before ++ children) → o.born parent (before ++ slice_set children at m)
 moved_behind o parent k m before [] at some is stays born = absurd (omega (arith, some))

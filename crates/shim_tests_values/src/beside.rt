@@ -12,7 +12,7 @@ use shim_local::{Death, Forked, Local, Stop};
 use shim_walk::has_process::HasProcess;
 use std::mem;
 
-// The value that each meeting gives.
+// The value that each rendezvous gives.
 const MET: i64 = 300;
 
 // What came of one call of a process.

@@ -67,7 +67,7 @@ pub enum Question {
     /// Which of the root's first four channels it shares after at most so many quiet steps, as in `#0 #2`; where it
     /// stands at a fork then, also those of each child, after a bar.
     Shares(u64),
-    /// Whether it and a copy are the same, once the meeting after one quiet step gave the first value to it and the
+    /// Whether it and a copy are the same, once the rendezvous after one quiet step gave the first value to it and the
     /// second to the copy.
     Met(i64, i64),
     /// Whether it runs compiled code.

@@ -11,7 +11,7 @@ use shim_local::{Death, Forked, Local, Stop};
 use std::mem;
 use std::sync::Arc;
 
-// The value that a meeting gives to a process which doesn't carry the channel's own variable.
+// The value that a rendezvous gives to a process which doesn't carry the channel's own variable.
 const MET: i64 = 7;
 
 /// What has become of a process.
@@ -132,7 +132,7 @@ fn meet<L: Local>(
     Ok(Fate::Live)
 }
 
-// What the meeting on the channel gives the process: the value of its own variable, where the process
+// What the rendezvous on the channel gives the process: the value of its own variable, where the process
 // carries that, which is told then.
 fn met<L: Local>(process: &L, chan: &Chan, reply: &mut List<u8>) -> Result<i64, NoMemory> {
     if process.carries(chan) {

@@ -10,7 +10,7 @@ use Rattle.shim_command.specs.declared.mode.Origin.TheVariants.{Stored, Generate
 use Rattle.shim_command.specs.declared.mode.Task.TheVariants.{RunsEach}
 use Rattle.shim_command.specs.Jobs.{IsWithin}
 use Rattle.shim_command.specs.Modes.{row_of}
-use Rattle.shim_tool.specs.Modes.{IsBatch, FileView, beside_of, contents_after, inputs_in, inputs_readings, readings_beside, reads_of, source_readings}
+use Rattle.shim_tool.specs.Modes.{IsBatch, FileView, beside_of, contents_beside, inputs_in, inputs_readings, readings_beside, reads_of, source_readings}
 use Rattle.shim_tool.specs.Reads.{AreContents, KnownFiles}
 
 -- its source is read from a file, and all inputs are read beside it
@@ -39,7 +39,7 @@ as_many_names [] = refl
 as_many_names (name ∷ names) = ap suc (as_many_names names)
 
 behind_source : (held : KnownFiles) (origin : Origin) (beside : Extra) (job : Job) (contents : List (List ℕ)) → origin ≡ Stored → beside ≡ Inputs
-    → AreContents held (source_readings origin job ++ readings_beside beside job) contents → length ((beside_of beside job (contents_after contents)).inputs) ≡ length job.inputs
+    → AreContents held (source_readings origin job ++ readings_beside beside job) contents → length ((beside_of beside job (contents_beside origin contents)).inputs) ≡ length job.inputs
 behind_source held Generated beside job contents stored inputs are = absurd (cc stored)
 behind_source held Stored Nothing job contents stored inputs are = absurd (cc inputs)
 behind_source held Stored Input job contents stored inputs are = absurd (cc inputs)

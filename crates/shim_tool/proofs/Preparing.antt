@@ -27,7 +27,7 @@ use Rattle.shim_results.proofs.Outcomes.{no_acceptance, one_source}
 use Rattle.shim_tool.specs.declared.prepared.Prepared.{Prepared as MadePrepared}
 use Rattle.shim_tool.specs.declared.prepared.Prepared.TheVariants.{Answered, ToRecord, ToRun, ToRunEach}
 use Rattle.shim_tool.specs.Moments.{FilesAt}
-use Rattle.shim_tool.specs.Modes.{IsBatch, FileView, beside_in, first_content, input_in, input_readings, inputs_in, reads_of, source_text}
+use Rattle.shim_tool.specs.Modes.{IsBatch, FileView, beside_in, input_in, inputs_in, reads_of, source_text}
 use Rattle.shim_tool.specs.Reads.{AreContents, HoldsAll, OneReadFailed, FilesResult, all, longer_file, failed_file}
 use Rattle.shim_tool.specs.Answer.{Answers, AnswersRead}
 use Rattle.shim_tool.specs.Rows.{WasRead}
@@ -69,24 +69,6 @@ completed_read job (longer_file r) p answer is done = completed_answer p _ answe
 pub completed : (ask : Option Job) (before now : FilesAt) (p : Prepared) (answer : Answer) → Prepares ask before now p → Completes p answer → Answers ask before now answer
 completed None before now p answer (same, is) done = (same, completed_answer p _ answer is done)
 completed (Some job) before now p answer (files_read, reads_all, prepared) done = (files_read, reads_all, completed_read job files_read p answer prepared done)
-
--- no file may have more bytes than a journal
-abbrev AreFew : List FileView → Type 0
-AreFew [] = Unit {0}
-AreFew (r ∷ rs) = (r.limit ≤ 67108864) × AreFew rs
-
-few_inputs : (input : Option (List ℕ)) → AreFew (input_readings input)
-few_inputs None = tt
-few_inputs (Some name) = (omega arith, tt)
-
--- so no content has
-abbrev AreShort : List (List ℕ) → Type 0
-AreShort [] = Unit {0}
-AreShort (c ∷ cs) = (length c ≤ 67108864) × AreShort cs
-
-first_few : (cs : List (List ℕ)) → AreShort cs → length (first_content cs) ≤ 67108864
-first_few [] short = omega arith
-first_few (c ∷ cs) short = short.0
 
 -- no answer was prepared
 abbrev IsNoAnswer : Prepared → Type 0

@@ -68,7 +68,7 @@ readings_beside Inputs job = inputs_readings job.inputs
 abbrev pub reads_of : Job → List FileView
 reads_of job = source_readings (row_of job.mode).origin job ++ readings_beside (row_of job.mode).beside job
 
--- the first of the contents; a file that wasn't there to be read is as an empty one
+-- the first of the contents; empty where no file was read
 abbrev pub first_content : List (List ℕ) → List ℕ
 first_content [] = []
 first_content (content ∷ rest) = content
@@ -95,9 +95,14 @@ beside_of Input job rest = record { input = where_named job.input rest; journal 
 beside_of InputAndJournal job rest = record { input = where_named job.input rest; journal = first_content (after_named job.input rest); inputs = [] }
 beside_of Inputs job rest = record { input = []; journal = []; inputs = rest }
 
+-- the contents of the files beside a source, by its origin: all but the first, if that is the source's own; all of them, if it is generated
+abbrev pub contents_beside : Origin → List (List ℕ) → List (List ℕ)
+contents_beside Stored contents = contents_after contents
+contents_beside Generated contents = contents
+
 -- what was read beside a source, of the contents of all files of a job
 abbrev pub beside_in : Job → List (List ℕ) → Beside
-beside_in job contents = beside_of (row_of job.mode).beside job (contents_after contents)
+beside_in job contents = beside_of (row_of job.mode).beside job (contents_beside (row_of job.mode).origin contents)
 
 -- of the contents of a job's files that of its input
 abbrev pub input_in : Job → List (List ℕ) → List ℕ

@@ -1,6 +1,7 @@
 // The files that a job reads, one after the other.
 ghost use Rattle.std.specs.Prelude.{◌≡◌, ◌≤◌, ◌++◌, IfOk, OnErr, OnOk, length, map};
 ghost use Rattle.shim_command.specs.Modes.{row_of};
+ghost use Rattle.shim_command.specs.declared.mode.Origin.TheVariants as origins;
 ghost use Rattle.shim_tool.specs.Moments.{files_at, KeepsFiles};
 ghost use Rattle.shim_tool.specs.Modes as modes;
 ghost use Rattle.shim_tool.specs.Reads.{ReadsAll, ReadsOne};
@@ -12,13 +13,13 @@ use shim_edge::{FileFault, Files, Got};
 use std::alloc::Global;
 
 /// The most bytes that a source has.
-const SOURCE_LIMIT: usize = 1048576;
+const SOURCE_LIMIT: usize = 1_048_576;
 
 /// The most bytes that an input has.
-const INPUT_LIMIT: usize = 16777216;
+const INPUT_LIMIT: usize = 16_777_216;
 
 /// The most bytes that a journal has.
-const JOURNAL_LIMIT: usize = 67108864;
+const JOURNAL_LIMIT: usize = 67_108_864;
 
 /// A file that is read, and the most bytes that it may have.
 #[derive(Clone, Copy, Drop)]
@@ -214,7 +215,7 @@ pub(crate) struct Contents {
     pub(crate) beside: Beside,
 }
 
-// Takes off the first of the contents; a file that wasn't there to be read is as an empty one.
+// Takes off the first of the contents, which is empty where no file was read.
 fn take_first(alloc: Global, contents: &mut Vec<List<u8>>) -> List<u8>
     ensures first { result ≡ modes.first_content contents.old.items }
     ensures rest { contents.new.items ≡ modes.contents_after contents.old.items }
@@ -264,14 +265,26 @@ fn beside_of(alloc: Global, beside: Extra, job: &Job, mut contents: Vec<List<u8>
     }
 }
 
-/// The contents that were read for a job, by what they are: its source comes first, and then what the
-/// mode reads beside it.
+// Takes off the content of a job's source, where that was read.
+fn take_source(alloc: Global, origin: Origin, contents: &mut Vec<List<u8>>) -> List<u8>
+    ensures first { origin ≡ origins.Stored → result ≡ modes.first_content contents.old.items }
+    ensures rest { contents.new.items ≡ modes.contents_beside origin contents.old.items }
+{
+    match origin {
+        Origin::Stored => take_first(alloc, contents),
+        Origin::Generated => List::new(alloc),
+    }
+}
+
+/// The contents that were read for a job, by what they are: first its source, if that is read from a file, and
+/// then what the mode reads beside it.
 pub(crate) fn contents_of(alloc: Global, job: &Job, contents: List<List<u8>>) -> Contents
-    ensures source { result.source ≡ modes.first_content contents }
+    ensures source { (row_of job.now.mode).origin ≡ origins.Stored → result.source ≡ modes.first_content contents }
     ensures beside { beside_view result.beside ≡ modes.beside_in job.now contents }
 {
+    let row = job.mode.row();
     let mut rest = contents.into_vec();
-    let source = take_first(alloc, &mut rest);
-    let beside = beside_of(alloc, job.mode.row().beside, job, rest);
+    let source = take_source(alloc, row.origin, &mut rest);
+    let beside = beside_of(alloc, row.beside, job, rest);
     Contents { source, beside }
 }

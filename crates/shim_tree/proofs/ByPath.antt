@@ -1,4 +1,4 @@
--- The process of a path, as a descent by the pairs behind the root's path finds it.
+-- The process of a path, as a descent by the pairs after the root's path finds it.
 use Rattle.std.proofs.Common.{◌≡◌, ℕ, zero, suc, ◌<◌, ◌≤◌, Bool, true, false, Option, Some, None, List, [], ◌∷◌, length, drop, cond, refl, sym, ap, ◌∙◌, arith}
 use Rattle.shim_base.specs.Paths.{Path, Channel, same_path}
 use Rattle.shim_local.specs.Process.{Ops}
@@ -56,7 +56,7 @@ module _ {S : Type 0} (o : Ops S) (c : Channel) (i : ℕ) (n : Node S) (pairs : 
 -- ---- the whole path
 
 module _ {S : Type 0} (o : Ops S) (n : Node S) (p : Path) where
-  -- the branches behind the root's path
+  -- the branches after the root's path
   abbrev rest : List ℕ
   rest = branches (drop (length (o.path (state n))) p)
 

@@ -90,7 +90,7 @@ module _ {S : Type 0} (o : Ops S) (h : ℕ) (c : Channel) (i a : ℕ) (ls : List
     spoils_from : (r || doomed_from o h c (i + 1) a (from (i + 1) ls bs)) ≡ doomed_from o h c 0 a (from 0 ls bs)
     spoils_from = ap (λ z. z || doomed_from o h c (i + 1) a (from (i + 1) ls bs)) is ∙ (sym (ap (doomed_from o h c i a) (from_next i ls bs l in_list there)) ∙ inv)
 
-    -- another that dooms decides, and one that doesn't leaves it to those behind it
+    -- another that dooms decides, and one that doesn't leaves it to those after it
     pub doomed_there : r ≡ true → true ≡ is_doomed o h c a (from 0 ls bs)
     doomed_there d = any_there r (doomed_from o h c (i + 1) a (from (i + 1) ls bs)) (doomed_from o h c 0 a (from 0 ls bs)) spoils_from d ∙ doomed_is o h c a (from 0 ls bs)
 

@@ -121,7 +121,7 @@ module _ {S : Type 0} (o : Ops S) where
   can_close_where (Ended l) a e h = absurd cc
   can_close_where (Dead l d) a e h = absurd cc
 
-  -- ---- meetings
+  -- ---- rendezvous
 
   meets_is : (c : Channel) (x : Option (Node S)) → home_is_ready o c x ≡ passes_there (ready o c) (if_its o c.home x)
   meets_is c None = refl

@@ -37,7 +37,7 @@ put_acts {S} o l m b effects e s put_effects there =
     ∙ sym ((λ t. let r : Acted S = record { node = (ap (node m) e ∙ node_live m) t; effects = put_effects t } in Some r)
     ∙ ap (λ z. let r : Acted S = record { node = model.Live z; effects = putting (o.byte l) } in Some r) there))
 
--- the children's values, taken back as the code asks: they go on behind the fork where no label is found
+-- the children's values, taken back as the code asks: they go on after the fork where no label is found
 pub not_back : (r s : Bool) → s ≡ not r → r ≡ not s
 not_back true s e = ap not (sym e)
 not_back false s e = ap not (sym e)

@@ -62,7 +62,7 @@ or_next (Some x) y e = absurd cc
 or_next None y e = refl
 
 module _ {S : Type 0} (o : Ops S) where
-  -- a fork's close, or else the meeting of the least channel that it declared and on which it is ready
+  -- a fork's close, or else the rendezvous of the least channel that it declared and on which it is ready
   head_here : (l : S) (ks : Nodes S) → head (here o (Forked l ks)) ≡ cond (all_done ks) (Some (Close (o.path l))) (option_map Meet (least (meets_here o (Forked l ks)) None (all_waited o ks)))
   head_here l ks =
       let passes = meets_here o (Forked l ks) in

@@ -26,7 +26,7 @@ child_in_place zero q (m ∷ ls) (b ∷ bs) l h e = ap (λ z. at q (node z b)) (
 child_in_place (suc i) q (m ∷ ls) [] l h e = child_in_place i q ls [] l (omega (arith, h)) e
 child_in_place (suc i) q (m ∷ ls) (b ∷ bs) l h e = child_in_place i q ls bs l (omega (arith, h)) e
 
--- behind the last child there is none
+-- after the last child there is none
 pub no_child : {S : Type 0} (i : ℕ) (q : List ℕ) (ls : List S) (bs : List (NodeStatus S)) → length ls ≤ i → child_at i q (together ls (nodes bs)) ≡ None
 no_child i q [] bs h = refl
 no_child zero q (m ∷ ls) bs h = absurd (omega (arith, h))
@@ -77,7 +77,7 @@ module _ {S : Type 0} (l : S) (b : NodeStatus S) (ls : Vec S Global) (bs : Vec (
       pub none_below : (p ≡ [] → ⊥) → None ≡ live_in (at (branches pairs) (node l b))
       none_below z = none_below_live m p z ∙ sym at_live
 
--- where a path acts, it leads to the node that its pairs behind the root's lead to
+-- where a path acts, it leads to the node that its pairs after the root's lead to
 pub on_node : {S : Type 0} (o : Ops S) (n : Node S) (r p : Path) → (act_route o n (route r p) ≡ None → ⊥) → at_route n (route r p) ≡ at (branches (drop (length r) p)) n
 on_node {S} o n r p h = at_branches (route r p) refl h
   where

@@ -1,4 +1,4 @@
--- Where the process of a path lives in a sound tree, as a search by the branches behind the root's path finds it.
+-- Where the process of a path lives in a sound tree, as a search by the branches after the root's path finds it.
 use Rattle.std.proofs.Common.{◌≡◌, ◌↔◌, ◌≤◌, ◌<◌, ℕ, true, Option, Some, None, List, length, drop, refl, sym, ap, subst, ◌∙◌, arith}
 use Rattle.shim_base.specs.Paths.{Path}
 use Rattle.shim_local.specs.Process.{Ops}
@@ -18,11 +18,11 @@ lives (Some (Ended k)) l e = none_some l e
 lives (Some (Dead k d)) l e = none_some l e
 
 module _ {S : Type 0} (o : Ops S) (n : Node S) (p : Path) where
-  -- the branches behind the root's path
+  -- the branches after the root's path
   abbrev pub rest : List ℕ
   rest = branches (drop (length (o.path (state n))) p)
 
-  -- who stands there lives behind the root's path
+  -- who stands there lives after the root's path
   pub stands_behind : (l : S) → StandsAt o n p (Live l) → (length (o.path (state n)) ≤ length p) × (at rest n ≡ Some (Live l))
   stands_behind l w =
       let s = process_at n (route (o.path (state n)) p) l w.there in

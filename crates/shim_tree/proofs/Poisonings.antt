@@ -140,7 +140,7 @@ module _ {S : Type 0} (o : Ops S) (c : Channel) where
       → poison_among o c i x.1 p (together ls.items (nodes bs.items)) ≡ Some (together ls'.items (nodes bs'.items)) → poison_by o c i q (node l b) ≡ Some (node l (code.Forked ls' bs'))
   fork_poisoned l b ls ls' bs bs' i x p q e f h = fork_leads l b ls bs i x p q e f ∙ (ap (above l) h ∙ ap Some (sym (node_forked l ls' bs')))
 
--- what is behind a front of a path
+-- what is after a front of a path
 front_rest : (r p q : Path) → after_front r p ≡ Some q → (length r ≤ length p) × (q ≡ drop (length r) p)
 front_rest [] p q e = (omega arith, some_same q p (sym e))
 front_rest (x ∷ r) [] q e = absurd cc

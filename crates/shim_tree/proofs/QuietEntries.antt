@@ -39,7 +39,7 @@ some_copied None e = absurd cc
 some_copied (Some l) e = (l.now, refl)
 
 module _ {S : Type 0} (o : Ops S) where
-  -- where more steps could be done, the process stands before a quiet one behind fewer
+  -- where more steps could be done, the process stands before a quiet one after fewer
   stands_between : (n m : ℕ) (l a b : S) → n < m → QuietSteps o n l a → QuietSteps o m l b → o.stop a ≡ AtQuiet
   stands_between n zero l a b h few many = absurd (omega (arith, h))
   stands_between zero (suc m) l a b h few many = ap o.stop (sym (some_same l a few)) ∙ (first_quiet o m l b many).0

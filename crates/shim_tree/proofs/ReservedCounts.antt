@@ -149,7 +149,7 @@ module _ {S : Type 0} (o : Ops S) where
         at_branches (Some q) e = at_node q (at q n) refl e
 
     mutual
-      -- a meeting changes no path
+      -- a rendezvous changes no path
       pub meeting_placed : LocalLaws o → (c : Channel) (v : ℤ) (n : Node S) → SoundBelow o n → AllHaveCounts o m n → AllHaveCounts o m (received o c v n)
       meeting_placed law c v (Live l) s h = (subst (HasCount m) (sym (meeting_stays o law c v (Live l) s).follows.path) h.0, tt)
       meeting_placed law c v (Ended l) s h = h

@@ -14,7 +14,7 @@ use Rattle.shim_tree.proofs.Children.{node_forked, at_forked}
 use Rattle.shim_tree.proofs.Beside.{inside, outside}
 use Rattle.shim_base.proofs.Facts.{some_same}
 
--- the branches of a route are those behind the front
+-- the branches of a route are those after the front
 route_left : (r p : Path) (q : List ℕ) → route r p ≡ Some q → q ≡ branches (drop (length r) p)
 route_left [] p q e = some_same q (branches p) (sym e)
 route_left (x ∷ r) [] q e = absurd cc
@@ -73,7 +73,7 @@ module _ {S : Type 0} (m : S) where
     pub none_swapped : n ≤ i → node l (code.Forked rs cs) ≡ with_state_at m q (node l b)
     none_swapped past = swapped_below rs cs (no_child_swapped p i rs.items cs.items (outside rs n i len past))
 
-  -- what stands in place of another by the pairs behind the front stands there by the route
+  -- what stands in place of another by the pairs after the front stands there by the route
   pub swapped_on : (r front p : Path) (n new : model.Node S) → front ≡ r → new ≡ with_state_at m (branches (drop (length front) p)) n → (q : List ℕ) → route r p ≡ Some q → new ≡ with_state_at m q n
   swapped_on r front p n new is swapped q e =
       swapped ∙ ap (λ z. with_state_at m z n) (ap (λ f. branches (drop (length f) p)) is ∙ sym (route_left r p q e))

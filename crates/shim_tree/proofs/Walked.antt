@@ -47,7 +47,7 @@ own_listed x p (AtTrap kind line) h = is_listed x (trees.Own p) h
 
 -- ---- what a fork can do itself
 
--- its close, and then its meetings
+-- its close, and then its rendezvous
 pub fork_listed : {S : Type 0} (o : Ops S) (n : Node S) (l : S) (ks : Nodes S) (es before now : List trees.Event) → n ≡ Forked l ks
     → before ≡ es ++ cond (all_done ks) (trees.Close (o.path l) ∷ []) [] → now ≡ before ++ map trees.Meet (in_order (filter (meets_here o n) (waited o n))) → now ≡ es ++ here o n
 fork_listed o n l ks es before now e f g =

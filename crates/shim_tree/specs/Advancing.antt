@@ -8,7 +8,7 @@ use Rattle.shim_semantics.specs.Nodes.{Node, everyone}
 use Rattle.shim_semantics.specs.Places.{branches}
 use Rattle.shim_run_log.specs.Reserved.{HasCount}
 
--- What is left of a path, by its next step: a branch and the place of the pair behind it, or nothing.
+-- What is left of a path, by its next step: a branch and the place of the pair after it, or nothing.
 abbrev pub led_on : Path → Option (ℕ × ℕ) → List ℕ
 led_on p None = []
 led_on p (Some s) = s.0 ∷ branches (drop s.1 p)

@@ -1,4 +1,4 @@
--- A channel's value as the code asks for it, and what a meeting leaves of the children from a place on.
+-- A channel's value as the code asks for it, and what a rendezvous leaves of the children from a place on.
 use Rattle.std.specs.Prelude.{ℕ, ℤ, zero, suc, Option, Some, None, cond}
 use Rattle.shim_base.specs.Paths.{Channel}
 use Rattle.shim_local.specs.Process.{Ops}

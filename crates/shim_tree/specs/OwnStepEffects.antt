@@ -9,7 +9,7 @@ use Rattle.shim_semantics.specs.Acts.{Effects}
 use Rattle.shim_semantics.specs.Trees.{with_logs}
 use Rattle.shim_tree.specs.Acting.{ActsOn}
 
--- the process of the path does its one thing, and the effects of that come behind what was put and logged
+-- the process of the path does its one thing, and the effects of that come after what was put and logged
 pub record DoesOwnStep {S : Type 0} (o : Ops S) (p : Path) (before after : Node S) (put put' : List ℕ) (logs logs' : finite.FinMap path_order (List LogWhat)) : Type 0 where
   pub effects : Effects
   pub acts : ActsOn o p before effects after

@@ -10,7 +10,7 @@ use Rattle.shim_semantics.specs.Trees.{Tree}
 use Rattle.shim_laws_replay.specs.Journals.{quiet_steps}
 use Rattle.shim_semantics.specs.Advancing.{with_state_at}
 
--- The process in this state, to which the branches lead, did the steps that the answer says, of which there are so many at most.
+-- The process in this state, to which the branches lead, did the steps that the answer says: so many at most, and fewer only if it came to another stop or ran out of memory.
 pub record DidQuietSteps {S : Type 0} (o : Ops S) (q : List ℕ) (most : ℕ) (quiet : Quiet) (first : S) (before after : Node S) : Type 0 where
   pub last : S
   pub steps : QuietSteps o quiet.taken first last

@@ -10,7 +10,7 @@ use crate::node_status::NodeStatus;
 use shim_local::Local;
 use std::mem::swap;
 
-// The branch that the process's path takes at the pair in this place, with the place behind it; `None`
+// The branch that the process's path takes at the pair in this place, with the place after it; `None`
 // where the path has ended.
 fn next_branch<L: Local>(process: &L, at: usize) -> Option<(usize, usize)>
     ensures { led_on (L.ops.path process.now) result ≡ branches (drop at (L.ops.path process.now)) }

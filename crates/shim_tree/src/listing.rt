@@ -118,7 +118,7 @@ fn push_own<L: Local>(l: &L, events: &mut List<Event>) -> Result<(), NoMemory>
     push_found(own_event(l), events)
 }
 
-// Adds a meeting on each of these channels.
+// Adds a rendezvous on each of these channels.
 fn push_meets(chans: &[&Chan], events: &mut List<Event>) -> Result<(), NoMemory>
     ensures { OnOk result (map event_of events.new ≡ map event_of events.old ++ map trees.Meet (channels chans.now)) }
 {
@@ -156,7 +156,7 @@ fn push_close<L: Local>(
     }
 }
 
-// Adds what a process that has forked can do: its close, and its meetings.
+// Adds what a process that has forked can do: its close, and its rendezvous.
 fn push_here<L: Local>(
     alloc: Global,
     l: &L,

@@ -17,7 +17,7 @@ use shim_local::{Local, Log};
 use shim_run_log::StepCounts;
 
 /// The process of this path does the one thing that it can do by itself, and the byte that it puts, or
-/// what is logged of it, comes behind the others. The children that it then has have their counts. Running out
+/// what is logged of it, comes after the others. The children that it then has have their counts. Running out
 /// of memory changes nothing, but for counts of 0.
 pub(crate) fn own_step<L: Local>(
     root: &mut L,

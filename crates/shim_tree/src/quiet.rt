@@ -10,7 +10,7 @@ use crate::node_status::NodeStatus;
 use shim_local::{Local, Stop};
 
 /// What a search for the process of a number has come to: the process, or how many are still to go
-/// behind those that it has passed.
+/// after those that it has passed.
 #[derive(Drop)]
 pub(crate) enum Sought<'a, L> {
     Here(&'a L),

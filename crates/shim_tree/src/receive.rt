@@ -1,4 +1,4 @@
-// What a meeting reads of a tree, and what it leaves.
+// What a rendezvous reads of a tree, and what it leaves.
 ghost use Rattle.std.specs.Prelude.{◌≡◌, cond, unwrap_or};
 ghost use Rattle.shim_semantics.specs.Nodes.{is_next, received, source, value_of, next_channel, name_for, first_name};
 ghost use Rattle.shim_tree.specs.NodeStatus.{node};

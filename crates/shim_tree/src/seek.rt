@@ -210,7 +210,7 @@ fn least_at<'a, L: Local>(
 }
 
 // What a process that has forked can do first: its close, where all children are done, and else the
-// meeting of the first of the channels that it declared and on which it is ready.
+// rendezvous of the first of the channels that it declared and on which it is ready.
 fn found_here<'a, L: Local>(
     l: &'a L,
     status: &'a NodeStatus<L>,

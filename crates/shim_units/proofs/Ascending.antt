@@ -15,7 +15,7 @@ falls xs at one within le up =
     let same : get_or xs (at - 1 + 1) 0 ≡ get_or xs at 0 = ap (λ k. get_or xs k 0) e in
     omega arith
 
--- each is below all that stand behind it
+-- each is below all that stand after it
 below_later : (xs : List ℕ) → IsStrictlyIncreasing xs → (i d : ℕ) → i + suc d < length xs → get_or xs i 0 < get_or xs (i + suc d) 0
 below_later xs up i zero h = up i (omega arith)
 below_later xs up i (suc d) h =

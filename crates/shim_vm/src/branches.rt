@@ -1,5 +1,5 @@
 // The branches that the code of a fork gathers, with the children that are made of them, and the place
-// behind it.
+// after it.
 ghost use Rattle.std.specs.Prelude.{◌≡◌, ◌+◌, ◌||◌, ◌++◌, ◌∷◌, [], List as ListOf, drop, length, Err, IfOk, OnOk, if◌then◌else◌};
 ghost use Rattle.std.specs.Option.{option_copied};
 ghost use Rattle.shim_base.specs.declared.operators.Trap.{Trap as TrapOf};
@@ -116,7 +116,7 @@ fn is_fork_instr(instr: Option<&MachineInstr>) -> bool
     }
 }
 
-/// The place behind the first fork that is at a place or later.
+/// The place after the first fork that is at a place or later.
 pub fn after_fork(code: &[MachineInstr], place: usize) -> usize
     ensures { result ≡ after_fork place (drop place code.now) }
 {

@@ -23,7 +23,7 @@ pub fn expressions_are_computed()
 {}
 
 /// From the mark at which a process stands its code computes, and comes to an instruction that does what
-/// the statement asks for, where the code of what comes then stands behind it; or it traps as the
+/// the statement asks for, where the code of what comes then stands after it; or it traps as the
 /// statement does. Or the statement isn't quiet.
 pub fn a_mark_leads_to_what_is_asked_for()
     ensures { (u : CodedUnit) (l : LocalState) (place : ℕ) → u.units ≡ l.program.units → NextSuits l.frame.todo l → IsPlaceOf u place l.frame.todo l.frame.halfway → (next_action l ≡ Wait) ⊎ ((r : Computed) × (Computes (env_of l.locations l.frame.slots) l.frame.slots u.code (record { place = place + 1; stack = []; given = [] }) r × EndAgrees u l r (next_action l))) }
@@ -37,7 +37,7 @@ pub fn a_call_suits_its_unit()
 
 /// From the mark of a fork its code gathers the branches, each with its arguments, in order, and comes to
 /// the fork of these, which makes the children that the definition says; or it traps as the first argument
-/// does that has no value. Behind the fork stands the code of what comes then.
+/// does that has no value. After the fork stands the code of what comes then.
 pub fn a_fork_gathers_its_branches()
     ensures { (u : CodedUnit) (l : LocalState) (place : ℕ) → u.units ≡ l.program.units → NextSuits l.frame.todo l → IsPlaceOf u place l.frame.todo l.frame.halfway → stop l ≡ AtFork → ComesToFork u l (place + 1) }
 {}

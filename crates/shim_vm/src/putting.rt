@@ -10,7 +10,7 @@ use shim_code::MachineInstr;
 use shim_locations::location::Location;
 use shim_locations::locations::value_in;
 
-/// The number that is put or thrown, and the place behind the instruction that does it.
+/// The number that is put or thrown, and the place after the instruction that does it.
 #[derive(Clone, Copy)]
 pub struct Putting {
     pub place: usize,
@@ -165,7 +165,7 @@ fn put_from(
     }
 }
 
-/// The number of the `put` or `throw` whose code begins at this place, and the place behind it; or the trap of its
+/// The number of the `put` or `throw` whose code begins at this place, and the place after it; or the trap of its
 /// expression. It takes no memory.
 pub fn put_at(
     code: &[MachineInstr],

@@ -5,7 +5,7 @@ use shim_base::{List, NoMemory};
 use std::alloc::{AllocFailed, Global};
 use std::marker::Model;
 
-/// Where a caller goes on behind its call, and the places of the handlers that are in force in it, the
+/// Where a caller goes on after its call, and the places of the handlers that are in force in it, the
 /// outermost first.
 #[derive(Drop)]
 pub struct ReturnPlace {

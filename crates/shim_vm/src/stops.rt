@@ -1,4 +1,4 @@
-// At what a process stands, by the mark at its place and the instructions behind it.
+// At what a process stands, by the mark at its place and the instructions after it.
 ghost use Rattle.std.specs.Prelude.{◌≡◌, ◌<◌, ◌+◌, ◌^◌, true, drop, length, slice_get};
 ghost use Rattle.std.specs.Option.{option_copied};
 ghost use Rattle.shim_process.specs.Locations.{Locations};
@@ -42,7 +42,7 @@ impl KeptStop {
     }
 }
 
-// At a meeting, which names its slot.
+// At a rendezvous, which names its slot.
 fn at_meeting(behind: Option<&MachineInstr>, context: &StatementContext<'_>) -> KeptStop
     ensures { kept_view context.now.locations.now result ≡ meeting_stop (option_copied behind.entry) (context_view context.now) }
 {

@@ -5,7 +5,7 @@ use Rattle.shim_base.proofs.Facts.{some_same, none_some, true_or_false}
 use Rattle.shim_base.proofs.SamePaths.{same_path_refl, same_path_is}
 use Rattle.shim_local.specs.Process.{Ops}
 use Rattle.shim_local.specs.Laws.{LocalLaws}
-use Rattle.shim_semantics.specs.Listing.{IsAmong}
+use Rattle.shim_base.specs.Lists.{IsAmong}
 use Rattle.shim_semantics.specs.Nodes.{Node, Live, state}
 use Rattle.shim_semantics.specs.Places.{at_route, route, StandsAt}
 use Rattle.shim_semantics.specs.Trees.{Tree}

@@ -8,7 +8,7 @@ use Rattle.std.proofs.lemmas.List.{append-nil}
 use Rattle.shim_semantics.proofs.HowMany.{clash}
 use Rattle.shim_semantics.proofs.Members.{among_either}
 use Rattle.shim_local.specs.Laws.{AllOf}
-use Rattle.shim_semantics.specs.Listing.{IsAmong}
+use Rattle.shim_base.specs.Lists.{IsAmong}
 use Rattle.shim_waits.specs.declared.explained.Wait.{Wait}
 use Rattle.shim_waits.specs.Cycles.{by_of, WaitInTurn, ComesByWaits, here, further, first_path, IsCycle, has, passed_since, from_some, ring, ring_from, least_of, turned_to, from_least, cycle_of}
 use Rattle.shim_waits.proofs.Following.{no_less_itself, not_both_less, least_is, join, comes_on, either_way, stays_on, back_again, same_rest}
@@ -150,7 +150,7 @@ module _ (ws : List Wait) where
     from : (q : Path) → IsAmong q others → IsAmong q front ⊎ IsAmong q back
     not_it : (q : Path) → IsAmong q others → q ≢ m
 
-  -- the ring goes on from the front to p, and from what is behind p to the front
+  -- the ring goes on from the front to p, and from what is after p to the front
   abbrev Around : List Path → Path → List Path → Type 0
   Around [] p ps = WaitInTurn ws p ps p
   Around (x ∷ fs) p ps = WaitInTurn ws x fs p × WaitInTurn ws p ps x

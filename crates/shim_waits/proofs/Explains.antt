@@ -12,7 +12,7 @@ use Rattle.shim_base.proofs.Facts.{some_same, none_some, true_or_false}
 use Rattle.shim_base.proofs.SamePaths.{same_path_refl, same_path_is}
 use Rattle.shim_local.specs.Process.{Ops, StopView, AtQuiet, AtNext, AtPut, AtFork, AtFinish, AtThrow, AtTrap}
 use Rattle.shim_local.specs.Laws.{LocalLaws}
-use Rattle.shim_semantics.specs.Listing.{IsAmong}
+use Rattle.shim_base.specs.Lists.{IsAmong}
 use Rattle.shim_semantics.specs.Nodes.{Node, state, next_channel, or_else}
 use Rattle.shim_semantics.specs.Trees.{Tree}
 use Rattle.shim_semantics.specs.Walks.{head}

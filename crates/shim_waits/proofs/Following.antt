@@ -6,7 +6,7 @@ use Rattle.std.specs.Ordering.{ordering_reverse}
 use Rattle.shim_base.specs.Paths.{Path, path_order}
 use Rattle.shim_base.specs.PathLaws.{path_order_total, exact_path}
 use Rattle.shim_base.proofs.Facts.{some_same}
-use Rattle.shim_semantics.specs.Listing.{IsAmong}
+use Rattle.shim_base.specs.Lists.{IsAmong}
 use Rattle.shim_semantics.proofs.Members.{among_either}
 use Rattle.shim_waits.specs.declared.explained.Wait.{Wait}
 use Rattle.shim_waits.specs.Cycles.{by_of, WaitInTurn, ComesByWaits, here, further, lesser_by, least_of}
@@ -24,7 +24,7 @@ no_less_itself p q e h = by (path_order q q) (ap (λ z. path_order z q) (sym h) 
 pub not_both_less : (p q : Path) → path_order p q ≡ Less → path_order q p ≡ Less → ⊥
 not_both_less p q e f = no_less_itself p p (path_order_total.trans p q p e f) refl
 
--- the least of some paths: it is one of them, and each is it or comes behind it
+-- the least of some paths: it is one of them, and each is it or comes after it
 pub record IsLeast (m : Path) (ps : List Path) : Type 0 where
   pub among : IsAmong m ps
   pub least : (q : Path) → IsAmong q ps → (q ≡ m) ⊎ (path_order m q ≡ Less)

@@ -5,7 +5,7 @@ use Rattle.shim_base.proofs.Facts.{some_same, none_some, first_holds, second_hol
 use Rattle.shim_base.proofs.SamePaths.{same_channel_refl}
 use Rattle.shim_local.specs.Process.{Ops, AtNext}
 use Rattle.shim_local.specs.Laws.{LocalLaws}
-use Rattle.shim_semantics.specs.Listing.{IsAmong}
+use Rattle.shim_base.specs.Lists.{IsAmong}
 use Rattle.shim_semantics.specs.Nodes.{Node, Nodes, Live, Forked, Ended, Dead, state, goes, any_sharer, next_channel}
 use Rattle.shim_semantics.specs.Places.{at, at_route, StandsAt, SoundBelow}
 use Rattle.shim_semantics.specs.Sound.{SharesItsOwn}

@@ -5,7 +5,7 @@ use Rattle.shim_base.proofs.Facts.{some_same, true_or_false}
 use Rattle.shim_base.proofs.SamePaths.{same_path_refl, same_path_is}
 use Rattle.shim_local.specs.Process.{Ops}
 use Rattle.shim_local.specs.Laws.{LocalLaws, AllOf, how_many}
-use Rattle.shim_semantics.specs.Listing.{IsAmong}
+use Rattle.shim_base.specs.Lists.{IsAmong}
 use Rattle.shim_semantics.specs.Trees.{Tree}
 use Rattle.shim_semantics.proofs.Members.{among_map}
 use Rattle.shim_waits.specs.Cycles.{IsCycle, cycle_of}

@@ -8,7 +8,7 @@ use Rattle.shim_base.proofs.Facts.{some_same, none_some, true_or_false}
 use Rattle.shim_base.proofs.SamePaths.{same_path_refl, same_path_is, same_channel_refl, same_channel_is}
 use Rattle.shim_local.specs.Process.{Ops}
 use Rattle.shim_local.specs.Laws.{AllOf, how_many}
-use Rattle.shim_semantics.specs.Listing.{IsAmong}
+use Rattle.shim_base.specs.Lists.{IsAmong}
 use Rattle.shim_semantics.specs.Nodes.{Node, Live, Forked, Ended, Dead, state, next_channel}
 use Rattle.shim_semantics.specs.Places.{StandsAt, led_to, has_path}
 use Rattle.shim_semantics.proofs.HowMany.{clash}
@@ -160,7 +160,7 @@ none_counted : (ws : List Wait) (p : Path) → ((i : ℕ) (v : Wait) → slice_g
 none_counted [] p f = refl
 none_counted (w ∷ ws) p f = passed_over (same_path w.path p) _ (f zero w refl) ∙ none_counted ws p (λ i. f (suc i))
 
--- of what comes behind one
+-- of what comes after one
 rest_first : (w : Wait) (ws : List Wait) → AreFirst (w ∷ ws) → (i : ℕ) (v : Wait) → slice_get ws i ≡ Some v → (same_path w.path v.path ≡ false) × (first_place ws v.path ≡ Some i)
 rest_first w ws all i v e = by (same_path w.path v.path) (all (suc i) v e)
   where

@@ -42,7 +42,7 @@ both_present : {B : Type 0} (y : Option B) (ys : List (Option B)) → present (y
 both_present None ys = refl
 both_present (Some z) ys = refl
 
--- of lent values, those that are left behind one
+-- of lent values, those that are left after one
 pub left_behind : {A B : Type 0} (v : A → B) (xs : List A) (i : ℕ) (x : A) → i < length xs → x ≡ get_or xs i x → drop i (map v xs) ≡ v x ∷ drop (i + 1) (map v xs)
 left_behind v xs i x h is =
     drop_more (map v xs) i (v x) (let w = length-map xs v in omega (arith, h, w)) ∙ ap (λ z. z ∷ drop (i + 1) (map v xs)) (get_or-map v xs i x (v x) h ∙ ap v (sym is))

@@ -6,7 +6,7 @@ use Rattle.std.specs.declared.cmp.Ordering.TheVariants.{Less, Equal}
 use Rattle.shim_base.specs.Paths.{Path, pair_order, path_order}
 use Rattle.shim_local.specs.Laws.{AllOf}
 use Rattle.shim_local.specs.Process.{Ops}
-use Rattle.shim_semantics.specs.Listing.{IsAmong}
+use Rattle.shim_base.specs.Lists.{IsAmong}
 use Rattle.shim_semantics.specs.Nodes.{Node, Nodes, Live, Forked, Ended, Dead, no_node, node_and, state}
 use Rattle.shim_semantics.specs.Places.{SoundBelow, SoundChildren}
 use Rattle.shim_semantics.proofs.Members.{among_either, among_mapped}
@@ -19,7 +19,7 @@ use Rattle.shim_waits.proofs.Found.{live_at}
 itself : (x : ℕ × ℕ) → pair_order x x ≡ Equal
 itself x = ap (λ r. ordering_then r (nat_cmp x.1 x.1)) (tied_itself nat_cmp_total x.0) ∙ tied_itself nat_cmp_total x.1
 
--- behind the same front
+-- after the same front
 behind_same : (p a b : Path) → path_order (p ++ a) (p ++ b) ≡ path_order a b
 behind_same [] a b = refl
 behind_same (x ∷ p) a b = ap (λ r. ordering_then r (path_order (p ++ a) (p ++ b))) (itself x) ∙ behind_same p a b

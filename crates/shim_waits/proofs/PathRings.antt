@@ -9,7 +9,7 @@ use Rattle.shim_base.specs.Paths.{Path, same_path, path_order}
 use Rattle.shim_base.proofs.Facts.{true_or_false}
 use Rattle.shim_base.proofs.SamePaths.{same_path_refl, same_path_is}
 use Rattle.shim_local.specs.Laws.{AllOf}
-use Rattle.shim_semantics.specs.Listing.{IsAmong}
+use Rattle.shim_base.specs.Lists.{IsAmong}
 use Rattle.shim_semantics.proofs.Members.{among_mapped}
 use Rattle.shim_waits.specs.Cycles.{by_of, has, passed_since, from_some, ring, least_of, turned_to, from_least}
 use Rattle.shim_waits.specs.Rings.{was_passed, numbers_since, from_number, number_ring, IsLeastAt, IsTurned}

@@ -3,7 +3,7 @@ use Rattle.std.specs.Prelude.{◌≡◌, List, [], ◌∷◌}
 use Rattle.shim_base.specs.Paths.{Path, same_path}
 use Rattle.shim_local.specs.Process.{Ops}
 use Rattle.shim_local.specs.Laws.{AllOf, how_many}
-use Rattle.shim_semantics.specs.Listing.{IsAmong}
+use Rattle.shim_base.specs.Lists.{IsAmong}
 use Rattle.shim_semantics.specs.Nodes.{Node}
 use Rattle.shim_waits.specs.Holding.{lives}
 use Rattle.shim_waits.specs.Waits.{IsWait}

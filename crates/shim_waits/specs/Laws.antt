@@ -6,7 +6,7 @@ use Rattle.shim_local.specs.Process.{Ops, AtNext}
 use Rattle.shim_local.specs.Laws.{AllOf, IsGiven}
 use Rattle.shim_semantics.specs.Nodes.{Node, state, goes}
 use Rattle.shim_semantics.specs.Places.{at}
-use Rattle.shim_semantics.specs.Listing.{IsAmong}
+use Rattle.shim_base.specs.Lists.{IsAmong}
 use Rattle.shim_semantics.specs.Laws.{IsSoundTree}
 use Rattle.shim_semantics.specs.Systems.{run}
 use Rattle.shim_semantics.specs.Trees.{Tree, Event, after, IsQuiescent}

@@ -5,7 +5,7 @@ use Rattle.shim_semantics.specs.Nodes.{Node, Nodes, Live, Forked, Ended, Dead, n
 use Rattle.shim_base.specs.Paths.{Channel, NamedChannel, same_channel}
 use Rattle.shim_local.specs.Process.{Ops, AtNext}
 use Rattle.shim_semantics.specs.Laws.{IsSoundTree}
-use Rattle.shim_semantics.specs.Listing.{IsAmong}
+use Rattle.shim_base.specs.Lists.{IsAmong}
 use Rattle.shim_semantics.specs.Trees.{Tree}
 use Rattle.shim_semantics.specs.Walks.{head}
 use Rattle.shim_waits.specs.Holding.{holds_up, first_of, lives}

@@ -8,11 +8,11 @@ use Rattle.shim_walk_frames.specs.Successors.{size_all}
 use Rattle.shim_walk_frames.specs.Pieces.{left_all}
 use Rattle.shim_walk_frames.proofs.Goes.{ends, one_place}
 
--- behind the last number of a text nothing is left, from whichever
+-- after the last number of a text nothing is left, from whichever
 pub both_after : (body : List UStmt) (p q : ℕ) → size_all body ≤ p → size_all body ≤ q → left_all body p ≡ left_all body q
 both_after body p q hp hq = ends body p hp ∙ sym (ends body q hq)
 
--- where the same is left from two numbers, these are one, or both behind the last
+-- where the same is left from two numbers, these are one, or both after the last
 pub same_left : (body : List UStmt) (p q : ℕ) → left_all body p ≡ left_all body q → p ≢ q → (size_all body ≤ p) × (size_all body ≤ q)
 same_left body p q e differ =
     ⊎_elim

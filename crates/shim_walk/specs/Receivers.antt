@@ -1,4 +1,4 @@
--- What a process does with the value of a meeting, by where the value goes.
+-- What a process does with the value of a rendezvous, by where the value goes.
 use Rattle.std.specs.Prelude.{ℤ}
 use Rattle.shim_process.specs.Todo.{On}
 use Rattle.shim_process.specs.LocalState.{LocalState}

@@ -556,7 +556,7 @@ impl Process {
         }
     }
 
-    // Where the value of the meeting at which it stands goes.
+    // Where the value of the rendezvous at which it stands goes.
     fn receiver(&self) -> Receiver
         ensures { (v : ℤ) → received result v self.now ≡ receive self.now v }
     {
@@ -899,7 +899,7 @@ impl Process {
         self.holds_output = output_back(children, self.holds_output);
     }
 
-    /// Takes back the values of the children of its last fork, given in order. It then stands behind
+    /// Takes back the values of the children of its last fork, given in order. It then stands after
     /// the fork, where `goes_on`, and else still at it.
     #[tactic(auto, unfolding(shim_process::specs::Forks::join))]
     pub fn join<P: HasProcess>(&mut self, children: &[P], goes_on: bool)

@@ -1,4 +1,4 @@
-// Where the value of a meeting goes.
+// Where the value of a rendezvous goes.
 ghost use Rattle.std.specs.Prelude.{◌≡◌, ℤ};
 ghost use Rattle.std.specs.Option.{option_copied};
 ghost use Rattle.shim_units.specs.declared.unit.UWhat.{out-UWhat};

@@ -25,7 +25,7 @@ pub fn next_of<'a>(context: &StatementContext<'a>, slot: u32) -> Stop<'a>
     }
 }
 
-// The stop at `next x = e`: quiet before the assignment, and at the meeting after it.
+// The stop at `next x = e`: quiet before the assignment, and at the rendezvous after it.
 fn meets_second<'a>(context: &StatementContext<'a>, slot: u32) -> Stop<'a>
     ensures { stop_view result ≡ if context.now.halfway then stops.at_next (location_of context.now.locations.now context.now.slots.now slot) else AtQuiet }
 {
@@ -36,7 +36,7 @@ fn meets_second<'a>(context: &StatementContext<'a>, slot: u32) -> Stop<'a>
     }
 }
 
-// The stop at `x = next y`: at the meeting, and quiet once it is done, before the assignment.
+// The stop at `x = next y`: at the rendezvous, and quiet once it is done, before the assignment.
 fn meets_first<'a>(context: &StatementContext<'a>, slot: u32) -> Stop<'a>
     ensures { stop_view result ≡ if context.now.halfway then AtQuiet else stops.at_next (location_of context.now.locations.now context.now.slots.now slot) }
 {

@@ -99,7 +99,7 @@ here body f at s b e h =
     let r = b.reached in
     record { begins = b; not_passed = λ lt. omega arith }
 
--- it is behind all
+-- it is after all
 pub at_end : (body : List UStmt) (f : Cursor) (at : ℕ) → BeginsBefore body f at → slice_get body f.index ≡ None → IsCursor body f at
 at_end body f at b e = let le = beyond body f.index e in record { begins = b; not_passed = λ lt. absurd (omega arith) }
 
@@ -150,6 +150,6 @@ goes_here body f c at s is e =
     let le : size_all (take f.index body) ≤ at = omega arith in
     ap (λ n. shifted n ((successors s).go c (at - n))) b ∙ sym (go_one body f.index at c s e le (is.not_passed (slice_get_within body f.index s e)))
 
--- what follows the number stands in the same statement, or behind it
+-- what follows the number stands in the same statement, or after it
 pub goes_behind : (body : List UStmt) (f : Cursor) (at to n : ℕ) → BeginsBefore body f at → to ≡ f.first + n → BeginsBefore body f to
 goes_behind body f at to n b e = record { within = b.within; first = b.first; reached = omega arith }

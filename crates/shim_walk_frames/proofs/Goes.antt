@@ -117,7 +117,7 @@ block_good s a ga w i p z =
       sound = subst Sound (sym (whole_is _ _ _ _ _ _ (w ∙ sym (successor_all a)) is_items (p ∙ ap part_of (pieces_is a)))) (all_sound a ga);
     }
 
--- a loop behind its first part
+-- a loop after its first part
 abbrev for_piece : UStmt → StmtPiece → StmtPiece → StmtPiece → StmtPiece
 for_piece s first body step = joined_piece first (loop_piece s (joined_piece body step))
 
@@ -245,7 +245,7 @@ every_good (s ∷ ss) = (good s, every_good ss)
 pub sizes_agree : (ss : List UStmt) → size_all ss ≡ numbering.size_all ss
 sizes_agree ss = all_size ss (every_good ss)
 
--- behind its last number nothing is left
+-- after its last number nothing is left
 pub ends_all : (ss : List UStmt) (base n : ℕ) (k : List Item) → size_all ss ≤ n → (piece_all ss).left base n k ≡ k
 ends_all [] base n k h = refl
 ends_all (s ∷ ss) base n k h =

@@ -90,7 +90,7 @@ sound_one s f = record {
           at_most = one;
         }
 
--- one piece behind the other
+-- one piece after the other
 module _ (a b : StmtPiece) (sa : Sound a) (sb : Sound b) where
   abbrev ab : StmtPiece
   ab = joined_piece a b
@@ -198,7 +198,7 @@ at_zero s w base c k p l a g b f =
       at_most = rw g b;
     }
 
--- into a block of a statement, behind which so many `try` blocks end
+-- into a block of a statement, after which so many `try` blocks end
 enters : (w l : StmtPiece) (sl : Sound l) (base from base1 v : ℕ) (k lk : List Item) (end : Position)
     → (0 < l.successors.size → past w base k from ≡ past l base1 lk 0) → lk ≡ leaves end.left (past w base k end.at)
     → l.items base1 ++ lk ≡ leaves (into from l.successors.size end).left (past w base k (into from l.successors.size end).at)

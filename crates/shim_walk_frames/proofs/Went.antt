@@ -58,7 +58,7 @@ goes_on body s cursor c at left lt e1 e2 =
     ∙ ap (λ n. record h { todo = left_all body at; places = take (n - left) f.places }) m
     ∙ ap (λ ps. record h { todo = left_all body at; places = ps }) (take-map (exception_place_of body) (length s.places - left) s.places))
 
--- behind the last one nothing is left
+-- after the last one nothing is left
 pub stays : (body : List UStmt) (s : FrameView) (c : Successor) → size_all body ≤ s.at → frame_of body (record s { halfway = false }) ≡ went (successor_of c) (frame_of body s)
 unfolding went
 stays body s c le =

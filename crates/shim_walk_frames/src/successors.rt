@@ -6,7 +6,7 @@ ghost use Rattle.std.specs.Option.{option_copied};
 
 use shim_units::{UStmt, UWhat};
 
-/// Where a process goes from a statement: behind it, or into its first or its second block.
+/// Where a process goes from a statement: after it, or into its first or its second block.
 #[derive(Clone, Copy, Debug, PartialEq, Eq)]
 pub enum Successor {
     On,

@@ -9,8 +9,11 @@ use shim_base::NoMemory;
 use shim_local::Local;
 use shim_net::{Gate, Net};
 
-/// How many processes run in place in a turn, before others may bring back what they did.
-pub(crate) const RUNS_IN_A_TURN: u64 = 256;
+// How many processes run in place in a turn, before others may bring back what they did.
+const RUNS_IN_A_TURN: u64 = 256;
+
+/// How many times pieces are handed out in a turn.
+pub(crate) const HAND_OUTS_IN_A_TURN: u64 = 256;
 
 // What a process did in place, and whether it is next again: else it came to another stop, or the budget is spent.
 #[derive(Clone, Copy)]
@@ -67,11 +70,11 @@ fn run_next<L: Local, G: Gate>(
 /// Pieces that are to be handed out: of at most so many processes that are at home, of so many steps each.
 #[derive(Drop)]
 pub(crate) struct HandOut {
-    pub(crate) some: u64,
-    pub(crate) most: u64,
+    pub(crate) pieces: u64,
+    pub(crate) steps: u64,
     /// How many of them this worker will do itself.
-    pub(crate) mine: u64,
-    ghost step: { 1 ≤ most },
+    pub(crate) own: u64,
+    ghost step: { 1 ≤ steps },
 }
 
 /// How far who has the turn has come with the processes at home.
@@ -79,12 +82,18 @@ pub(crate) struct HandOut {
 pub(crate) struct AtHome {
     runs: u64,
     steps: u64,
+    // whether the turn is to be left, however few ran
+    is_over: bool,
 }
 
 impl AtHome {
     /// At the beginning of a turn.
     pub(crate) fn new() -> AtHome {
-        AtHome { runs: 0, steps: 0 }
+        AtHome {
+            runs: 0,
+            steps: 0,
+            is_over: false,
+        }
     }
 
     /// Whether a process did steps in place.
@@ -111,19 +120,16 @@ impl AtHome {
             lengths.in_place()
         };
         let run = run_next(net, lengths.first(), limit, gate)?;
-        self.runs = if run.steps == 0 {
-            RUNS_IN_A_TURN
-        } else {
-            self.runs.saturating_add(1)
-        };
+        self.is_over = run.steps == 0;
+        self.runs = self.runs.saturating_add(1);
         self.steps = self.steps.saturating_add(run.steps);
         if is_alone || !run.goes_on {
             return Ok(None);
         }
         Ok(Some(HandOut {
-            some: 1,
-            most: lengths.after_those(),
-            mine: 0,
+            pieces: 1,
+            steps: lengths.after_those(),
+            own: 0,
         }))
     }
 
@@ -139,15 +145,15 @@ impl AtHome {
     {
         net.settle()?;
         for _ in 0..RUNS_IN_A_TURN {
-            if self.runs >= RUNS_IN_A_TURN || self.steps >= LONGEST {
+            if self.is_over || self.runs >= RUNS_IN_A_TURN || self.steps >= LONGEST {
                 return Ok(None);
             }
             if shared_state.hands_out_untried() && net.runnable() > 1 {
-                self.runs = RUNS_IN_A_TURN; // others do what is at home
+                self.is_over = true; // others do what is at home
                 return Ok(Some(HandOut {
-                    some: u64::MAX,
-                    most: shared_state.lengths().first(),
-                    mine: 1,
+                    pieces: u64::MAX,
+                    steps: shared_state.lengths().first(),
+                    own: 1,
                 }));
             }
             if let Some(out) = self.run_one(net, gate, shared_state)? {

@@ -23,7 +23,7 @@ const MOST_OUT: u64 = 64;
 pub(crate) struct Pieces<L: Local> {
     lane: Lane<Parcel<L>>,
     // how often it began to give a piece out, which is the round of the next grant
-    grants: u64,
+    next_round: u64,
     // the piece that its lane refused
     refused: Option<Parcel<L>>,
     // those that it did, and that no net has taken in yet
@@ -66,7 +66,7 @@ impl<L: Local> Pieces<L> {
     pub(crate) fn new(alloc: Global, lane: Lane<Parcel<L>>) -> Result<Pieces<L>, NoMemory> {
         Ok(Pieces {
             lane,
-            grants: 0,
+            next_round: 0,
             refused: None,
             done: Vec::with_capacity(alloc, MOST_DONE)?,
         })
@@ -102,8 +102,8 @@ impl<L: Local> Pieces<L> {
             return Ok(Handed::NotPut);
         }
         let slot = self.lane.home();
-        let round = self.grants;
-        self.grants = round.wrapping_add(1);
+        let round = self.next_round;
+        self.next_round = round.wrapping_add(1);
         if net.is_out(slot, round) {
             redo(net)?;
             return Ok(Handed::NotPut);

@@ -3,7 +3,7 @@ ghost use Rattle.std.specs.Prelude.{◌≡◌};
 ghost use Rattle.shim_board.specs.Chairs.{StandsAs, slots_of};
 ghost use Rattle.shim_workers.specs.Workers.{HasTurn, IsNetOf, SameName};
 
-use crate::at_home::{AtHome, RUNS_IN_A_TURN};
+use crate::at_home::{AtHome, HAND_OUTS_IN_A_TURN};
 use crate::collecting::{Collected, collect_all};
 use crate::handing_out::hand_out_some;
 use crate::load::{NetBoard, NetChair};
@@ -78,12 +78,12 @@ fn schedule_net<L: Local, G: Gate>(
     settle_after(net, collected, shared_state)?;
     let mut home = AtHome::new();
     let mut found = collected.back > 0;
-    for _ in 0..RUNS_IN_A_TURN {
+    for _ in 0..HAND_OUTS_IN_A_TURN {
         let Some(out) = home.run(net, gate, shared_state)? else {
             break;
         };
-        let put = hand_out_some(board, chair, net, slots, out.some, out.most)?;
-        shared_state.wake(put.saturating_sub(out.mine));
+        let put = hand_out_some(board, chair, net, slots, out.pieces, out.steps)?;
+        shared_state.wake(put.saturating_sub(out.own));
         found = found || put > 0;
     }
     Ok(found || home.has_run())

@@ -156,7 +156,7 @@ impl SharedState {
 
     /// At most so many tries that a worker doesn't sleep after them. A worker asks this if it has something that
     /// must not wait.
-    pub(crate) fn awake(tries: u64) -> u64 {
+    pub(crate) fn capped_tries(tries: u64) -> u64 {
         tries.min(SPINS)
     }
 

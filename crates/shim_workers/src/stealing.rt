@@ -3,7 +3,7 @@ ghost use Rattle.std.specs.Prelude.{◌≡◌};
 ghost use Rattle.shim_board.specs.Chairs.{StandsAs};
 ghost use Rattle.shim_workers.specs.Workers.{HasTurn, SameName};
 
-use crate::at_home::{AtHome, RUNS_IN_A_TURN};
+use crate::at_home::{AtHome, HAND_OUTS_IN_A_TURN};
 use crate::load::{NetBoard, NetChair};
 use crate::pieces::Pieces;
 use crate::scheduling::{end_turn, settle_after};
@@ -28,12 +28,12 @@ fn schedule_net<L: Local, G: Gate>(
     settle_after(net, taken, shared_state)?;
     let mut home = AtHome::new();
     let mut found = taken.back > 0;
-    for _ in 0..RUNS_IN_A_TURN {
+    for _ in 0..HAND_OUTS_IN_A_TURN {
         let Some(out) = home.run(net, gate, shared_state)? else {
             break;
         };
-        let put = pieces.hand_out_some(net, out.some, out.most)?;
-        shared_state.wake(put.saturating_sub(out.mine));
+        let put = pieces.hand_out_some(net, out.pieces, out.steps)?;
+        shared_state.wake(put.saturating_sub(out.own));
         found = found || put > 0;
     }
     Ok(found || home.has_run())
@@ -87,7 +87,7 @@ pub(crate) fn run_stealer<L: Local, G: Gate, R: Wait>(
         let found = work_once(rt, board, &mut chair, &mut pieces, gate, shared_state);
         tries = shared_state.after_look(rt, epoch, tries, found);
         if pieces.has_done() {
-            tries = SharedState::awake(tries); // nobody else can take in what it did
+            tries = SharedState::capped_tries(tries); // nobody else can take in what it did
         }
     }
     chair

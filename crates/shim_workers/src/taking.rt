@@ -7,7 +7,8 @@ use shim_base::NoMemory;
 use shim_local::{Finished, Local};
 use shim_net::{Absorbed, Net};
 
-// A piece of no grant changes nothing.
+// Drops a piece of no grant, which changes nothing. The work of its grant is done by `redo_all`, at the end of the
+// round.
 fn discard<L: Local>(_finished: Finished<L>) -> Result<(), NoMemory> {
     Ok(())
 }

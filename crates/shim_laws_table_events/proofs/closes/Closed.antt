@@ -1,4 +1,4 @@
--- A fork closes: the tree behind, and how states and records stand to it when nothing above was brought up to date.
+-- A fork closes: the tree after, and how states and records stand to it when nothing above was brought up to date.
 use Rattle.std.proofs.Common.{◌≡◌, ◌≢◌, ◌≤◌, ℕ, Bool, true, false, cond, ltb, Option, Some, None, List, ◌++◌, map, length, drop, slice_set, inl, inr, refl, sym, ap, subst, ◌∙◌}
 use Rattle.std.specs.Prelude.{slice_get}
 use Rattle.std.specs.Option.{option_map}
@@ -19,7 +19,7 @@ use Rattle.shim_laws_table.specs.NodeStatus.{ProcessStatus, forks, process_statu
 use Rattle.shim_laws_table.specs.Agrees.{RecordView, Has, Represents}
 use Rattle.shim_laws_table.specs.Places.{IsReplaced, HasActed}
 use Rattle.shim_laws_table.specs.Changes.{HasClosed, segment, prevailing_among}
-use Rattle.shim_laws_table.specs.Counts.{running_of}
+use Rattle.shim_laws_table.specs.Counts.{going_of}
 use Rattle.shim_laws_table.specs.Tallied.{OnTheWay, HaveCounts}
 use Rattle.shim_laws_table.specs.Updating.{AreLinked, AreAtMost}
 use Rattle.shim_laws_table.specs.LoweredLabels.{LabelsOnTheWay}
@@ -55,7 +55,7 @@ closed_leaf : {S : Type 0} (o : Ops S) (l : S) (ks : List S) (d : Option Death) 
 closed_leaf o l ks None = refl
 closed_leaf o l ks (Some d) = thrown_leaf o (o.join l ks false) d
 
--- Records that show the tree behind, where counts and labels above a place are still those of the tree before.
+-- Records that show the tree after, where counts and labels above a place are still those of the tree before.
 pub record Begins {S : Type 0} (o : Ops S) (rp : Path) (states : List S) (old new : Node S) (q : List ℕ) (i : ℕ) (s : S) (k : ProcessStatus) (rs : List Record) : Type 0 where
   pub shown : Represents o rp states (map record_view rs) new
   pub linked : AreLinked states (map record_view rs) (up_in rs)
@@ -86,7 +86,7 @@ begins_too o rp states old new q i s k rs left h b =
           (subst (λ z. LabelsOnTheWay o rp states z c (counts_in c rs) (min_labels_in c rs) old new q) st (b.labels c)));
     }
 
--- What is known where a fork closes: of the tree behind, and of records of which those of its children are free, and its own says what came of it.
+-- What is known where a fork closes: of the tree after, and of records of which those of its children are free, and its own says what came of it.
 pub record Behind {S : Type 0} (o : Ops S) (rp : Path) (t : Tree S) (states : List S) (rs : List Record) (i g n : ℕ) (l : S) (a : Acted S) (now : List Record) : Type 0 where
   pub tree : Tree S
   pub enabled : after o (Close (o.path l)) t ≡ Some tree
@@ -107,7 +107,7 @@ pub record Behind {S : Type 0} (o : Ops S) (rp : Path) (t : Tree S) (states : Li
   pub long : length now ≡ length rs
 
 module _ {S : Type 0} (o : Ops S) (law : LocalLaws o) (rp : Path) (t : Tree S) (states : List S) (rs : List Record) (i g n : ℕ) (l : S) (q : Record) (a : Acted S)
-    (kept : TableInvariant o rp (record { states = states; records = rs }) t.root) (has : Has states (map record_view rs) i g l (forks n)) (at_q : slice_get rs i ≡ Some q) (none : q.running_children ≡ 0)
+    (kept : TableInvariant o rp (record { states = states; records = rs }) t.root) (has : Has states (map record_view rs) i g l (forks n)) (at_q : slice_get rs i ≡ Some q) (none : q.going_children ≡ 0)
     (is : a ≡ closed o l (segment g n states) (prevailing_among (segment g n (map record_view rs)))) where
   abbrev old_views : List RecordView
   old_views = map record_view rs
@@ -115,7 +115,7 @@ module _ {S : Type 0} (o : Ops S) (law : LocalLaws o) (rp : Path) (t : Tree S) (
   abbrev states' : List S
   states' = slice_set states i (state a.node)
 
-  -- ---- the tree behind
+  -- ---- the tree after
 
   fork : (ks : Nodes S) × (at (place o rp l) t.root ≡ Some (Forked l ks)) × (how_many_nodes ks ≡ n)
   fork = seen_fork (at (place o rp l) t.root) l n (kept.represents.agrees.shown i g l (forks n) has)
@@ -123,8 +123,8 @@ module _ {S : Type 0} (o : Ops S) (law : LocalLaws o) (rp : Path) (t : Tree S) (
   abbrev m : Node S
   m = Forked l fork.0
 
-  none_go : running_of fork.0 ≡ 0
-  none_go = sym (kept.running_children i g n l l fork.0 q has at_q fork.1) ∙ none
+  none_go : going_of fork.0 ≡ 0
+  none_go = sym (kept.going_children i g n l l fork.0 q has at_q fork.1) ∙ none
 
   next : (u : Tree S) × (after o (Close (o.path l)) t ≡ Some u)
   next = some_of (after o (Close (o.path l)) t) (((enabled_by_records o law).closes rp states old_views t i g n l fork.0 kept.represents has fork.1).1 none_go)

@@ -29,7 +29,7 @@ less_or_not i zero = inr (omega arith)
 less_or_not zero (suc j) = inl (omega arith)
 less_or_not (suc i) (suc j) = elim (less_or_not i j) [ inl h ↦ inl (omega (arith, h)) | inr h ↦ inr (omega (arith, h)) ]
 
--- a number that is none of some that lie together is before or behind them
+-- a number that is none of some that lie together is before or after them
 aside_of : (i g n : ℕ) → ((b : ℕ) → b < n → i ≢ g + b) → (i < g) ⊎ (g + n ≤ i)
 aside_of i g zero h = elim (less_or_not i g) [ inl w ↦ inl w | inr w ↦ inr (omega (arith, w)) ]
 aside_of i g (suc n) h = elim (aside_of i g n (λ b less. h b (omega (arith, less)))) [

@@ -16,7 +16,7 @@ use Rattle.shim_laws_table.specs.NodeStatus.{ProcessStatus, lives, forks, ends, 
 use Rattle.shim_laws_table.specs.Agrees.{RecordView, Has, Represents}
 use Rattle.shim_laws_table.specs.Places.{IsReplaced}
 use Rattle.shim_laws_table.specs.Changes.{segment, prevailing_among}
-use Rattle.shim_laws_table.specs.Counts.{ChildStatus as Read, running_of}
+use Rattle.shim_laws_table.specs.Counts.{ChildStatus as Read, going_of}
 use Rattle.shim_laws_table.specs.Tallied.{Tallied, HaveCounts}
 use Rattle.shim_laws_table.specs.Updating.{AreLinked, AreAtMost}
 use Rattle.shim_laws_table.specs.Dooms.{min_dead_label}
@@ -186,32 +186,32 @@ module _ {S : Type 0} (o : Ops S) (law : LocalLaws o) (rp : Path) (t : Tree S) (
   was_first : (j : ℕ) (z : Record) → j ≢ i → slice_get now j ≡ Some z → (y : Record) × (slice_get rs j ≡ Some y) × (without_status y ≡ without_status z)
   was_first j z far e = from_map without_status (slice_get rs j) (without_status z) (sym (b.other j far) ∙ ap (option_map without_status) e)
 
-  running_children : (j d w : ℕ) (u v : S) (ks : Nodes S) (r : Record) → Has states' (map record_view now) j d u (forks w) → slice_get behind j ≡ Some r → at (place o rp u) new ≡ Some (Forked v ks) → r.running_children ≡ running_of ks
-  running_children j d w u v ks r fork e there = elim (b.closes.only j d u (forks w) fork) [
+  going_children : (j d w : ℕ) (u v : S) (ks : Nodes S) (r : Record) → Has states' (map record_view now) j d u (forks w) → slice_get behind j ≡ Some r → at (place o rp u) new ≡ Some (Forked v ks) → r.going_children ≡ going_of ks
+  going_children j d w u v ks r fork e there = elim (b.closes.only j d u (forks w) fork) [
     | inl x ↦ no_fork a.node w b.leaf (sym x.2)
     | inr x ↦
         let y = was_left j r e in
         let z = was_now j y.0 y.1 in
         let p = was_first j z.0 x.0 z.1 in
-        ap (λ (z : UncountedRecord). z.running_children) (sym y.2) ∙ on k refl leaves y.0 z.0 p.0 y.1 z.1 p.1 (ap (λ (z : RecordWithoutStatus). z.running_children) p.2) x.2
+        ap (λ (z : UncountedRecord). z.going_children) (sym y.2) ∙ on k refl leaves y.0 z.0 p.0 y.1 z.1 p.1 (ap (λ (z : RecordWithoutStatus). z.going_children) p.2) x.2
   ]
     where
-      less : goes a.node ≡ false → HasCountedOff i now left → (y z p : Record) → slice_get left j ≡ Some y → slice_get now j ≡ Some z → slice_get rs j ≡ Some p → p.running_children ≡ z.running_children → Has states (map record_view rs) j d u (forks w) → y.running_children ≡ running_of ks
+      less : goes a.node ≡ false → HasCountedOff i now left → (y z p : Record) → slice_get left j ≡ Some y → slice_get now j ≡ Some z → slice_get rs j ≡ Some p → p.going_children ≡ z.going_children → Has states (map record_view rs) j d u (forks w) → y.going_children ≡ going_of ks
       less f fewer y z p ey ez ep so was =
           let h = still_go o rp states (map record_view rs) (up_in rs) t.root new m a.node i g l (forks n) kept.represents kept.linked has (subst (λ z. IsReplaced z m a.node t.root new) b.same_place b.replaced) b.leaf refl f j d w u v ks was there in
-          let first = kept.running_children j d w u v h.children p was ep h.there in
+          let first = kept.going_children j d w u v h.children p was ep h.there in
           elim h.so_many [
-            | inl x ↦ one_less y.running_children (running_of ks) (running_of h.children) (going_less i now left fewer j z y (ap (λ f. f i) b.ups ∙ x.0) ez ey ∙ ap (λ n. n - 1) (sym so ∙ first)) x.1
-            | inr x ↦ ap (λ (z : Record). z.running_children) (some_same y z (sym ey ∙ (going_elsewhere i now left fewer j (λ e. x.0 (ap (λ f. f i) (sym b.ups) ∙ e)) ∙ ez))) ∙ (sym so ∙ (first ∙ sym x.1))
+            | inl x ↦ one_less y.going_children (going_of ks) (going_of h.children) (going_less i now left fewer j z y (ap (λ f. f i) b.ups ∙ x.0) ez ey ∙ ap (λ n. n - 1) (sym so ∙ first)) x.1
+            | inr x ↦ ap (λ (z : Record). z.going_children) (some_same y z (sym ey ∙ (going_elsewhere i now left fewer j (λ e. x.0 (ap (λ f. f i) (sym b.ups) ∙ e)) ∙ ez))) ∙ (sym so ∙ (first ∙ sym x.1))
           ]
 
-      on : (h : ProcessStatus) → k ≡ h → CountsOffIfOver h i now left → (y z p : Record) → slice_get left j ≡ Some y → slice_get now j ≡ Some z → slice_get rs j ≡ Some p → p.running_children ≡ z.running_children → Has states (map record_view rs) j d u (forks w) → y.running_children ≡ running_of ks
+      on : (h : ProcessStatus) → k ≡ h → CountsOffIfOver h i now left → (y z p : Record) → slice_get left j ≡ Some y → slice_get now j ≡ Some z → slice_get rs j ≡ Some p → p.going_children ≡ z.going_children → Has states (map record_view rs) j d u (forks w) → y.going_children ≡ going_of ks
       on lives f same y z p ey ez ep so was =
           let h = as_many o q m a.node t.root new b.replaced b.leaf (goes_by_status a.node ∙ ap goes_on f) (place o rp u) v ks there in
-          ap (λ (z : Record). z.running_children) (some_same y z (sym ey ∙ (ap (λ z. slice_get z j) same ∙ ez))) ∙ (sym so ∙ (kept.running_children j d w u v h.children p was ep h.there ∙ sym h.same))
+          ap (λ (z : Record). z.going_children) (some_same y z (sym ey ∙ (ap (λ z. slice_get z j) same ∙ ez))) ∙ (sym so ∙ (kept.going_children j d w u v h.children p was ep h.there ∙ sym h.same))
       on (forks c) f same y z p ey ez ep so was =
           let h = as_many o q m a.node t.root new b.replaced b.leaf (goes_by_status a.node ∙ ap goes_on f) (place o rp u) v ks there in
-          ap (λ (z : Record). z.running_children) (some_same y z (sym ey ∙ (ap (λ z. slice_get z j) same ∙ ez))) ∙ (sym so ∙ (kept.running_children j d w u v h.children p was ep h.there ∙ sym h.same))
+          ap (λ (z : Record). z.going_children) (some_same y z (sym ey ∙ (ap (λ z. slice_get z j) same ∙ ez))) ∙ (sym so ∙ (kept.going_children j d w u v h.children p was ep h.there ∙ sym h.same))
       on ends f fewer y z p ey ez ep so was = less (goes_by_status a.node ∙ ap goes_on f) fewer y z p ey ez ep so was
       on (dies x) f fewer y z p ey ez ep so was = less (goes_by_status a.node ∙ ap goes_on f) fewer y z p ey ez ep so was
 
@@ -258,7 +258,7 @@ module _ {S : Type 0} (o : Ops S) (law : LocalLaws o) (rp : Path) (t : Tree S) (
       counts = subst (λ z. Tallied o rp states' (map record_view behind) c z new) (sym (counts c)) (subst (λ z. Tallied o rp states' z c (counts_in c between) new) st_behind (brought.1 c).0);
       labels = subst (λ z. Labelled o rp states' (map record_view behind) c z (min_labels_in c behind) new) (sym (counts c)) (subst (λ z. Labelled o rp states' z c (counts_in c between) (min_labels_in c behind) new) st_behind (labelled c));
     };
-    running_children = λ j d w u v ks r fork e there. running_children j d w u v ks r (subst (λ z. Has states' z j d u (forks w)) st_now fork) e there;
+    going_children = λ j d w u v ks r fork e there. going_children j d w u v ks r (subst (λ z. Has states' z j d u (forks w)) st_now fork) e there;
     known = λ c. subst (λ z. AreKnown o rp states' z c (known_in c behind) new) (sym st_now) (known c);
     fit = λ j d u h r has_it e. fit j d u h r (subst (λ z. Has states' z j d u h) st_now has_it) e;
     beside = length-set states i s ∙ (kept.beside ∙ sym (sym (map_length rest_of behind) ∙ (ap length rest_left ∙ (map_length rest_of left ∙ (sym (map_length record_body left) ∙ (ap length said_same ∙ (map_length record_body now ∙ b.long)))))));

@@ -126,7 +126,7 @@ module _ {S : Type 0} (o : Ops S) (rp : Path) (root : Node S) (states : List S) 
           let fork = had states rs m unused i f s _ h in
           ap (min_label_at c) (still states rs m unused i f s _ fork) ∙ (kept.right c).labels i f n s l ks fork (λ none. counted (ap (counts_at c) (still states rs m unused i f s _ fork) ∙ none)) there;
     };
-    running_children = λ i f n s l ks r h e there. kept.running_children i f n s l ks r (had states rs m unused i f s _ h) (inside rs m i r e).1 there;
+    going_children = λ i f n s l ks r h e there. kept.going_children i f n s l ks r (had states rs m unused i f s _ h) (inside rs m i r e).1 there;
     known = λ c i f n s k l ks h e there. let fork = had states rs m unused i f s _ h in kept.known c i f n s k l ks fork (sym (ap (known_at c) (still states rs m unused i f s _ fork)) ∙ e) there;
     fit = λ i f s k r h e. kept.fit i f s k r (had states rs m unused i f s k h) (inside rs m i r e).1;
     beside = same_lengths states rs m kept.beside;

@@ -33,7 +33,7 @@ use Rattle.shim_records.proofs.FullPropagation.{rest_ups}
 use Rattle.shim_laws_table_events.proofs.keeping.Forks.{carried}
 use Rattle.shim_laws_table_events.specs.closes.Closing.{AllRecomputed, none_left, one_more}
 
--- another channel than the first is among those behind it
+-- another channel than the first is among those after it
 among_rest : (c d : Channel) (cs : List Channel) → same_channel d c ≡ false → IsAmong c (d ∷ cs) → IsAmong c cs
 among_rest c d cs far (zero, e) = absurd (clash (same_channel d c) (ap (λ z. same_channel z c) (some_same d c e) ∙ same_channel_refl c) far)
 among_rest c d cs far (suc i, e) = (i, e)

@@ -10,7 +10,7 @@ use Rattle.shim_semantics.proofs.ReplacedNodes.{put, put_child}
 use Rattle.shim_laws_table.specs.NodeStatus.{ProcessStatus, forks, seen, is_leaf, place, how_many_nodes, IsAside}
 use Rattle.shim_laws_table.specs.Agrees.{RecordView, Has, Represents}
 use Rattle.shim_laws_table.specs.Places.{IsReplaced}
-use Rattle.shim_laws_table.specs.Counts.{bit, running_of}
+use Rattle.shim_laws_table.specs.Counts.{bit, going_of}
 use Rattle.shim_laws_table.specs.Tallied.{is_above}
 use Rattle.shim_laws_table.specs.Updating.{AreLinked}
 use Rattle.shim_laws_table.proofs.Aside.{at_split}
@@ -43,7 +43,7 @@ module _ {S : Type 0} (o : Ops S) (rp : Path) (states : List S) (old_views : Lis
   pub record Goes (j : ℕ) (s u : S) (ks : Nodes S) : Type 0 where
     pub children : Nodes S
     pub there : at (place o rp s) old ≡ Some (Forked u children)
-    pub so_many : ((up i ≡ Some j) × (running_of ks + 1 ≡ running_of children)) ⊎ ((up i ≢ Some j) × (running_of ks ≡ running_of children))
+    pub so_many : ((up i ≡ Some j) × (going_of ks + 1 ≡ going_of children)) ⊎ ((up i ≢ Some j) × (going_of ks ≡ going_of children))
 
   -- the place of its parent
   from_parent : (j d w : ℕ) (s : S) → Has states old_views j d s (forks w) → up i ≡ Some j → (b : ℕ) × (q ≡ place o rp s ++ b ∷ [])
@@ -72,10 +72,10 @@ module _ {S : Type 0} (o : Ops S) (rp : Path) (states : List S) (old_views : Lis
     | inl far ↦ on far (is_above (place o rp s) q) refl
   ]
     where
-      by_rest : (b : ℕ) (rest : List ℕ) (js : Nodes S) → q ≡ place o rp s ++ b ∷ rest → at (place o rp s) old ≡ Some (Forked u js) → child_at b rest js ≡ Some m → ((up i ≡ Some j) × (running_of ks + 1 ≡ running_of js)) ⊎ ((up i ≢ Some j) × (running_of ks ≡ running_of js))
+      by_rest : (b : ℕ) (rest : List ℕ) (js : Nodes S) → q ≡ place o rp s ++ b ∷ rest → at (place o rp s) old ≡ Some (Forked u js) → child_at b rest js ≡ Some m → ((up i ≡ Some j) × (going_of ks + 1 ≡ going_of js)) ⊎ ((up i ≢ Some j) × (going_of ks ≡ going_of js))
       by_rest b [] js e was child = inl (
         is_parent j d w b s u js fork was (child_counted b [] js m child) e,
-        one_more (running_of ks) (running_of js) (goes m) (goes a) went stays ((running_follow o).right_above old new m a (place o rp s) b u js ks (subst (λ z. IsReplaced z m a old new) e rep) was there),
+        one_more (going_of ks) (going_of js) (goes m) (goes a) went stays ((running_follow o).right_above old new m a (place o rp s) b u js ks (subst (λ z. IsReplaced z m a old new) e rep) was there),
       )
       by_rest b (c ∷ t) js e was child = inr (
         (λ above. let y = from_parent j d w s fork above in too_long (place o rp s) b c y.0 t (sym e ∙ y.1)),

@@ -112,7 +112,7 @@ module _ (before behind : List Record) (h : map record_body behind ≡ map recor
 pub left_said : (x : ℕ) (before behind : List Record) → HasCountedOff x before behind → map record_body behind ≡ map record_body before
 left_said x before behind (alone e same) = ap (map record_body) same
 left_said x before behind (lost j up e same) = ap (map record_body) same
-left_said x before behind (below j r up e same) = ap (map record_body) same ∙ map_set record_body before j r (record { status = r.status; first = r.first; parent = r.parent; path = r.path; running_children = r.running_children - 1; pairs = r.pairs }) e refl
+left_said x before behind (below j r up e same) = ap (map record_body) same ∙ map_set record_body before j r (record { status = r.status; first = r.first; parent = r.parent; path = r.path; going_children = r.going_children - 1; pairs = r.pairs }) e refl
 
 pub leaves_said : (k : ProcessStatus) (x : ℕ) (before behind : List Record) → CountsOffIfOver k x before behind → map record_body behind ≡ map record_body before
 leaves_said lives x before behind e = ap (map record_body) e
@@ -126,17 +126,17 @@ going_elsewhere x before behind (alone e same) j far = ap (λ z. slice_get z j) 
 going_elsewhere x before behind (lost h up e same) j far = ap (λ z. slice_get z j) same
 going_elsewhere x before behind (below h r up e same) j far =
     ap (λ z. slice_get z j) same
-    ∙ set_elsewhere before h j (record { status = r.status; first = r.first; parent = r.parent; path = r.path; running_children = r.running_children - 1; pairs = r.pairs }) (λ w. far (up ∙ ap Some (sym w)))
+    ∙ set_elsewhere before h j (record { status = r.status; first = r.first; parent = r.parent; path = r.path; going_children = r.going_children - 1; pairs = r.pairs }) (λ w. far (up ∙ ap Some (sym w)))
 
 -- and one less of that
-pub going_less : (x : ℕ) (before behind : List Record) → HasCountedOff x before behind → (j : ℕ) (q r : Record) → up_in before x ≡ Some j → slice_get before j ≡ Some q → slice_get behind j ≡ Some r → r.running_children ≡ q.running_children - 1
+pub going_less : (x : ℕ) (before behind : List Record) → HasCountedOff x before behind → (j : ℕ) (q r : Record) → up_in before x ≡ Some j → slice_get before j ≡ Some q → slice_get behind j ≡ Some r → r.going_children ≡ q.going_children - 1
 going_less x before behind (alone e same) j q r up was is = none_some j (sym e ∙ up)
 going_less x before behind (lost h above e same) j q r up was is =
     none_some q (sym e ∙ (ap (slice_get before) (some_same h j (sym above ∙ up)) ∙ was))
 going_less x before behind (below h p above e same) j q r up was is =
-    let new : Record = record { status = p.status; first = p.first; parent = p.parent; path = p.path; running_children = p.running_children - 1; pairs = p.pairs } in
+    let new : Record = record { status = p.status; first = p.first; parent = p.parent; path = p.path; going_children = p.going_children - 1; pairs = p.pairs } in
     let w : h ≡ j = some_same h j (sym above ∙ up) in
     let now : slice_get behind h ≡ Some new = ap (λ z. slice_get z h) same ∙ set_there before h p new e in
     let is_new : new ≡ r = some_same new r (sym now ∙ (ap (slice_get behind) w ∙ is)) in
     let is_old : p ≡ q = some_same p q (sym e ∙ (ap (slice_get before) w ∙ was)) in
-    ap (λ (z : Record). z.running_children) (sym is_new) ∙ ap (λ (z : Record). z.running_children - 1) is_old
+    ap (λ (z : Record). z.going_children) (sym is_new) ∙ ap (λ (z : Record). z.going_children - 1) is_old

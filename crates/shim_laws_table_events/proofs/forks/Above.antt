@@ -7,7 +7,7 @@ use Rattle.shim_semantics.specs.Places.{at}
 use Rattle.shim_semantics.proofs.ReplacedNodes.{put, put_child}
 use Rattle.shim_laws_table.specs.NodeStatus.{IsAside}
 use Rattle.shim_laws_table.specs.Places.{IsReplaced}
-use Rattle.shim_laws_table.specs.Counts.{running_of, bit}
+use Rattle.shim_laws_table.specs.Counts.{going_of, bit}
 use Rattle.shim_laws_table.specs.Tallied.{is_above}
 use Rattle.shim_laws_table.proofs.SameTrees.{is_put}
 use Rattle.shim_laws_table.proofs.PlacesAbove.{way_from, fork_above, with_split, untouched}
@@ -31,12 +31,12 @@ module _ {S : Type 0} (o : Ops S) (q : List ℕ) (m a old new : Node S) (rep : I
   same_aside r above far = ap (at r) (is_put q m a old new rep) ∙ untouched q r m a old rep.was above far
 
   -- so many children of a fork above go on as before, where what is in the place goes on as before
-  pub as_many_go : goes a ≡ goes m → (r : List ℕ) (l : S) (ks js : Nodes S) → is_above r q ≡ true → at r old ≡ Some (Forked l ks) → at r new ≡ Some (Forked l js) → running_of js ≡ running_of ks
+  pub as_many_go : goes a ≡ goes m → (r : List ℕ) (l : S) (ks js : Nodes S) → is_above r q ≡ true → at r old ≡ Some (Forked l ks) → at r new ≡ Some (Forked l js) → going_of js ≡ going_of ks
   as_many_go same r l ks js above was is = let y = way_from r q above in on y.branch y.rest y.is
     where
       equal : (i j g h : ℕ) → i + g ≡ j + h → g ≡ h → i ≡ j
       equal i j g h e f = omega (arith, e, f)
 
-      on : (b : ℕ) (t : List ℕ) → q ≡ r ++ b ∷ t → running_of js ≡ running_of ks
-      on b [] e = equal (running_of js) (running_of ks) (bit (goes m)) (bit (goes a)) ((running_follow o).right_above old new m a r b l ks js (subst (λ z. IsReplaced z m a old new) e rep) was is) (ap bit (sym same))
+      on : (b : ℕ) (t : List ℕ) → q ≡ r ++ b ∷ t → going_of js ≡ going_of ks
+      on b [] e = equal (going_of js) (going_of ks) (bit (goes m)) (bit (goes a)) ((running_follow o).right_above old new m a r b l ks js (subst (λ z. IsReplaced z m a old new) e rep) was is) (ap bit (sym same))
       on b (d ∷ t) e = (running_follow o).further_above old new m a r b d t l ks js (subst (λ z. IsReplaced z m a old new) e rep) was is

@@ -30,7 +30,7 @@ module _ {S : Type 0} (o : Ops S) (law : LocalLaws o) (rp : Path) (t : Tree S) (
   abbrev pub old_views : List RecordView
   old_views = map record_view before.records
 
-  -- the states behind, and the records before the counts above were updated
+  -- the states after, and the records before the counts above were updated
   abbrev pub states : List S
   states = with_block g ks (slice_set before.states x p)
 

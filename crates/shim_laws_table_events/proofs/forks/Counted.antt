@@ -36,7 +36,7 @@ use Rattle.shim_records.proofs.Representing.{fork_initial_counts}
 use Rattle.shim_laws_table_events.specs.keeping.Tables.{TableView, HasProcessState, TableInvariant}
 use Rattle.shim_laws_table_events.specs.forks.Forking.{ready_chans, EachUpdatedAbove}
 use Rattle.shim_laws_table_events.proofs.forks.Above.{fork_was}
-use Rattle.shim_laws_table_events.proofs.forks.Readied.{alive, all_ways, ready_pair, found_pair, ready_once, is_ready}
+use Rattle.shim_laws_table_events.proofs.forks.Readied.{going, all_ways, ready_pair, found_pair, ready_once, is_ready}
 
 -- some joins, where all that join are there
 some_live : {S : Type 0} (f : S → Bool) (ks : List S) (b : Bool) → not (is_zero (how_many f ks)) && b ≡ true → AnyOf (λ k. f k ≡ true) ks
@@ -165,8 +165,8 @@ module _ {S : Type 0} (o : Ops S) (law : LocalLaws o) (rp : Path) (old new : Nod
   not_next : is_next (o.stop l) c ≡ false
   not_next = ap (λ z. is_next z c) stop
 
-  fork_read : child_status o c (Forked p (all_live ks)) ≡ record { alive = o.shares p c; ready_on = tally_ready (fresh_tally o c ks); dead_on = false }
-  fork_read = (counts_tell o).fork c p (all_live ks) ∙ ap {B = Read} (λ y. record { alive = o.shares p c; ready_on = tally_ready y; dead_on = false }) ((counts_tell o).fresh c ks)
+  fork_read : child_status o c (Forked p (all_live ks)) ≡ record { going = o.shares p c; ready_on = tally_ready (fresh_tally o c ks); dead_on = false }
+  fork_read = (counts_tell o).fork c p (all_live ks) ∙ ap {B = Read} (λ y. record { going = o.shares p c; ready_on = tally_ready y; dead_on = false }) ((counts_tell o).fresh c ks)
 
   -- of a channel of its own, or of one below, nothing is to be done
   own : (r : Path) → c.home ≡ o.path p ++ r → Both now
@@ -201,13 +201,13 @@ module _ {S : Type 0} (o : Ops S) (law : LocalLaws o) (rp : Path) (old new : Nod
       let z = some_counts (tally_for c is.pairs.items) ((pairs.there c).1 (shares_same ∙ w.0, w.1)) in
       is_ready c is.pairs.items z.0 z.1 (ap tally_ready (pairs.right c z.0 z.1) ∙ e)
 
-  updated : (end : ℕ → Option Tally) → IsAmong c (ready_chans is.pairs.items) → UpdatedAbove (up_in records) 4294967295 4294967295 now x (alive false c) (alive true c) end → Both end
+  updated : (end : ℕ → Option Tally) → IsAmong c (ready_chans is.pairs.items) → UpdatedAbove (up_in records) 4294967295 4294967295 now x (going false c) (going true c) end → Both end
   updated end h walked = let r = ready_shares h in elim (below_or_not (o.path p) c.home) [
     | inl e ↦ subst Both (sym (nothing_done walked begun.1 e.0 e.1)) (own e.0 e.1)
     | inr out ↦
-        (counts_follow o law).updated rp states views (up_in records) c old new (Live l) (Forked p (all_live ks)) 4294967295 4294967295 x g p (forks (length ks)) (alive false c) (alive true c) now end shown linked few forked.parent there
-        (λ i. let z : Read = record { alive = (sym shares_same ∙ r.0) i; ready_on = not_next i; dead_on = false } in z)
-        (fork_read ∙ λ i. let z : Read = record { alive = r.0 i; ready_on = r.1 i; dead_on = false } in z) near r.0 begun.1 way walked
+        (counts_follow o law).updated rp states views (up_in records) c old new (Live l) (Forked p (all_live ks)) 4294967295 4294967295 x g p (forks (length ks)) (going false c) (going true c) now end shown linked few forked.parent there
+        (λ i. let z : Read = record { going = (sym shares_same ∙ r.0) i; ready_on = not_next i; dead_on = false } in z)
+        (fork_read ∙ λ i. let z : Read = record { going = r.0 i; ready_on = r.1 i; dead_on = false } in z) near r.0 begun.1 way walked
   ]
 
   still : (IsAmong c (ready_chans is.pairs.items) → ⊥) → Both now
@@ -219,13 +219,13 @@ module _ {S : Type 0} (o : Ops S) (law : LocalLaws o) (rp : Path) (old new : Nod
       alike : ((r : Path) → c.home ≢ o.path p ++ r) → child_status o c (Live l) ≡ child_status o c (Forked p (all_live ks))
       alike out =
           let unready : tally_ready (fresh_tally o c ks) ≡ false = elim (true_or_false (tally_ready (fresh_tally o c ks))) [ inl e ↦ absurd (none (ready_among out e)) | inr e ↦ e ] in
-          (λ i. let z : Read = record { alive = sym shares_same i; ready_on = (not_next ∙ sym unready) i; dead_on = false } in z) ∙ sym fork_read
+          (λ i. let z : Read = record { going = sym shares_same i; ready_on = (not_next ∙ sym unready) i; dead_on = false } in z) ∙ sym fork_read
 
   -- so where they were updated all counts are right
   pub brought : (behind : List Record) → EachUpdatedAbove 4294967295 x (ready_chans is.pairs.items) records behind → Both (counts_in c behind)
   brought behind walked =
       let ways = all_ways 4294967295 x (ready_once is.pairs.items pairs.ordered) walked in
       elim (among_or_not c (ready_chans is.pairs.items)) [
-        | inl h ↦ updated (counts_in c behind) h (its_way (alive false) (alive true) 4294967295 x c ways h).updated
-        | inr out ↦ subst Both (sym (others (alive false) (alive true) 4294967295 x c ways out)) (still out)
+        | inl h ↦ updated (counts_in c behind) h (its_way (going false) (going true) 4294967295 x c ways h).updated
+        | inr out ↦ subst Both (sym (others (going false) (going true) 4294967295 x c ways out)) (still out)
       ]

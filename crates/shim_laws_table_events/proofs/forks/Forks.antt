@@ -15,7 +15,7 @@ use Rattle.shim_laws_table.specs.NodeStatus.{ProcessStatus, lives, forks, place}
 use Rattle.shim_laws_table.specs.Agrees.{Has, Represents}
 use Rattle.shim_laws_table.specs.Places.{IsReplaced}
 use Rattle.shim_laws_table.specs.Changes.{HasForked}
-use Rattle.shim_laws_table.specs.Counts.{running_of}
+use Rattle.shim_laws_table.specs.Counts.{going_of}
 use Rattle.shim_laws_table.specs.Tallied.{is_above, Tallied, HaveCounts}
 use Rattle.shim_laws_table.specs.Updating.{AreLinked, AreAtMost}
 use Rattle.shim_laws_table.specs.LoweredLabels.{Labelled}
@@ -44,7 +44,7 @@ use Rattle.shim_laws_table_events.proofs.forks.Handed as handed
 use Rattle.shim_laws_table_events.proofs.forks.Lists.{block_long}
 use Rattle.shim_laws_table_events.proofs.forks.Orders.{put_ordered}
 use Rattle.shim_laws_table_events.proofs.forks.OwnSteps.{live_there, can_step}
-use Rattle.shim_laws_table_events.proofs.forks.Readied.{alive, all_ways, labels_same, ready_once}
+use Rattle.shim_laws_table_events.proofs.forks.Readied.{going, all_ways, labels_same, ready_once}
 
 same_behind : (g b d : ℕ) → g + b ≡ g + d → b ≡ d
 same_behind g b d e = omega (arith, e)
@@ -136,10 +136,10 @@ module _ {S : Type 0} (o : Ops S) (law : LocalLaws o) (rp : Path) (t u : Tree S)
   ordered : AreOrdered records
   ordered = put_ordered o x g ks before.records forked.born its kept.ordered forked.parent.pairs.ordered forked.children
 
-  -- ---- behind the ways up
+  -- ---- after the ways up
 
   rest : map rest_of behind.records ≡ map rest_of records
-  rest = rest_same (alive false) (alive true) 4294967295 x (all_ways 4294967295 x (ready_once its.pairs.items forked.parent.pairs.ordered) forked.records)
+  rest = rest_same (going false) (going true) 4294967295 x (all_ways 4294967295 x (ready_once its.pairs.items forked.parent.pairs.ordered) forked.records)
 
   same : map record_view behind.records ≡ map record_view records
   same = same_views records behind.records rest
@@ -161,24 +161,24 @@ module _ {S : Type 0} (o : Ops S) (law : LocalLaws o) (rp : Path) (t u : Tree S)
 
   -- ---- how many go on
 
-  fork_before : (j d n : ℕ) (s m : S) (js : Nodes S) (r : Record) → HasProcessState before j d s (forks n) → slice_get before.records j ≡ Some r → at (place o rp s) u.root ≡ Some (Forked m js) → r.running_children ≡ running_of js
+  fork_before : (j d n : ℕ) (s m : S) (js : Nodes S) (r : Record) → HasProcessState before j d s (forks n) → slice_get before.records j ≡ Some r → at (place o rp s) u.root ≡ Some (Forked m js) → r.going_children ≡ going_of js
   fork_before j d n s m js r h e there = elim (aside_or_further (place o rp l) (place o rp s)) [
     | inr w ↦ none_there o rp before.states (map record_view before.records) t.root l n j d s w.0 kept.represents.agrees h (live_there o law rp before.states (map record_view before.records) t x f l kept.represents has) w.1
     | inl far ↦ on far (is_above (place o rp s) (place o rp l)) refl
   ]
     where
-      on : ((q : List ℕ) → place o rp s ≢ place o rp l ++ q) → (b : Bool) → is_above (place o rp s) (place o rp l) ≡ b → r.running_children ≡ running_of js
+      on : ((q : List ℕ) → place o rp s ≢ place o rp l ++ q) → (b : Bool) → is_above (place o rp s) (place o rp l) ≡ b → r.going_children ≡ going_of js
       on far true w =
           let v = fork_was o (place o rp l) (Live l) (Forked p (all_live ks)) t.root u.root replaced (place o rp s) m js w there in
-          kept.running_children j d n s m v.0 r h e v.1 ∙ sym (as_many_go o (place o rp l) (Live l) (Forked p (all_live ks)) t.root u.root replaced refl (place o rp s) m v.0 js w v.1 there)
-      on far false w = kept.running_children j d n s m js r h e (sym (same_aside o (place o rp l) (Live l) (Forked p (all_live ks)) t.root u.root replaced (place o rp s) w far) ∙ there)
+          kept.going_children j d n s m v.0 r h e v.1 ∙ sym (as_many_go o (place o rp l) (Live l) (Forked p (all_live ks)) t.root u.root replaced refl (place o rp s) m v.0 js w v.1 there)
+      on far false w = kept.going_children j d n s m js r h e (sym (same_aside o (place o rp l) (Live l) (Forked p (all_live ks)) t.root u.root replaced (place o rp s) w far) ∙ there)
 
-  running_children : (j d n : ℕ) (s m : S) (js : Nodes S) (r : Record) → Has states (map record_view records) j d s (forks n) → slice_get records j ≡ Some r → at (place o rp s) u.root ≡ Some (Forked m js) → r.running_children ≡ running_of js
-  running_children j d n s m js r h e there = elim (has_forked.only j d s (forks n) h) [
+  going_children : (j d n : ℕ) (s m : S) (js : Nodes S) (r : Record) → Has states (map record_view records) j d s (forks n) → slice_get records j ≡ Some r → at (place o rp s) u.root ≡ Some (Forked m js) → r.going_children ≡ going_of js
+  going_children j d n s m js r h e there = elim (has_forked.only j d s (forks n) h) [
     | inl w ↦
         let is : r ≡ its = some_same r its (sym e ∙ (ap (slice_get records) w.0 ∙ its_own)) in
         let now : at (place o rp s) u.root ≡ Some (Forked p (all_live ks)) = ap (λ z. at (place o rp z) u.root) w.1 ∙ (ap (λ z. at z u.root) same_place ∙ replaced.is) in
-        ap (λ (z : Record). z.running_children) is ∙ (forked.parent.running_children ∙ (sym ((counts_tell o).all_go ks) ∙ ap running_of (fork_parts o no_channel p m (all_live ks) js (sym now ∙ there)).1))
+        ap (λ (z : Record). z.going_children) is ∙ (forked.parent.going_children ∙ (sym ((counts_tell o).all_go ks) ∙ ap going_of (fork_parts o no_channel p m (all_live ks) js (sym now ∙ there)).1))
     | inr (inl w) ↦ lives_no_fork o n (forks n) w.3 refl
     | inr (inr w) ↦ fork_before j d n s m js r w.1 (sym (as_before j d s (forks n) w.1 w.0) ∙ e) there
   ]
@@ -212,10 +212,10 @@ module _ {S : Type 0} (o : Ops S) (law : LocalLaws o) (rp : Path) (t u : Tree S)
       let fit_was = fit j d s k q.0 h q.1 in
       record { path = sym (ap (λ (z : UncountedRecord). z.path) q.2) ∙ fit_was.path; near = fit_was.near; few = fit_was.few }
 
-  going_behind : (j d n : ℕ) (s m : S) (js : Nodes S) (r : Record) → Has states (map record_view records) j d s (forks n) → slice_get behind.records j ≡ Some r → at (place o rp s) u.root ≡ Some (Forked m js) → r.running_children ≡ running_of js
+  going_behind : (j d n : ℕ) (s m : S) (js : Nodes S) (r : Record) → Has states (map record_view records) j d s (forks n) → slice_get behind.records j ≡ Some r → at (place o rp s) u.root ≡ Some (Forked m js) → r.going_children ≡ going_of js
   going_behind j d n s m js r h e there =
       let q = was_record records behind.records j r rest e in
-      ap (λ (z : UncountedRecord). z.running_children) (sym q.2) ∙ running_children j d n s m js q.0 h q.1 there
+      ap (λ (z : UncountedRecord). z.going_children) (sym q.2) ∙ going_children j d n s m js q.0 h q.1 there
 
   -- ---- who shares a channel
 
@@ -262,7 +262,7 @@ module _ {S : Type 0} (o : Ops S) (law : LocalLaws o) (rp : Path) (t u : Tree S)
       counts = subst (λ z. Tallied o rp states z c (counts_in c behind.records) u.root) (sym same) (brought c).0;
       labels = subst (λ z. Labelled o rp states z c (counts_in c behind.records) (min_labels_in c behind.records) u.root) (sym same) (labelled c);
     };
-    running_children = λ j d n s m js r h e there. going_behind j d n s m js r (subst (λ z. Has states z j d s (forks n)) same h) e there;
+    going_children = λ j d n s m js r h e there. going_behind j d n s m js r (subst (λ z. Has states z j d s (forks n)) same h) e there;
     known = λ c. subst (λ z. AreKnown o rp states z c (known_in c behind.records) u.root) (sym same) (known c);
     fit = λ j d s k r h e. fit_behind j d s k r (subst (λ z. Has states z j d s k) same h) e;
     beside = beside;

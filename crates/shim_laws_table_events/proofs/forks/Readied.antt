@@ -17,8 +17,8 @@ use Rattle.shim_records.specs.declared.record.Record.{Record}
 use Rattle.shim_laws_table_events.specs.forks.Forking.{ready_chans, EachUpdatedAbove, none_left, one_more}
 
 -- what is read of a process that shares a channel, and isn't ready on it, or is
-abbrev pub alive : Bool → Channel → Read
-alive b c = record { alive = true; ready_on = b; dead_on = false }
+abbrev pub going : Bool → Channel → Read
+going b c = record { going = true; ready_on = b; dead_on = false }
 
 -- none of these is there twice
 abbrev pub Once : List Channel → Type 0
@@ -28,7 +28,7 @@ Once (c ∷ cs) = (IsAmong c cs → ⊥) × Once cs
 -- ---- the ways
 
 module _ (n x : ℕ) where
-  pub all_ways : {cs : List Channel} {rs behind : List Record} → Once cs → EachUpdatedAbove n x cs rs behind → AllUpdatedAbove (alive false) (alive true) n x cs rs behind
+  pub all_ways : {cs : List Channel} {rs behind : List Record} → Once cs → EachUpdatedAbove n x cs rs behind → AllUpdatedAbove (going false) (going true) n x cs rs behind
   all_ways once (none_left rs) = no_way rs
   all_ways once (one_more c cs was is before between behind u v way more) = one_way c cs was is before between behind once.0 u v way (all_ways once.1 more)
 

@@ -8,7 +8,7 @@ use Rattle.shim_semantics.specs.Places.{at}
 use Rattle.shim_semantics.proofs.ReplacedNodes.{put, put_child}
 use Rattle.shim_laws_table.specs.NodeStatus.{is_leaf, IsAside}
 use Rattle.shim_laws_table.specs.Places.{IsReplaced}
-use Rattle.shim_laws_table.specs.Counts.{running_of, bit}
+use Rattle.shim_laws_table.specs.Counts.{going_of, bit}
 use Rattle.shim_laws_table.specs.Tallied.{is_above}
 use Rattle.shim_laws_table.proofs.Aside.{at_split}
 use Rattle.shim_laws_table.proofs.SameTrees.{aside_or_further, is_put}
@@ -45,15 +45,15 @@ module _ {S : Type 0} (o : Ops S) (q : List ℕ) (m a old new : Node S) (rep : I
           record { children = v.children; there = was; same = stays r l v.children ks u was there }
 
   -- as many children of it go on, where what is in the place goes on as before
-  pub as_many : goes a ≡ goes m → (r : List ℕ) (l : S) (ks : Nodes S) → at r new ≡ Some (Forked l ks) → Was running_of r l ks
-  as_many same = carried running_of as_before
+  pub as_many : goes a ≡ goes m → (r : List ℕ) (l : S) (ks : Nodes S) → at r new ≡ Some (Forked l ks) → Was going_of r l ks
+  as_many same = carried going_of as_before
     where
       equal : (x y g h : ℕ) → x + g ≡ y + h → g ≡ h → x ≡ y
       equal x y g h e f = omega (arith, e, f)
 
-      on : (r : List ℕ) (b : ℕ) (t : List ℕ) (l : S) (ks js : Nodes S) → q ≡ r ++ b ∷ t → at r old ≡ Some (Forked l ks) → at r new ≡ Some (Forked l js) → running_of js ≡ running_of ks
-      on r b [] l ks js e was is = equal (running_of js) (running_of ks) (bit (goes m)) (bit (goes a)) ((running_follow o).right_above old new m a r b l ks js (subst (λ z. IsReplaced z m a old new) e rep) was is) (ap bit (sym same))
+      on : (r : List ℕ) (b : ℕ) (t : List ℕ) (l : S) (ks js : Nodes S) → q ≡ r ++ b ∷ t → at r old ≡ Some (Forked l ks) → at r new ≡ Some (Forked l js) → going_of js ≡ going_of ks
+      on r b [] l ks js e was is = equal (going_of js) (going_of ks) (bit (goes m)) (bit (goes a)) ((running_follow o).right_above old new m a r b l ks js (subst (λ z. IsReplaced z m a old new) e rep) was is) (ap bit (sym same))
       on r b (d ∷ t) l ks js e was is = (running_follow o).further_above old new m a r b d t l ks js (subst (λ z. IsReplaced z m a old new) e rep) was is
 
-      as_before : (r : List ℕ) (l : S) (ks js : Nodes S) → is_above r q ≡ true → at r old ≡ Some (Forked l ks) → at r new ≡ Some (Forked l js) → running_of js ≡ running_of ks
+      as_before : (r : List ℕ) (l : S) (ks js : Nodes S) → is_above r q ≡ true → at r old ≡ Some (Forked l ks) → at r new ≡ Some (Forked l js) → going_of js ≡ going_of ks
       as_before r l ks js u was is = let y = way_from r q u in on r y.branch y.rest l ks js y.is was is

@@ -16,7 +16,7 @@ use Rattle.shim_laws_table.specs.NodeStatus.{ProcessStatus, lives, forks, proces
 use Rattle.shim_laws_table.specs.Agrees.{RecordView, used, Has, Represents}
 use Rattle.shim_laws_table.specs.Places.{IsReplaced}
 use Rattle.shim_laws_table.specs.Changes.{HasChanged}
-use Rattle.shim_laws_table.specs.Counts.{ChildStatus as Read, running_of, bit}
+use Rattle.shim_laws_table.specs.Counts.{ChildStatus as Read, going_of, bit}
 use Rattle.shim_laws_table.specs.Tallied.{Tallied, OnTheWay, HaveCounts, is_above}
 use Rattle.shim_laws_table.specs.Updating.{AreLinked, AreAtMost}
 use Rattle.shim_laws_table.specs.Dooms.{min_dead_label, min_dead_label_among}
@@ -281,8 +281,8 @@ module _ {S : Type 0} (o : Ops S) (law : LocalLaws o) (rp : Path) (states : List
         all_say x leaves.counted behind (λ r. chans_of r.pairs.items) (λ r. refl) leaves.left
         ∙ (same_rest (λ z. z.chans) leaves.labelled leaves.counted brought.0 ∙ (same_rest (λ z. z.chans) ms leaves.labelled taken.rest ∙ map_set (λ r. chans_of r.pairs.items) rs x was (with_status k was) leaves.there refl))
 
-    goings : map (λ (r : Record). r.running_children) leaves.counted ≡ map (λ (r : Record). r.running_children) rs
-    goings = same_rest (λ z. z.running_children) leaves.labelled leaves.counted brought.0 ∙ (same_rest (λ z. z.running_children) ms leaves.labelled taken.rest ∙ map_set (λ r. r.running_children) rs x was (with_status k was) leaves.there refl)
+    goings : map (λ (r : Record). r.going_children) leaves.counted ≡ map (λ (r : Record). r.going_children) rs
+    goings = same_rest (λ z. z.going_children) leaves.labelled leaves.counted brought.0 ∙ (same_rest (λ z. z.going_children) ms leaves.labelled taken.rest ∙ map_set (λ r. r.going_children) rs x was (with_status k was) leaves.there refl)
 
     knowing : map knowledge behind ≡ map knowledge rs
     knowing =
@@ -317,16 +317,16 @@ module _ {S : Type 0} (o : Ops S) (law : LocalLaws o) (rp : Path) (states : List
       it_was : Has states st j d t (forks n)
       it_was = (was_fork j d n t fork).1
 
-      stays_going : slice_get leaves.counted j ≡ Some r → ((is js : Nodes S) → is_above (place o rp t) (place o rp l) ≡ true → at (place o rp t) old ≡ Some (Forked u is) → at (place o rp t) new ≡ Some (Forked u js) → running_of js ≡ running_of is) → r.running_children ≡ running_of ks
+      stays_going : slice_get leaves.counted j ≡ Some r → ((is js : Nodes S) → is_above (place o rp t) (place o rp l) ≡ true → at (place o rp t) old ≡ Some (Forked u is) → at (place o rp t) new ≡ Some (Forked u js) → going_of js ≡ going_of is) → r.going_children ≡ going_of ks
       stays_going there as_many =
-          let w = found (λ (r : Record). r.running_children) rs leaves.counted j r goings there in
-          let b = carried_at o (place o rp l) (Live l) (left_by l k) old new rep (left_leaf l k) running_of (place o rp t) u ks as_many now in
-          sym w.2 ∙ (kept.running_children j d n t u b.children w.0 it_was w.1 b.there ∙ sym b.same)
+          let w = found (λ (r : Record). r.going_children) rs leaves.counted j r goings there in
+          let b = carried_at o (place o rp l) (Live l) (left_by l k) old new rep (left_leaf l k) going_of (place o rp t) u ks as_many now in
+          sym w.2 ∙ (kept.going_children j d n t u b.children w.0 it_was w.1 b.there ∙ sym b.same)
 
-      running_children : r.running_children ≡ running_of ks
-      running_children = on leaves.left
+      going_children : r.going_children ≡ going_of ks
+      going_children = on leaves.left
         where
-          on : HasCountedOff x leaves.counted behind → r.running_children ≡ running_of ks
+          on : HasCountedOff x leaves.counted behind → r.going_children ≡ going_of ks
           on (alone none same) =
               let top = topmost o rp states st' new shown (up_in ms) linked x was.first l (process_status_of k) mine (ap (λ z. z x) (sym ups_counted) ∙ none) in
               stays_going (ap (λ z. slice_get z j) (sym same) ∙ e)
@@ -342,22 +342,22 @@ module _ {S : Type 0} (o : Ops S) (law : LocalLaws o) (rp : Path) (states : List
                 | inr v ↦ stays_going (sym (set_elsewhere leaves.counted i j (less_going above_it) v) ∙ (ap (λ z. slice_get z j) (sym same) ∙ e)) (λ is js above was' is'. further b.0 (λ w. v (w ∙ b.1)) is js (way_from (place o rp t) (place o rp l) above) was' is')
               ]
             where
-              right_above : (b : HasParent o rp states st' new shown x was.first l (process_status_of k)) → b.number ≡ j → (i : ℕ) (above_it : Record) → j ≡ i → slice_get leaves.counted i ≡ Some above_it → behind ≡ slice_set leaves.counted i (less_going above_it) → r.running_children ≡ running_of ks
+              right_above : (b : HasParent o rp states st' new shown x was.first l (process_status_of k)) → b.number ≡ j → (i : ℕ) (above_it : Record) → j ≡ i → slice_get leaves.counted i ≡ Some above_it → behind ≡ slice_set leaves.counted i (less_going above_it) → r.going_children ≡ going_of ks
               right_above b at_j i above_it v there same =
-                  let w = found (λ (r : Record). r.running_children) rs leaves.counted i above_it goings there in
+                  let w = found (λ (r : Record). r.going_children) rs leaves.counted i above_it goings there in
                   let lessened : r ≡ less_going above_it = some_same r (less_going above_it) (sym e ∙ (ap (λ z. slice_get z j) same ∙ (ap (slice_get (slice_set leaves.counted i (less_going above_it))) v ∙ set_there leaves.counted i above_it (less_going above_it) there))) in
                   let parent : b.parent ≡ t = one_state states st' j b.first d b.parent t (forks b.many) (forks n) (subst (λ z. Has states st' z b.first b.parent (forks b.many)) at_j b.has) fork in
                   let its_place : place o rp l ≡ place o rp t ++ b.branch ∷ [] = b.is ∙ ap (λ z. place o rp z ++ b.branch ∷ []) parent in
                   let before = carried_at o (place o rp l) (Live l) (left_by l k) old new rep (left_leaf l k) (λ js. zero) (place o rp t) u ks (λ is js above was' is'. refl) now in
-                  one_less r.running_children above_it.running_children w.0.running_children (running_of before.children) (running_of ks) (bit (goes (left_by l k))) (ap (λ (z : Record). z.running_children) lessened) w.2
-                  (kept.running_children j d n t u before.children w.0 it_was (ap (slice_get rs) v ∙ w.1) before.there)
+                  one_less r.going_children above_it.going_children w.0.going_children (going_of before.children) (going_of ks) (bit (goes (left_by l k))) (ap (λ (z : Record). z.going_children) lessened) w.2
+                  (kept.going_children j d n t u before.children w.0 it_was (ap (slice_get rs) v ∙ w.1) before.there)
                   ((running_follow o).right_above old new (Live l) (left_by l k) (place o rp t) b.branch u before.children ks (subst (λ z. IsReplaced z (Live l) (left_by l k) old new) its_place rep) before.there now)
                   (ap bit gone)
 
-              further : (b : HasParent o rp states st' new shown x was.first l (process_status_of k)) → j ≢ b.number → (is js : Nodes S) → PlaceAbove (place o rp t) (place o rp l) → at (place o rp t) old ≡ Some (Forked u is) → at (place o rp t) new ≡ Some (Forked u js) → running_of js ≡ running_of is
+              further : (b : HasParent o rp states st' new shown x was.first l (process_status_of k)) → j ≢ b.number → (is js : Nodes S) → PlaceAbove (place o rp t) (place o rp l) → at (place o rp t) old ≡ Some (Forked u is) → at (place o rp t) new ≡ Some (Forked u js) → going_of js ≡ going_of is
               further b other is js y was' is' = by_rest y.rest y.is
                 where
-                  by_rest : (rest : List ℕ) → place o rp l ≡ place o rp t ++ y.branch ∷ rest → running_of js ≡ running_of is
+                  by_rest : (rest : List ℕ) → place o rp l ≡ place o rp t ++ y.branch ∷ rest → going_of js ≡ going_of is
                   by_rest [] at_it = absurd (other (shown.agrees.apart j b.number d b.first t b.parent (forks n) (forks b.many) fork b.has (snoc_same (place o rp t) (place o rp b.parent) y.branch b.branch (sym at_it ∙ b.is))))
                   by_rest (i ∷ rest) at_it = (running_follow o).further_above old new (Live l) (left_by l k) (place o rp t) y.branch i rest u is js (subst (λ z. IsReplaced z (Live l) (left_by l k) old new) at_it rep) was' is'
 
@@ -368,7 +368,7 @@ module _ {S : Type 0} (o : Ops S) (law : LocalLaws o) (rp : Path) (states : List
       few = subst (AreAtMost 4294967295 states) (sym end_views) few;
       ordered = ordered;
       right = λ c. record { there = have_end c; counts = tallied_end c; labels = labelled_end c };
-      running_children = λ j d n t u ks r fork e now. running_children j d n t u ks r (subst (λ z. Has states z j d t (forks n)) end_views fork) e now;
+      going_children = λ j d n t u ks r fork e now. going_children j d n t u ks r (subst (λ z. Has states z j d t (forks n)) end_views fork) e now;
       known = λ c. subst (λ z. AreKnown o rp states z c (known_in c behind) new) (sym end_views) (known c);
       fit = λ j d t h r p e. fit j d t h r (subst (λ z. Has states z j d t h) end_views p) e;
       beside = kept.beside ∙ (sym (map_length (λ (r : Record). r.path) rs) ∙ (ap length (sym paths) ∙ map_length (λ (r : Record). r.path) behind));

@@ -16,7 +16,7 @@ use Rattle.shim_laws_table.specs.NodeStatus.{ProcessStatus, lives, forks, place}
 use Rattle.shim_laws_table.specs.Agrees.{RecordView, used, Has, Represents}
 use Rattle.shim_laws_table.specs.Places.{IsReplaced}
 use Rattle.shim_laws_table.specs.Changes.{HasChanged}
-use Rattle.shim_laws_table.specs.Counts.{Tally, ChildStatus as Read, running_of}
+use Rattle.shim_laws_table.specs.Counts.{Tally, ChildStatus as Read, going_of}
 use Rattle.shim_laws_table.specs.Tallied.{Tallied, OnTheWay, HaveCounts, is_above}
 use Rattle.shim_laws_table.specs.Updating.{AreLinked, AreAtMost, UpdatedAbove, too_far, at_top, no_counts, stays, goes_on}
 use Rattle.shim_laws_table.specs.Dooms.{min_dead_label_among}
@@ -142,7 +142,7 @@ module _ {S : Type 0} (o : Ops S) (law : LocalLaws o) (rp : Path) (states : List
       | inl w ↦ ((counts_follow o law).own rp states' st c old new x f s lives [] (counts_in c rs) shown mine (is_own w) begun.1 way, begun.1)
       | inr w ↦ (
         (counts_follow o law).alike rp states' st c old new (Live l) (Live s) (place o rp l) (counts_in c rs) rep
-            (λ i. let r : Read = record { alive = stay.shares c (is_far w) i; ready_on = (unread c ∙ sym e) i; dead_on = false } in r) begun.0,
+            (λ i. let r : Read = record { going = stay.shares c (is_far w) i; ready_on = (unread c ∙ sym e) i; dead_on = false } in r) begun.0,
         begun.1,
       )
     ]
@@ -164,14 +164,14 @@ module _ {S : Type 0} (o : Ops S) (law : LocalLaws o) (rp : Path) (states : List
 
     -- for the one at which it is the counts above were updated
     came : (after : ℕ → Option Tally) → is_next (o.stop s) c ≡ true → o.shares s c ≡ true → length (place o rp s) ≤ 4294967295
-        → UpdatedAbove (up_in rs) 4294967295 4294967295 (counts_in c rs) x (record { alive = true; ready_on = false; dead_on = false }) (record { alive = true; ready_on = true; dead_on = false }) after → Both after
+        → UpdatedAbove (up_in rs) 4294967295 4294967295 (counts_in c rs) x (record { going = true; ready_on = false; dead_on = false }) (record { going = true; ready_on = true; dead_on = false }) after → Both after
     came after e shares near updated = elim (true_or_false (same_path c.home (o.path l))) [
       | inl w ↦ subst Both (sym (nothing_done updated begun.1 [] (is_own w))) ((counts_follow o law).own rp states' st c old new x f s lives [] (counts_in c rs) shown mine (is_own w) begun.1 way, begun.1)
       | inr w ↦
-          (counts_follow o law).updated rp states' st (up_in rs) c old new (Live l) (Live s) 4294967295 4294967295 x f s lives (record { alive = true; ready_on = false; dead_on = false }) (record { alive = true; ready_on = true; dead_on = false })
+          (counts_follow o law).updated rp states' st (up_in rs) c old new (Live l) (Live s) 4294967295 4294967295 x f s lives (record { going = true; ready_on = false; dead_on = false }) (record { going = true; ready_on = true; dead_on = false })
           (counts_in c rs) after shown linked few mine rep'
-          (λ i. let r : Read = record { alive = (stay.shares c (is_far w) ∙ shares) i; ready_on = unread c i; dead_on = false } in r)
-          (λ i. let r : Read = record { alive = shares i; ready_on = e i; dead_on = false } in r) near shares begun.1 way updated
+          (λ i. let r : Read = record { going = (stay.shares c (is_far w) ∙ shares) i; ready_on = unread c i; dead_on = false } in r)
+          (λ i. let r : Read = record { going = shares i; ready_on = e i; dead_on = false } in r) near shares begun.1 way updated
     ]
 
   near : length (place o rp s) ≤ 4294967295
@@ -192,8 +192,8 @@ module _ {S : Type 0} (o : Ops S) (law : LocalLaws o) (rp : Path) (states : List
           at_channel true w =
               let same = same_channel_is d.channel c w in
               came c (counts_in c behind) (ap (λ z. is_next z c) e ∙ w) (ap (o.shares s) (sym same) ∙ law.next_shares s d sound e) near
-              (subst (λ z. UpdatedAbove (up_in rs) 4294967295 4294967295 (counts_in z rs) x (record { alive = true; ready_on = false; dead_on = false }) (record { alive = true; ready_on = true; dead_on = false }) (counts_in z behind)) same
-              (subst (λ z. UpdatedAbove (up_in rs) 4294967295 4294967295 (counts_in d.channel rs) x (record { alive = true; ready_on = false; dead_on = false }) z (counts_in d.channel behind)) v
+              (subst (λ z. UpdatedAbove (up_in rs) 4294967295 4294967295 (counts_in z rs) x (record { going = true; ready_on = false; dead_on = false }) (record { going = true; ready_on = true; dead_on = false }) (counts_in z behind)) same
+              (subst (λ z. UpdatedAbove (up_in rs) 4294967295 4294967295 (counts_in d.channel rs) x (record { going = true; ready_on = false; dead_on = false }) z (counts_in d.channel behind)) v
               (subst (λ z. UpdatedAbove (up_in rs) 4294967295 4294967295 (counts_in d.channel rs) x z (child_status_of is) (counts_in d.channel behind)) u updated.0)))
 
   labelled : (c : Channel) → HaveCounts o rp states' st c (counts_in c behind) new → Labelled o rp states' st c (counts_in c behind) (min_labels_in c behind) new
@@ -201,11 +201,11 @@ module _ {S : Type 0} (o : Ops S) (law : LocalLaws o) (rp : Path) (states : List
       let w = carried o (place o rp l) (Live l) (Live s) old new rep refl (min_dead_label_among o c) (λ r v is js above was is'. (min_labels_follow o).stays c old new (Live l) (Live s) (place o rp l) r v is js rep refl above was is') (place o rp t) u ks now in
       ap (λ z. z j) (labels_same c) ∙ ((kept.right c).labels j d n t u w.children (was_fork j d n t fork).1 (((begun c).1 j d n t u ks fork now).1 ((have j d n t u ks fork now).0 counted)) w.there ∙ sym w.same)
 
-  running_children : (j d n : ℕ) (t u : S) (ks : Nodes S) (r : Record) → Has states' st j d t (forks n) → slice_get behind j ≡ Some r → at (place o rp t) new ≡ Some (Forked u ks) → r.running_children ≡ running_of ks
-  running_children j d n t u ks r fork e now =
+  going_children : (j d n : ℕ) (t u : S) (ks : Nodes S) (r : Record) → Has states' st j d t (forks n) → slice_get behind j ≡ Some r → at (place o rp t) new ≡ Some (Forked u ks) → r.going_children ≡ going_of ks
+  going_children j d n t u ks r fork e now =
       let w = as_many o (place o rp l) (Live l) (Live s) old new rep refl refl (place o rp t) u ks now in
       let q = was_record rs behind j r rest e in
-      ap (λ (z : UncountedRecord). z.running_children) (sym q.2) ∙ (kept.running_children j d n t u w.children q.0 (was_fork j d n t fork).1 q.1 w.there ∙ sym w.same)
+      ap (λ (z : UncountedRecord). z.going_children) (sym q.2) ∙ (kept.going_children j d n t u w.children q.0 (was_fork j d n t fork).1 q.1 w.there ∙ sym w.same)
 
   fit : (j d : ℕ) (t : S) (k : ProcessStatus) (r : Record) → Has states' st j d t k → slice_get behind j ≡ Some r → IsFit o rp t r
   fit j d t k r h e =
@@ -238,7 +238,7 @@ module _ {S : Type 0} (o : Ops S) (law : LocalLaws o) (rp : Path) (states : List
           counts = subst (λ z. Tallied o rp states' z c (counts_in c behind) new) (sym same) (arrived sound c).0;
           labels = subst (λ z. Labelled o rp states' z c (counts_in c behind) (min_labels_in c behind) new) (sym same) (labelled c (arrived sound c).1);
         };
-        running_children = λ j d n t u ks r fork e now. running_children j d n t u ks r (subst (λ z. Has states' z j d t (forks n)) same fork) e now;
+        going_children = λ j d n t u ks r fork e now. going_children j d n t u ks r (subst (λ z. Has states' z j d t (forks n)) same fork) e now;
         known = λ c. subst (λ z. AreKnown o rp states' z c (known_in c behind) new) (sym same) (known c);
         fit = λ j d t k r h e. fit j d t k r (subst (λ z. Has states' z j d t k) same h) e;
         beside = set_length states x s ∙ (kept.beside ∙ (sym (map_length rest_of rs) ∙ (ap length (sym rest) ∙ map_length rest_of behind)));

@@ -12,7 +12,7 @@ use Rattle.shim_records.proofs.Representing.{map_get}
 use Rattle.shim_laws_table_events.proofs.keeping.Moved.{from_map}
 
 abbrev pub less_going : Record → Record
-less_going r = record { status = r.status; first = r.first; parent = r.parent; path = r.path; running_children = r.running_children - 1; pairs = r.pairs }
+less_going r = record { status = r.status; first = r.first; parent = r.parent; path = r.path; going_children = r.going_children - 1; pairs = r.pairs }
 
 -- what is read of each place, where another record that says the same of it is put in one
 pub at_set : {X : Type 0} (G : Option Record → X) (rs : List Record) (x : ℕ) (r q : Record) → slice_get rs x ≡ Some r → G (Some q) ≡ G (Some r) → (i : ℕ) → G (slice_get (slice_set rs x q) i) ≡ G (slice_get rs i)

@@ -52,7 +52,7 @@ module _ {S : Type 0} (o : Ops S) (law : LocalLaws o) (root : S) (r : Record) (o
       counts = λ i f n s y l ks h e there. no_forks i f n s h;
       labels = λ i f n s l ks h counted there. no_forks i f n s h;
     };
-    running_children = λ i f n s l ks q h e there. no_forks i f n s h;
+    going_children = λ i f n s l ks q h e there. no_forks i f n s h;
     known = λ c i f n s k l ks h e there. no_forks i f n s h;
     fit = fit;
     beside = refl;

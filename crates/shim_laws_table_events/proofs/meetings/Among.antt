@@ -20,7 +20,7 @@ none_among x g = none_some x g.1
 pub among_later : {A : Type 0} (x y : A) (xs : List A) → IsAmong x xs → IsAmong x (y ∷ xs)
 among_later x y xs g = (suc g.0, g.1)
 
--- it is the first of them, or behind it
+-- it is the first of them, or after it
 pub among_split : {A : Type 0} (x y : A) (xs : List A) → IsAmong x (y ∷ xs) → (y ≡ x) ⊎ IsAmong x xs
 among_split x y xs (zero, e) = inl (some_same y x e)
 among_split x y xs (suc i, e) = inr (i, e)

@@ -25,7 +25,7 @@ branches_both [] r = refl
 branches_both (x ∷ p) r = ap (λ z. x.1 ∷ z) (branches_both p r)
 
 module _ {S : Type 0} (o : Ops S) (rp : Path) (records : List S) (views : List RecordView) (root : Node S) (s : Represents o rp records views root) where
-  -- the path of a node, behind that of the root
+  -- the path of a node, after that of the root
   path_at : (q : List ℕ) (n : Node S) → at q root ≡ Some n → (r : Path) × (o.path (state n) ≡ rp ++ r) × (branches r ≡ q)
   path_at q n e = let w = at_path o root n q s.sound.below e in (w.0, w.1 ∙ ap (λ z. z ++ w.0) s.root_path, w.2)
 
@@ -64,6 +64,6 @@ module _ {S : Type 0} (o : Ops S) (rp : Path) (records : List S) (views : List R
       let same : y.node ≡ n.0 = some_same y.node n.0 (sym y.there ∙ (ap (λ z. at z root) (sym one) ∙ n.1)) in
       ap (λ z. o.shares z c) (sym n.2 ∙ ap state (sym same)) ∙ y.shared
 
--- where the meeting is enabled the channel meets, and this is the tree after it
+-- where the rendezvous is enabled the channel meets, and this is the tree after it
 pub can_meet : {S : Type 0} (o : Ops S) (t : Tree S) (c : Channel) → Can o t (Meet c) → (meets o c t.root ≡ true) × (after o (Meet c) t ≡ Some (met o c (value_of o c (source o c t.root)) t))
 can_meet o t c can = cond_there (meets o c t.root) (Some (met o c (value_of o c (source o c t.root)) t)) can

@@ -1,4 +1,4 @@
--- What a descent through the records finds: all that share the channel, each before those behind it on a walk.
+-- What a descent through the records finds: all that share the channel, each before those after it on a walk.
 use Rattle.std.proofs.Common.{◌≡◌, ◌<◌, ◌⊎◌, ℕ, zero, suc, ◌+◌, true, false, ◌&&◌, not, Some, List, [], ◌∷◌, ◌++◌, map, inl, inr, refl, sym, ap, subst, ◌∙◌, ltb, arith}
 use Rattle.std.specs.Prelude.{eqb}
 use Rattle.std.proofs.lemmas.Bool.{lt-ltb, eq-eqb}

@@ -86,7 +86,7 @@ module _ (x : ℕ) (before behind : List Record) where
   no_other : {B : Type 0} (i : ℕ) → up_in before x ≡ None → up_in before x ≡ Some i → B
   no_other i e f = none_some i (sym e ∙ f)
 
-  left_going : HasCountedOff x before behind → (i : ℕ) (r : Record) → slice_get behind i ≡ Some r → (up_in before x ≡ Some i → r.running_children ≡ going_at (slice_get before i) - 1) × (up_in before x ≢ Some i → r.running_children ≡ going_at (slice_get before i))
+  left_going : HasCountedOff x before behind → (i : ℕ) (r : Record) → slice_get behind i ≡ Some r → (up_in before x ≡ Some i → r.going_children ≡ going_at (slice_get before i) - 1) × (up_in before x ≢ Some i → r.going_children ≡ going_at (slice_get before i))
   left_going (alone e is) i r h = ((λ up. no_other i e up), (λ far. ap going_at (sym h ∙ ap (λ z. slice_get z i) is)))
   left_going (lost j e f is) i r h = (
     (λ up. let same = some_same j i (sym e ∙ up) in none_some r (sym f ∙ (ap (slice_get before) same ∙ (ap (λ z. slice_get z i) (sym is) ∙ h)))),
@@ -96,7 +96,7 @@ module _ (x : ℕ) (before behind : List Record) where
     (λ up.
         let same : j ≡ i = some_same j i (sym e ∙ up) in
         let here : slice_get (slice_set before j (less_going q)) i ≡ Some (less_going q) = ap (slice_get (slice_set before j (less_going q))) (sym same) ∙ set_there before j q (less_going q) f in
-        ap (λ (z : Record). z.running_children) (some_same r (less_going q) (sym h ∙ (ap (λ z. slice_get z i) is ∙ here)))
+        ap (λ (z : Record). z.going_children) (some_same r (less_going q) (sym h ∙ (ap (λ z. slice_get z i) is ∙ here)))
         ∙ ap (λ z. going_at z - 1) (sym (ap (slice_get before) (sym same) ∙ f))),
     (λ far. ap going_at (sym h ∙ (ap (λ z. slice_get z i) is ∙ set_elsewhere before j i (less_going q) (λ w. far (e ∙ ap Some (sym w)))))),
   )
@@ -226,7 +226,7 @@ module _ {S : Type 0} (o : Ops S) (states : List S) (rs behind : List Record) (x
       -- it reads nothing of a channel that it doesn't share
       unshared : o.shares l c ≡ false → B (counts_in c rs)
       unshared e = unread o law rp states states rs behind root new l a x f kept has changed refl refl refl rep shown ups c
-          (λ i. let r : Read = record { alive = e i; ready_on = stands_elsewhere o law c l sound e i; dead_on = sym e i } in r)
+          (λ i. let r : Read = record { going = e i; ready_on = stands_elsewhere o law c l sound e i; dead_on = sym e i } in r)
 
       counted_now : B (counts_in c is_killed.counted)
       counted_now = elim (ways.among_or_not c is_killed.killed.chans) [
@@ -310,11 +310,11 @@ module _ {S : Type 0} (o : Ops S) (states : List S) (rs behind : List Record) (x
     going_before : (j : ℕ) → going_at (slice_get is_killed.labelled j) ≡ going_at (slice_get rs j)
     going_before j = rest_going dead is_killed.labelled between j ∙ at_set going_at rs x is_killed.old_record (dead_record is_killed.old_record label) is_killed.there refl j
 
-    lessened : (j : ℕ) (r : Record) → slice_get behind j ≡ Some r → (q : Record) × (slice_get rs j ≡ Some q) × (up_in rs x ≡ Some j → r.running_children ≡ q.running_children - 1) × (up_in rs x ≢ Some j → r.running_children ≡ q.running_children)
+    lessened : (j : ℕ) (r : Record) → slice_get behind j ≡ Some r → (q : Record) × (slice_get rs j ≡ Some q) × (up_in rs x ≡ Some j → r.going_children ≡ q.going_children - 1) × (up_in rs x ≢ Some j → r.going_children ≡ q.going_children)
     lessened j r e =
         let q = paths j r e in
         let w = left_going x is_killed.labelled behind is_killed.left j r e in
-        let same : going_at (slice_get is_killed.labelled j) ≡ q.0.running_children = going_before j ∙ ap going_at q.1 in
+        let same : going_at (slice_get is_killed.labelled j) ≡ q.0.going_children = going_before j ∙ ap going_at q.1 in
         let up : up_in is_killed.labelled x ≡ up_in rs x = ap (λ z. z x) ups_labelled in
         (q.0, q.1, (λ u. w.0 (up ∙ u) ∙ ap (λ z. z - 1) same), (λ u. w.1 (λ z. u (sym up ∙ z)) ∙ same))
 

@@ -37,11 +37,11 @@ both_paths a b d f g i r e = let y = g i r e in let z = f i y.0 y.1 in (z.0, z.1
 -- how many children go on, by the record of a fork
 abbrev pub going_at : Option Record → ℕ
 going_at None = 0
-going_at (Some r) = r.running_children
+going_at (Some r) = r.going_children
 
 abbrev going_rest : Option UncountedRecord → ℕ
 going_rest None = 0
-going_rest (Some r) = r.running_children
+going_rest (Some r) = r.going_children
 
 by_rest : (x : Option Record) → going_at x ≡ going_rest (option_map rest_of x)
 by_rest None = refl

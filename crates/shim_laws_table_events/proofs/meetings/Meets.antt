@@ -1,4 +1,4 @@
--- All that share a channel have received one after the other: the tree has moved by the meeting.
+-- All that share a channel have received one after the other: the tree has moved by the rendezvous.
 use Rattle.std.proofs.Common.{◌≡◌, ◌≢◌, ◌⊎◌, ℕ, true, false, cond, Some, List, map, inl, inr, refl, sym, ap, subst, ◌∙◌}
 use Rattle.std.specs.Prelude.{ℤ, slice_get}
 use Rattle.shim_base.specs.Paths.{Path, Channel, same_channel}

@@ -1,4 +1,4 @@
--- The name that a channel's first meeting brings, found among all that share the channel.
+-- The name that a channel's first rendezvous brings, found among all that share the channel.
 use Rattle.std.proofs.Common.{◌≡◌, ℕ, suc, true, false, Option, Some, None, List, [], ◌∷◌, map, inl, inr, refl, sym, ap, subst, ◌∙◌}
 use Rattle.std.specs.Prelude.{unwrap_or}
 use Rattle.shim_base.specs.Paths.{Path, Channel, NamedChannel}

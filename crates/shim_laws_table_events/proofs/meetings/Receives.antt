@@ -16,7 +16,7 @@ use Rattle.shim_laws_table.specs.NodeStatus.{lives, place}
 use Rattle.shim_laws_table.specs.Agrees.{Has, Represents}
 use Rattle.shim_laws_table.specs.Places.{IsReplaced}
 use Rattle.shim_laws_table.specs.Changes.{HasChanged}
-use Rattle.shim_laws_table.specs.Counts.{Tally, ChildStatus as Read, live_child_status, child_status}
+use Rattle.shim_laws_table.specs.Counts.{Tally, ChildStatus as Read, going_child_status, child_status}
 use Rattle.shim_laws_table.specs.Updating.{UpdatedAbove}
 use Rattle.shim_laws_table.proofs.SameTrees.{seen_live, put_replaces}
 use Rattle.shim_laws_table.proofs.Singles.{single_changes_are_represented}
@@ -115,7 +115,7 @@ module _ {S : Type 0} (o : Ops S) (law : LocalLaws o) (rp : Path) (root : Node S
     -- a channel at which it neither was nor is
     still : same_channel d.channel c ≡ false → is_next (o.stop s) c ≡ false → B (counts_in c rs)
     still far e = unread o law rp states states' rs behind root new l (Live s) x f kept has changed refl path given rep shown ups c
-        (λ i. let r : Read = record { alive = sym (shares c) i; ready_on = (ap (λ z. is_next z c) stop ∙ (far ∙ sym e)) i; dead_on = false } in r)
+        (λ i. let r : Read = record { going = sym (shares c) i; ready_on = (ap (λ z. is_next z c) stop ∙ (far ∙ sym e)) i; dead_on = false } in r)
 
     counts_above : (was is : Read) (after : ℕ → Option Tally) → child_status o c (Live l) ≡ was → child_status o c (Live s) ≡ is → o.shares s c ≡ true → UpdatedAbove (up_in rs) 4294967295 4294967295 (counts_in c rs) x was is after → B after
     counts_above was is after e g h updated = walked o law rp states states' rs behind root new l (Live s) x f kept has changed refl path given rep shown ups c was is after e g h
@@ -123,9 +123,9 @@ module _ {S : Type 0} (o : Ops S) (law : LocalLaws o) (rp : Path) (root : Node S
 
     -- the one at which it was
     at_old_channel : same_channel d.channel c ≡ true → B (counts_in c behind)
-    at_old_channel w = subst B (sym (kept_counts on.came)) (counts_above (live_child_status true) (live_child_status (is_next (o.stop s) c)) (counts_in c on.between)
-        (λ i. let r : Read = record { alive = shared i; ready_on = (ap (λ z. is_next z c) stop ∙ w) i; dead_on = false } in r)
-        (λ i. let r : Read = record { alive = (shares c ∙ shared) i; ready_on = is_next (o.stop s) c; dead_on = false } in r)
+    at_old_channel w = subst B (sym (kept_counts on.came)) (counts_above (going_child_status true) (going_child_status (is_next (o.stop s) c)) (counts_in c on.between)
+        (λ i. let r : Read = record { going = shared i; ready_on = (ap (λ z. is_next z c) stop ∙ w) i; dead_on = false } in r)
+        (λ i. let r : Read = record { going = (shares c ∙ shared) i; ready_on = is_next (o.stop s) c; dead_on = false } in r)
         (shares c ∙ shared) way)
       where
         is : d.channel ≡ c
@@ -134,9 +134,9 @@ module _ {S : Type 0} (o : Ops S) (law : LocalLaws o) (rp : Path) (root : Node S
         shared : o.shares l c ≡ true
         shared = ap (o.shares l) (sym is) ∙ law.next_shares l d sound stop
 
-        way : UpdatedAbove (up_in rs) 4294967295 4294967295 (counts_in c rs) x (live_child_status true) (live_child_status (is_next (o.stop s) c)) (counts_in c on.between)
-        way = subst (λ z. UpdatedAbove (up_in rs) 4294967295 4294967295 (counts_in z rs) x (live_child_status true) (live_child_status (is_next (o.stop s) z)) (counts_in z on.between)) is
-            (subst (λ z. UpdatedAbove (up_in rs) 4294967295 4294967295 (counts_in d.channel rs) x (live_child_status true) z (counts_in d.channel on.between)) on.status_is
+        way : UpdatedAbove (up_in rs) 4294967295 4294967295 (counts_in c rs) x (going_child_status true) (going_child_status (is_next (o.stop s) c)) (counts_in c on.between)
+        way = subst (λ z. UpdatedAbove (up_in rs) 4294967295 4294967295 (counts_in z rs) x (going_child_status true) (going_child_status (is_next (o.stop s) z)) (counts_in z on.between)) is
+            (subst (λ z. UpdatedAbove (up_in rs) 4294967295 4294967295 (counts_in d.channel rs) x (going_child_status true) z (counts_in d.channel on.between)) on.status_is
             (subst (λ z. UpdatedAbove (up_in rs) 4294967295 4294967295 (counts_in d.channel rs) x z (child_status_of on.is) (counts_in d.channel on.between)) on.status_was on.left.0))
 
         kept_counts : UpdatesOtherNext o s d.channel 4294967295 x on.between behind → counts_in c behind ≡ counts_in c on.between
@@ -165,24 +165,24 @@ module _ {S : Type 0} (o : Ops S) (law : LocalLaws o) (rp : Path) (root : Node S
             at_channel true w =
                 let is' = same_channel_is e.channel c w in
                 let shared : o.shares s c ≡ true = ap (o.shares s) (sym is') ∙ law.next_shares s e sound' g in
-                counts_above (live_child_status false) (live_child_status true) (counts_in c behind)
-                (λ i. let r : Read = record { alive = (sym (shares c) ∙ shared) i; ready_on = (ap (λ z. is_next z c) stop ∙ far) i; dead_on = false } in r)
-                (λ i. let r : Read = record { alive = shared i; ready_on = (ap (λ z. is_next z c) g ∙ w) i; dead_on = false } in r)
+                counts_above (going_child_status false) (going_child_status true) (counts_in c behind)
+                (λ i. let r : Read = record { going = (sym (shares c) ∙ shared) i; ready_on = (ap (λ z. is_next z c) stop ∙ far) i; dead_on = false } in r)
+                (λ i. let r : Read = record { going = shared i; ready_on = (ap (λ z. is_next z c) g ∙ w) i; dead_on = false } in r)
                 shared
-                (subst (λ z. UpdatedAbove z 4294967295 4294967295 (counts_in c rs) x (live_child_status false) (live_child_status true) (counts_in c behind)) ups_between
-                (subst (λ z. UpdatedAbove (up_in on.between) 4294967295 4294967295 z x (live_child_status false) (live_child_status true) (counts_in c behind)) between_same
-                (subst (λ z. UpdatedAbove (up_in on.between) 4294967295 4294967295 (counts_in z on.between) x (live_child_status false) (live_child_status true) (counts_in z behind)) is'
-                (subst (λ z. UpdatedAbove (up_in on.between) 4294967295 4294967295 (counts_in e.channel on.between) x (live_child_status false) z (counts_in e.channel behind)) y
+                (subst (λ z. UpdatedAbove z 4294967295 4294967295 (counts_in c rs) x (going_child_status false) (going_child_status true) (counts_in c behind)) ups_between
+                (subst (λ z. UpdatedAbove (up_in on.between) 4294967295 4294967295 z x (going_child_status false) (going_child_status true) (counts_in c behind)) between_same
+                (subst (λ z. UpdatedAbove (up_in on.between) 4294967295 4294967295 (counts_in z on.between) x (going_child_status false) (going_child_status true) (counts_in z behind)) is'
+                (subst (λ z. UpdatedAbove (up_in on.between) 4294967295 4294967295 (counts_in e.channel on.between) x (going_child_status false) z (counts_in e.channel behind)) y
                 (subst (λ z. UpdatedAbove (up_in on.between) 4294967295 4294967295 (counts_in e.channel on.between) x z (child_status_of is) (counts_in e.channel behind)) u updated.0)))))
 
     counted : B (counts_in c behind)
     counted = elim (true_or_false (same_channel d.channel c)) [ inl w ↦ at_old_channel w | inr w ↦ elsewhere w ]
 
-  running_children : GoRight o rp (record { states = states'; records = behind }) new
-  running_children j g n t u ks r fork e now =
+  going_children : GoRight o rp (record { states = states'; records = behind }) new
+  going_children j g n t u ks r fork e now =
       let w = as_many o (place o rp l) (Live l) (Live s) root new rep refl refl (place o rp t) u ks now in
       let q = was_record rs behind j r rest e in
-      ap (λ (z : UncountedRecord). z.running_children) (sym q.2) ∙ (kept.running_children j g n t u w.children q.0 (was_fork o law rp states states' rs behind root new l (Live s) x f kept has changed refl path given rep shown ups j g n t fork).1 q.1 w.there ∙ sym w.same)
+      ap (λ (z : UncountedRecord). z.going_children) (sym q.2) ∙ (kept.going_children j g n t u w.children q.0 (was_fork o law rp states states' rs behind root new l (Live s) x f kept has changed refl path given rep shown ups j g n t fork).1 q.1 w.there ∙ sym w.same)
 
   pub received : (new : Node S) × IsReplaced (place o rp l) (Live l) (Live s) root new × TableInvariant o rp (record { states = states'; records = behind }) new
   received = (
@@ -198,7 +198,7 @@ module _ {S : Type 0} (o : Ops S) (law : LocalLaws o) (rp : Path) (root : Node S
           labels = subst (λ z. Labelled o rp states' (map record_view behind) c (counts_in c behind) z new) (sym (labels_same c))
               (unlabelled o law rp states states' rs behind root new l (Live s) x f kept has changed refl path given rep shown ups c (counts_in c behind) (counted c).1 refl);
         })
-        running_children,
+        going_children,
   )
 
 pub receive_preserves : {S : Type 0} (o : Ops S) → LocalLaws o → ReceivePreserves o

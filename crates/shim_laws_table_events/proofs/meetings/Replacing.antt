@@ -116,4 +116,4 @@ module _ {S : Type 0} (o : Ops S) (law : LocalLaws o) (rp : Path) (states states
 
   pub keeps : AreOrdered behind → SamePaths rs behind → length states' ≡ length behind → ((c : Channel) (j : ℕ) → known_in c behind j ≡ known_in c rs j) → ((c : Channel) → carriers o c a ≤ carriers o c (Live l)) → ((c : Channel) → IsRight o rp (record { states = states'; records = behind }) new c) → GoRight o rp (record { states = states'; records = behind }) new
       → TableInvariant o rp (record { states = states'; records = behind }) new
-  keeps ordered paths beside same fewer right running_children = record { represents = shown; linked = linked; few = few; ordered = ordered; right = right; running_children = running_children; known = λ c. known_on o rp (record { states = states; records = rs }) old new kept x f l lives has (Live l) a rep given c (λ far. fewer c) leaf states' st' (known_in c behind) (λ j d n t h. (was_fork j d n t h).1) (λ j d n t h. same c j); fit = fit paths; beside = beside }
+  keeps ordered paths beside same fewer right going_children = record { represents = shown; linked = linked; few = few; ordered = ordered; right = right; going_children = going_children; known = λ c. known_on o rp (record { states = states; records = rs }) old new kept x f l lives has (Live l) a rep given c (λ far. fewer c) leaf states' st' (known_in c behind) (λ j d n t h. (was_fork j d n t h).1) (λ j d n t h. same c j); fit = fit paths; beside = beside }

@@ -11,7 +11,7 @@ use Rattle.shim_semantics.proofs.HowMany.{clash}
 use Rattle.shim_laws_table.specs.NodeStatus.{lives, forks, seen, how_many_nodes, is_leaf, place, IsAside}
 use Rattle.shim_laws_table.specs.Agrees.{Has}
 use Rattle.shim_laws_table.specs.Places.{IsReplaced}
-use Rattle.shim_laws_table.specs.Counts.{running_of, bit}
+use Rattle.shim_laws_table.specs.Counts.{going_of, bit}
 use Rattle.shim_laws_table.specs.Tallied.{is_above}
 use Rattle.shim_laws_table.proofs.Aside.{at_split}
 use Rattle.shim_laws_table.proofs.SameTrees.{aside_or_further, is_put, fork_count, child_counted}
@@ -33,7 +33,7 @@ one_less_is now was kept is e f g = omega (arith, e, f, g)
 module _ {S : Type 0} (o : Ops S) (rp : Path) (states states' : List S) (rs behind : List Record) (old new : Node S) (l : S) (a : Node S) (x f : ℕ)
     (kept : TableInvariant o rp (record { states = states; records = rs }) old) (has : Has states (map record_view rs) x f l lives) (leaf : is_leaf a ≡ true) (done : goes a ≡ false) (rep : IsReplaced (place o rp l) (Live l) a old new)
     (was_fork : (j d n : ℕ) (t : S) → Has states' (map record_view behind) j d t (forks n) → (j ≢ x) × Has states (map record_view rs) j d t (forks n))
-    (less : (j : ℕ) (r : Record) → slice_get behind j ≡ Some r → (q : Record) × (slice_get rs j ≡ Some q) × (up_in rs x ≡ Some j → r.running_children ≡ q.running_children - 1) × (up_in rs x ≢ Some j → r.running_children ≡ q.running_children)) where
+    (less : (j : ℕ) (r : Record) → slice_get behind j ≡ Some r → (q : Record) × (slice_get rs j ≡ Some q) × (up_in rs x ≡ Some j → r.going_children ≡ q.going_children - 1) × (up_in rs x ≢ Some j → r.going_children ≡ q.going_children)) where
   abbrev q : List ℕ
   q = place o rp l
 
@@ -44,7 +44,7 @@ module _ {S : Type 0} (o : Ops S) (rp : Path) (states states' : List S) (rs behi
     its : Has states (map record_view rs) j g t (forks n)
     its = (was_fork j g n t fork).1
 
-    known : (w : Record) × (slice_get rs j ≡ Some w) × (up_in rs x ≡ Some j → r.running_children ≡ w.running_children - 1) × (up_in rs x ≢ Some j → r.running_children ≡ w.running_children)
+    known : (w : Record) × (slice_get rs j ≡ Some w) × (up_in rs x ≡ Some j → r.going_children ≡ w.going_children - 1) × (up_in rs x ≢ Some j → r.going_children ≡ w.going_children)
     known = less j r e
 
     -- the parent is right above
@@ -67,24 +67,24 @@ module _ {S : Type 0} (o : Ops S) (rp : Path) (states states' : List S) (rs behi
     before : Was o q (Live l) a old new rep leaf {X = ℕ} (λ js. zero) p u ks
     before = carried o q (Live l) a old new rep leaf (λ js. zero) (λ r v is js above was now. refl) p u ks now
 
-    children_are : known.0.running_children ≡ running_of before.children
-    children_are = kept.running_children j g n t u before.children known.0 its known.1 before.there
+    children_are : known.0.going_children ≡ going_of before.children
+    children_are = kept.going_children j g n t u before.children known.0 its known.1 before.there
 
-    above : (b : ℕ) (rest : List ℕ) → q ≡ p ++ b ∷ rest → r.running_children ≡ running_of ks
-    above b [] z = one_less_is (running_of ks) (running_of before.children) known.0.running_children r.running_children
-        ((running_follow o).right_above old new (Live l) a p b u before.children ks (subst (λ d. IsReplaced d (Live l) a old new) z rep) before.there now ∙ ap (λ d. running_of before.children + bit d) done)
+    above : (b : ℕ) (rest : List ℕ) → q ≡ p ++ b ∷ rest → r.going_children ≡ going_of ks
+    above b [] z = one_less_is (going_of ks) (going_of before.children) known.0.going_children r.going_children
+        ((running_follow o).right_above old new (Live l) a p b u before.children ks (subst (λ d. IsReplaced d (Live l) a old new) z rep) before.there now ∙ ap (λ d. going_of before.children + bit d) done)
         children_are (known.2 (parent_is b z))
     above b (d ∷ rest) z =
         known.3 (λ up. let y = right_above up in no_longer p rest y.0 b d (sym y.1 ∙ z))
         ∙ (children_are ∙ sym ((running_follow o).further_above old new (Live l) a p b d rest u before.children ks (subst (λ d. IsReplaced d (Live l) a old new) z rep) before.there now))
 
-    beside : IsAside p q → (b : Bool) → is_above p q ≡ b → r.running_children ≡ running_of ks
+    beside : IsAside p q → (b : Bool) → is_above p q ≡ b → r.going_children ≡ going_of ks
     beside far false w =
         let was : at p old ≡ Some (Forked u ks) = sym (untouched q p (Live l) a old rep.was w far) ∙ (ap (at p) (sym (is_put q (Live l) a old new rep)) ∙ now) in
-        known.3 (λ up. let b = right_above up in clash (is_above p q) (ap (is_above p) b.1 ∙ above_its_own p b.0) w) ∙ kept.running_children j g n t u ks known.0 its known.1 was
+        known.3 (λ up. let b = right_above up in clash (is_above p q) (ap (is_above p) b.1 ∙ above_its_own p b.0) w) ∙ kept.going_children j g n t u ks known.0 its known.1 was
     beside far true w = let y = way_from p q w in above y.branch y.rest y.is
 
-    going_is : r.running_children ≡ running_of ks
+    going_is : r.going_children ≡ going_of ks
     going_is = elim (aside_or_further q p) [
       | inr y ↦ leaf_no_fork y.0 a u ks leaf (sym (at_split q y.0 new a rep.is) ∙ (ap (λ z. at z new) (sym y.1) ∙ now))
       | inl far ↦ beside far (is_above p q) refl

@@ -109,7 +109,7 @@ module _ {S : Type 0} (o : Ops S) (v : TableView S) (i : ℕ) where
     nothing_there d stop_is far (to_meet_below g n q m r y c has re e same home all) = no_fork g n m has
     nothing_there d stop_is far (to_poison g n q b h m k x r y p c has re e same low less child ready_on path) = no_fork g n m has
 
-  module _ (g n : ℕ) (l : S) (r : Record) (is : HasProcessState v i g l (forks n)) (there : slice_get v.records i ≡ Some r) (some : r.running_children ≢ 0) (idle : (q : ℕ) (y : Pair) → slice_get r.pairs.items q ≡ Some y → HasNoPairDue o v l g n y) where
+  module _ (g n : ℕ) (l : S) (r : Record) (is : HasProcessState v i g l (forks n)) (there : slice_get v.records i ≡ Some r) (some : r.going_children ≢ 0) (idle : (q : ℕ) (y : Pair) → slice_get r.pairs.items q ≡ Some y → HasNoPairDue o v l g n y) where
     no_live : {B : Type 0} (f : ℕ) (m : S) → HasProcessState v i f m lives → B
     no_live f m has = live_or_fork n (one_status v.states (views v) i f g m l lives (forks n) has is)
 
@@ -126,7 +126,7 @@ module _ {S : Type 0} (o : Ops S) (v : TableView S) (i : ℕ) where
     nothing_below (to_step f m p has stop path) = no_live f m has
     nothing_below (to_end f m p has stop path) = no_live f m has
     nothing_below (to_meet f m d c has stop same home) = no_live f m has
-    nothing_below (to_close h d m s p has re none path) = absurd (some (ap (λ (z : Record). z.running_children) (sym (same_record s re)) ∙ none))
+    nothing_below (to_close h d m s p has re none path) = absurd (some (ap (λ (z : Record). z.going_children) (sym (same_record s re)) ∙ none))
     nothing_below (to_meet_below h d q m s y c has re e same home all) =
         clash (tally_ready (tally y)) all ((idle q y (its_pair s q y re e)).meets_not (ap o.path (sym (same_fork h d m has)) ∙ (home ∙ ap (λ z. z.home) (sym same))))
     nothing_below (to_poison h d q b f m k x s y p c has re e same low less child ready_on path) =

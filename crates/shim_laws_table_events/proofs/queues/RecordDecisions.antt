@@ -111,7 +111,7 @@ module _ {S : Type 0} (o : Ops S) (law : LocalLaws o) (rp : Path) (v : TableView
   )
   due_can i (to_close f n l r p has re none path) =
       let w = fork_node i f n l has in (
-        subst (λ z. Can o t (Close z)) path ((by.closes rp v.states (views v) t i f n l w.0 kept.represents has w.1).1 (sym (kept.running_children i f n l l w.0 r has re w.1) ∙ none)),
+        subst (λ z. Can o t (Close z)) path ((by.closes rp v.states (views v) t i f n l w.0 kept.represents has w.1).1 (sym (kept.going_children i f n l l w.0 r has re w.1) ∙ none)),
         at_close i f n l p has path,
       )
   due_can i (to_meet_below f n q l r y c has re e same home all) =
@@ -163,7 +163,7 @@ module _ {S : Type 0} (o : Ops S) (law : LocalLaws o) (rp : Path) (v : TableView
   can_due can (at_close i f n l p has path) =
       let w = fork_node i f n l has in
       let r = record_of v.records i f (forks n) has.view_is in
-      to_close f n l r.0 p has r.1 (kept.running_children i f n l l w.0 r.0 has r.1 w.1 ∙ (by.closes rp v.states (views v) t i f n l w.0 kept.represents has w.1).0 (subst (λ z. Can o t (Close z)) (sym path) can)) path
+      to_close f n l r.0 p has r.1 (kept.going_children i f n l l w.0 r.0 has r.1 w.1 ∙ (by.closes rp v.states (views v) t i f n l w.0 kept.represents has w.1).0 (subst (λ z. Can o t (Close z)) (sym path) can)) path
   can_due can (at_home i f l k c has (inl lively) home) =
       let is : HasProcessState v i f l lives = subst (HasProcessState v i f l) lively has in
       let d = next_is (o.stop l) c ((by.meets_alone rp v.states (views v) t c i f l kept.represents is home).0 can) in

@@ -38,10 +38,10 @@ module _ {S : Type 0} where
     }
 
     -- and so was its record, with as many children that go on
-    pub record_before : (r : Record) → slice_get behind.records i ≡ Some r → (q : Record) × (slice_get before.records i ≡ Some q) × (q.running_children ≡ r.running_children)
+    pub record_before : (r : Record) → slice_get behind.records i ≡ Some r → (q : Record) × (slice_get before.records i ≡ Some q) × (q.going_children ≡ r.going_children)
     record_before r e =
         let w = from_map rest_of (slice_get before.records i) (rest_of r) (sym rest ∙ ap (option_map rest_of) e) in
-        (w.0, w.1, ap (λ (z : UncountedRecord). z.running_children) w.2)
+        (w.0, w.1, ap (λ (z : UncountedRecord). z.going_children) w.2)
 
   module _ (before behind : TableView S) (i : ℕ) (same : IsAsBefore before behind i) where
     -- a process whose record is as before was there

@@ -19,12 +19,12 @@ pub record RecordWithoutStatus : Type 0 where
   pub first : ℕ
   pub parent : Option ℕ
   pub path : Path
-  pub running_children : ℕ
+  pub going_children : ℕ
   pub pairs : List Pair
 
 -- this record without its status
 abbrev pub without_status : Record → RecordWithoutStatus
-without_status r = record { first = r.first; parent = r.parent; path = r.path; running_children = r.running_children; pairs = r.pairs.items }
+without_status r = record { first = r.first; parent = r.parent; path = r.path; going_children = r.going_children; pairs = r.pairs.items }
 
 -- from the number g on n records are free, and nothing else has changed
 pub record AreFreed (g n : ℕ) (before after : List Record) : Type 0 where

@@ -17,7 +17,7 @@ use Rattle.shim_laws_table_events.specs.closes.Closing.{AreFreed, HasCome, Count
 -- Of the fork of l, with the record i, no child goes on. Its children's records were freed. Its own has the new state and status, and where it died, its parent counts one less. Above it the counts were brought up to date, and where a child died the labels. Then the fork can close, and the records keep the table invariant of the tree after that.
 abbrev pub ClosePreserves : {S : Type 0} → Ops S → Type 0
 ClosePreserves {S} o = (rp : Path) (t : Tree S) (states : List S) (rs freed left between behind : List Record) (i g n : ℕ) (l : S) (q r : Record) (a : Acted S) → TableInvariant o rp (record { states = states; records = rs }) t.root
-    → HasProcessState (record { states = states; records = rs }) i g l (forks n) → slice_get rs i ≡ Some q → q.running_children ≡ 0 → a ≡ closed o l (segment g n states) (prevailing_among (segment g n (map record_view rs)))
+    → HasProcessState (record { states = states; records = rs }) i g l (forks n) → slice_get rs i ≡ Some q → q.going_children ≡ 0 → a ≡ closed o l (segment g n states) (prevailing_among (segment g n (map record_view rs)))
     → AreFreed g n rs freed → HasCome q r (process_status a.node) → CountsOffIfOver (process_status a.node) i (slice_set freed i r) left → AllUpdated o (state a.node) (process_status a.node) 4294967295 i left between
     → RecomputedIf (prevailing_among (segment g n (map record_view rs))) o (slice_set states i (state a.node)) (state a.node) 4294967295 i between behind
     → (u : Tree S) × (after o (Close (o.path l)) t ≡ Some u) × TableInvariant o rp (record { states = slice_set states i (state a.node); records = behind }) u.root

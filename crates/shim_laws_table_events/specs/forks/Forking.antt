@@ -5,7 +5,7 @@ use Rattle.shim_local.specs.Process.{Ops, AtFork, Parted, Trapped}
 use Rattle.shim_semantics.specs.Trees.{Own}
 use Rattle.shim_laws_table.specs.NodeStatus.{ProcessStatus, lives, forks}
 use Rattle.shim_laws_table.specs.Agrees.{used}
-use Rattle.shim_laws_table.specs.Counts.{live_child_status, tally_ready}
+use Rattle.shim_laws_table.specs.Counts.{going_child_status, tally_ready}
 use Rattle.shim_records.specs.Pairs.{tally, child_status_of, record_view}
 use Rattle.shim_records.specs.Ways.{IsUpdatedAbove}
 use Rattle.shim_records.specs.Fresh.{FreshPairs}
@@ -39,7 +39,7 @@ pub record IsOfFork {S : Type 0} (o : Ops S) (g : ℕ) (p : S) (ks : List S) (be
   pub forked : record_view r ≡ used g (forks (length ks))
   pub parent : r.parent ≡ before.parent
   pub path : r.path ≡ before.path
-  pub running_children : r.running_children ≡ length ks
+  pub going_children : r.going_children ≡ length ks
   pub pairs : FreshPairs o p ks r.pairs.items
 
 -- the channels on which a fork with these pairs is ready
@@ -51,10 +51,10 @@ ready_chans (p ∷ ps) = cond (tally_ready (tally p)) (p.chan.channel ∷ ready_
 pub data EachUpdatedAbove (n x : ℕ) : List Channel → List Record → List Record → Type 0 where
   none_left : (rs : List Record) → EachUpdatedAbove n x [] rs rs
   one_more : (c : Channel) (cs : List Channel) (was is : ChildStatus) (before between after : List Record)
-      → child_status_of was ≡ live_child_status false → child_status_of is ≡ live_child_status true
+      → child_status_of was ≡ going_child_status false → child_status_of is ≡ going_child_status true
       → IsUpdatedAbove c n x was is before between → EachUpdatedAbove n x cs between after → EachUpdatedAbove n x (c ∷ cs) before after
 
--- The process with the number x forked and is as p: its children's states and records were put together from the number g on, in place of free ones or behind all others, and the counts above follow.
+-- The process with the number x forked and is as p: its children's states and records were put together from the number g on, in place of free ones or after all others, and the counts above follow.
 pub record ForksAt {S : Type 0} (o : Ops S) (x g : ℕ) (p : S) (ks : List S) (before after : TableView S) : Type 0 where
   pub was : Record
   pub is : Record

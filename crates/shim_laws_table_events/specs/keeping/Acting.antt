@@ -36,7 +36,7 @@ left_by l (code.Forked n) = Live l
 
 -- the record with this status
 abbrev pub with_status : Status → Record → Record
-with_status k r = record { status = k; first = r.first; parent = r.parent; path = r.path; running_children = r.running_children; pairs = r.pairs }
+with_status k r = record { status = k; first = r.first; parent = r.parent; path = r.path; going_children = r.going_children; pairs = r.pairs }
 
 -- the label of a death is taken in above, and where there is none nothing is done
 abbrev pub TakesIn : {S : Type 0} → Ops S → S → Status → ℕ → ℕ → List Record → List Record → Type 0
@@ -56,7 +56,7 @@ pub record Terminates {S : Type 0} (o : Ops S) (s : S) (k : Status) (n x : ℕ) 
   pub updated : AllUpdated o s (process_status_of k) n x labelled counted
   pub left : HasCountedOff x counted after
 
--- Where a live process did something by itself that leaves it alive, and the counts above were updated for the stop to which it came, the tree moves by that event.
+-- Where a live process did something by itself that lets it live on, and the counts above were updated for the stop to which it came, the tree moves by that event.
 abbrev pub StepPreserves : {S : Type 0} → Ops S → Type 0
 StepPreserves {S} o = (states : List S) (rs after : List Record) (x f : ℕ) (l s : S) (effects : Effects) → HasProcessState (record { states = states; records = rs }) x f l lives → act_live o l (o.stop l) ≡ Some (record { node = Live s; effects = effects })
     → PropagatesStop o s 4294967295 x rs after → Performs o (event_at_stop (o.stop l) (o.path l)) (record { states = states; records = rs }) (record { states = slice_set states x s; records = after })

@@ -6,7 +6,7 @@ use Rattle.shim_semantics.specs.Nodes.{Node, Nodes, Forked}
 use Rattle.shim_semantics.specs.Places.{at}
 use Rattle.shim_laws_table.specs.NodeStatus.{ProcessStatus, lives, forks, place}
 use Rattle.shim_laws_table.specs.Agrees.{RecordView, used, Has, Represents}
-use Rattle.shim_laws_table.specs.Counts.{running_of}
+use Rattle.shim_laws_table.specs.Counts.{going_of}
 use Rattle.shim_laws_table.specs.Tallied.{Tallied, HaveCounts}
 use Rattle.shim_laws_table.specs.Updating.{AreLinked, AreAtMost}
 use Rattle.shim_laws_table.specs.LoweredLabels.{Labelled}
@@ -35,7 +35,7 @@ pub record IsRight {S : Type 0} (o : Ops S) (rp : Path) (v : TableView S) (root 
 
 -- of each fork as many children go on as its record says
 abbrev pub GoRight : {S : Type 0} → Ops S → Path → TableView S → Node S → Type 0
-GoRight {S} o rp v root = (i f n : ℕ) (s l : S) (ks : Nodes S) (r : Record) → HasProcessState v i f s (forks n) → slice_get v.records i ≡ Some r → at (place o rp s) root ≡ Some (Forked l ks) → r.running_children ≡ running_of ks
+GoRight {S} o rp v root = (i f n : ℕ) (s l : S) (ks : Nodes S) (r : Record) → HasProcessState v i f s (forks n) → slice_get v.records i ≡ Some r → at (place o rp s) root ≡ Some (Forked l ks) → r.going_children ≡ going_of ks
 
 -- a record in use has the path of its process, which isn't too far from the root, and wasn't given too many channels
 pub record IsFit {S : Type 0} (o : Ops S) (rp : Path) (s : S) (r : Record) : Type 0 where
@@ -50,7 +50,7 @@ pub record TableInvariant {S : Type 0} (o : Ops S) (rp : Path) (v : TableView S)
   pub few : AreAtMost 4294967295 v.states (views v)
   pub ordered : AreOrdered v.records
   pub right : (c : Channel) → IsRight o rp v root c
-  pub running_children : GoRight o rp v root
+  pub going_children : GoRight o rp v root
   pub known : (c : Channel) → AreKnown o rp v.states (views v) c (known_in c v.records) root
   pub fit : (i f : ℕ) (s : S) (k : ProcessStatus) (r : Record) → HasProcessState v i f s k → slice_get v.records i ≡ Some r → IsFit o rp s r
   pub beside : length v.states ≡ length v.records

@@ -10,7 +10,7 @@ use Rattle.shim_records.specs.declared.record.Status.TheVariants.{Dead}
 
 -- the record of a process that died of an exception with this label
 abbrev pub dead_record : Record → ℕ → Record
-dead_record r label = record { status = Dead (death label); first = r.first; parent = r.parent; path = r.path; running_children = r.running_children; pairs = r.pairs }
+dead_record r label = record { status = Dead (death label); first = r.first; parent = r.parent; path = r.path; going_children = r.going_children; pairs = r.pairs }
 
 -- The process of the record x has died: first its record has the death with this label. Then the counts above are updated, and then the label is taken in, each through at most n forks. Last, its fork counts one child less that goes on.
 pub record DiesAt {S : Type 0} (o : Ops S) (s : S) (label n x : ℕ) (before after : List Record) : Type 0 where

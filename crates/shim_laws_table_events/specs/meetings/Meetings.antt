@@ -1,4 +1,4 @@
--- A meeting done one process after the other, from the numbers of those that share the channel.
+-- A rendezvous done one process after the other, from the numbers of those that share the channel.
 use Rattle.std.specs.Prelude.{◌≡◌, ℕ, ℤ, false, List, [], ◌∷◌, slice_set}
 use Rattle.shim_base.specs.Paths.{Path, Channel, NamedChannel}
 use Rattle.shim_local.specs.Process.{Ops, AtNext}
@@ -43,11 +43,11 @@ HasValue {S} o v c x = (rp : Path) (root : Node S) → TableInvariant o rp v roo
 abbrev pub AllReceived : {S : Type 0} → Ops S → Channel → ℤ → TableView S → TableView S → Type 0
 AllReceived {S} o c x before after = (rp : Path) (root : Node S) → TableInvariant o rp before root → (views after ≡ views before) × HaveReceived o c x (views before) before.states after.states
 
--- Where a meeting is enabled, and all that are at the channel receive the value of its source one after the other, the tree moves by the meeting.
+-- Where a rendezvous is enabled, and all that are at the channel receive the value of its source one after the other, the tree moves by the rendezvous.
 abbrev pub MeetingPreserves : {S : Type 0} → Ops S → Type 0
 MeetingPreserves {S} o = (before after : TableView S) (c : Channel) (numbers : List ℕ) (x : ℤ) → IsEnabled o (Meet c) before → ListsReceivers o before c numbers → HasValue o before c x → ReceiveAll o c x numbers before after
     → Performs o (Meet c) before after × AllReceived o c x before after
 
--- Where a meeting is enabled, all that share the channel at and below its home include each live process that is at the channel, and none twice.
+-- Where a rendezvous is enabled, all that share the channel at and below its home include each live process that is at the channel, and none twice.
 abbrev pub SharersReceive : {S : Type 0} → Ops S → Type 0
 SharersReceive {S} o = (v : TableView S) (c : Channel) (i : ℕ) (numbers : List ℕ) → Declares o v i c → IsEnabled o (Meet c) v → ListsSharers o v c i numbers → ListsReceivers o v c numbers

@@ -32,7 +32,7 @@ pub data CanHappenAt {S : Type 0} (o : Ops S) (v : TableView S) (i : ℕ) : Even
   to_end : (f : ℕ) (l : S) (p : Path) → HasProcessState v i f l lives → own_action_at (o.stop l) ≡ Ends → o.path l ≡ p → CanHappenAt o v i (End p)
   to_meet : (f : ℕ) (l : S) (d : NamedChannel) (c : Channel) → HasProcessState v i f l lives → o.stop l ≡ AtNext d → d.channel ≡ c → o.path l ≡ c.home → CanHappenAt o v i (Meet c)
   -- it has forked, and none of its children goes on
-  to_close : (f n : ℕ) (l : S) (r : Record) (p : Path) → HasProcessState v i f l (forks n) → slice_get v.records i ≡ Some r → r.running_children ≡ 0 → o.path l ≡ p → CanHappenAt o v i (Close p)
+  to_close : (f n : ℕ) (l : S) (r : Record) (p : Path) → HasProcessState v i f l (forks n) → slice_get v.records i ≡ Some r → r.going_children ≡ 0 → o.path l ≡ p → CanHappenAt o v i (Close p)
   -- by the pair of a channel that it declared, it is ready on that
   to_meet_below : (f n q : ℕ) (l : S) (r : Record) (y : Pair) (c : Channel) → HasProcessState v i f l (forks n) → slice_get v.records i ≡ Some r → slice_get r.pairs.items q ≡ Some y → y.chan.channel ≡ c → o.path l ≡ c.home
       → tally_ready (tally y) ≡ true → CanHappenAt o v i (Meet c)
@@ -56,7 +56,7 @@ pub data HasNothingDue {S : Type 0} (o : Ops S) (v : TableView S) (i : ℕ) : Ty
   is_quiet : (f : ℕ) (l : S) → HasProcessState v i f l lives → o.stop l ≡ AtQuiet → HasNothingDue o v i
   waits : (f : ℕ) (l : S) (d : NamedChannel) → HasProcessState v i f l lives → o.stop l ≡ AtNext d → o.path l ≢ d.channel.home → HasNothingDue o v i
   -- it has forked, a child goes on, and by each pair nothing can happen
-  is_open : (g n : ℕ) (l : S) (r : Record) → HasProcessState v i g l (forks n) → slice_get v.records i ≡ Some r → r.running_children ≢ 0 → ((q : ℕ) (y : Pair) → slice_get r.pairs.items q ≡ Some y → HasNoPairDue o v l g n y) → HasNothingDue o v i
+  is_open : (g n : ℕ) (l : S) (r : Record) → HasProcessState v i g l (forks n) → slice_get v.records i ≡ Some r → r.going_children ≢ 0 → ((q : ℕ) (y : Pair) → slice_get r.pairs.items q ≡ Some y → HasNoPairDue o v l g n y) → HasNothingDue o v i
 
 -- the event is a quiet step of the process with this number
 pub record IsQuietStepAt {S : Type 0} (o : Ops S) (v : TableView S) (i : ℕ) (e : Event) : Type 0 where

@@ -3,8 +3,8 @@ ghost use Rattle.std.specs.Prelude.{◌≡◌, ◌++◌, OnOk, flat_map};
 ghost use Rattle.shim_local.specs.declared.LogWhat.TheVariants.{Caught, Trap as LoggedTrap};
 ghost use Rattle.shim_report.specs.Report.{end_line, events_line, history_line, log_line, outcome_text, output_line, own_line, log_what_line, value_part, wait_line};
 
-use super::words::{push_channel, push_hex_part, push_name, push_path, push_signed, trap_word};
-use shim_base::{List, Name, NoMemory, Path, Trap, push_decimal};
+use super::words::{push_hex_part, push_name, push_signed, trap_word};
+use shim_base::{List, Name, NoMemory, Path, Trap, push_channel, push_decimal, push_path};
 use shim_local::{History, Log, LogWhat, Outcome, OwnSteps, WaitAt};
 
 #[tactic(auto, unfolding(crate::specs::Report::output_line))]

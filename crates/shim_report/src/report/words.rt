@@ -1,8 +1,8 @@
 // The words of a report's lines.
 ghost use Rattle.std.specs.Prelude.{◌≡◌, ◌++◌, ◌<◌, OnOk, flat_map};
-ghost use Rattle.shim_report.specs.Report.{channel_text, hex_byte, hex_digit, hex_part, name_text, number_text, pair_text, path_text, trap_word};
+ghost use Rattle.shim_report.specs.Report.{hex_byte, hex_digit, hex_part, name_text, number_text, trap_word};
 
-use shim_base::{Chan, List, Name, NoMemory, Path, Trap, push_decimal};
+use shim_base::{List, Name, NoMemory, Trap, push_decimal};
 
 // A digit from 0 to 9 or from a to f.
 fn hex_digit(n: u8) -> u8
@@ -42,44 +42,6 @@ pub(super) fn push_signed(text: &mut List<u8>, number: i64) -> Result<(), NoMemo
         text.extend_from_slice(b"-")?;
     }
     push_decimal(text, number.unsigned_abs())
-}
-
-/// Adds `main`, and `/FORK.BRANCH` for each pair.
-#[tactic(auto, unfolding(crate::specs::Report::path_text))]
-pub fn push_path(text: &mut List<u8>, path: &Path) -> Result<(), NoMemory>
-    ensures { OnOk result (text.new ≡ text.old ++ path_text path.now) }
-{
-    text.extend_from_slice(b"main")?;
-    push_pairs(text, path.pairs())
-}
-
-fn push_pairs(text: &mut List<u8>, pairs: &[(u32, u32)]) -> Result<(), NoMemory>
-    ensures { OnOk result (text.new ≡ text.old ++ flat_map pair_text pairs.now) }
-{
-    for pair in pairs {
-        push_pair(text, *pair)?;
-    }
-    Ok(())
-}
-
-#[tactic(auto, unfolding(crate::specs::Report::pair_text))]
-fn push_pair(text: &mut List<u8>, pair: (u32, u32)) -> Result<(), NoMemory>
-    ensures { OnOk result (text.new ≡ text.old ++ pair_text pair) }
-{
-    text.extend_from_slice(b"/")?;
-    push_decimal(text, pair.0 as u64)?;
-    text.extend_from_slice(b".")?;
-    push_decimal(text, pair.1 as u64)
-}
-
-/// Adds `HOME#SERIAL`.
-#[tactic(auto, unfolding(crate::specs::Report::channel_text))]
-pub fn push_channel(text: &mut List<u8>, chan: &Chan) -> Result<(), NoMemory>
-    ensures { OnOk result (text.new ≡ text.old ++ channel_text chan.now.channel) }
-{
-    push_path(text, chan.home())?;
-    text.extend_from_slice(b"#")?;
-    push_decimal(text, chan.serial() as u64)
 }
 
 /// Adds the name of a number, or `?` where the number is past the names.

@@ -1,4 +1,4 @@
--- How a `Boxed` stores its content, so that a recursive type may go through it: behind a pointer, and seen as itself.
+-- How a `Boxed` stores its content, so that a recursive type may go through it: after a pointer, and seen as itself.
 use mathlib.Core.Path.{refl}
 use mathlib.Core.Former as former
 use mathlib.Core.Former.{Former, this}

@@ -1,5 +1,6 @@
 use Rattle.std.proofs.Common.{◌-◌, ◌<◌, vec_len, drop}
-use Rattle.shim_board.specs.Counting.{occurs, total}
+use Rattle.shim_board.specs.Counting.{occurs}
+use Rattle.shim_base.specs.Lists.{total}
 use Rattle.shim_board.proofs.closing.place_of_first.Given as goal
 
 abbrev pub invariant-loop-at : goal.invariant-loop-at

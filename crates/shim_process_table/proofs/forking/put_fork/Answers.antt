@@ -28,7 +28,7 @@ returns-clause-ok g c =
     let walked : EachUpdatedAbove 4294967295 c.args.fork.number (channels c.in_ok-chans.chans.items) c.put_block-2.new.items.items c.update_ready-forks.new.records.items = search rules in
     put o c.args.fork.number c.in_ok-first.first c.in_ok-count.count c.args.fork.parent c.args.fork.children.items c.args.states.now.items _ c.args.records.now.items c.put_block-2.new.items.items c.update_ready-forks.new.records.items
     c.index_mut-2.result.now c.note_fork.new.parent c.in_ok-born.born.items c.in_ok-chans.chans.items had block many few children
-    (its_record o c.in_ok-first.first c.in_ok-count.count c.args.fork.parent c.args.fork.children.items c.index_mut-2.result.now c.note_fork.new.parent c.in_ok-pairs.pairs.items many c.note_fork.ensures.forked c.note_fork.ensures.parent c.note_fork.ensures.path c.note_fork.ensures.running_children c.note_fork.ensures.pairs fresh)
+    (its_record o c.in_ok-first.first c.in_ok-count.count c.args.fork.parent c.args.fork.children.items c.index_mut-2.result.now c.note_fork.new.parent c.in_ok-pairs.pairs.items many c.note_fork.ensures.forked c.note_fork.ensures.parent c.note_fork.ensures.path c.note_fork.ensures.going_children c.note_fork.ensures.pairs fresh)
     put_in ready records walked
 
 pub returns-clause-touches : goal.returns-clause-touches

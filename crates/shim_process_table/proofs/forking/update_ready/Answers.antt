@@ -11,9 +11,9 @@ loop-i-preserved c =
     let now = c.loop-i.records.items in
     let way = c.update_counts_above-reached in
     let max = c.max-furthest.ensures in (
-      one_way c.args.at c.args.chans.now c.loop-i.i rs now way.new.records.items c.index-chans-i.result c.live_child_status.result c.live_child_status-in-loop-i.result c.loop-i.invariant.0
-          (slice_get_read c.args.chans.now _ c.loop-i.i c.index-chans-i.result refl (omega (arith, within, end)) c.index-chans-i.is) c.live_child_status.ensures c.live_child_status-in-loop-i.ensures way.ensures.counts,
-      one_further c.loop-i.furthest way.result c.max-furthest.result c.args.at rs now way.new.records.items c.index-chans-i.result c.live_child_status.result c.live_child_status-in-loop-i.result
+      one_way c.args.at c.args.chans.now c.loop-i.i rs now way.new.records.items c.index-chans-i.result c.going_child_status.result c.going_child_status-in-loop-i.result c.loop-i.invariant.0
+          (slice_get_read c.args.chans.now _ c.loop-i.i c.index-chans-i.result refl (omega (arith, within, end)) c.index-chans-i.is) c.going_child_status.ensures c.going_child_status-in-loop-i.ensures way.ensures.counts,
+      one_further c.loop-i.furthest way.result c.max-furthest.result c.args.at rs now way.new.records.items c.index-chans-i.result c.going_child_status.result c.going_child_status-in-loop-i.result
           (omega (arith, max)) (omega (arith, max)) c.loop-i.invariant.1 way.ensures.counts way.ensures.reaches,
     )
 

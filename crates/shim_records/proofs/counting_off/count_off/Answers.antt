@@ -20,4 +20,4 @@ returns c =
     let r = c.index_mut-record.result.now in
     let fork = slice_get_read rs.items c.len-2.result c.in-Some.parent r (c.len-2.ensures ∙ rs.ok.0) (omega (arith, c.if-parent-len.false)) c.index_mut-record.ensures.value in
     below c.in-Some.parent r (ap up_at record_before ∙ c.in-Some.is) fork
-    (ap (λ n. let w : Record = record { status = r.status; first = r.first; parent = r.parent; path = r.path; running_children = n; pairs = r.pairs } in slice_set rs.items c.in-Some.parent w) c.saturating_sub-record.ensures)
+    (ap (λ n. let w : Record = record { status = r.status; first = r.first; parent = r.parent; path = r.path; going_children = n; pairs = r.pairs } in slice_set rs.items c.in-Some.parent w) c.saturating_sub-record.ensures)

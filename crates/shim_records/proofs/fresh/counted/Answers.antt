@@ -14,7 +14,7 @@ loop-i-preserved g c =
     let k = c.index-children-i.result in
     let so = c.loop-i.invariant in
     let there = slice_get_read ks (length ks) i k refl c.loop-i-test.true c.index-children-i.is in (
-      counted_on (λ s. o.shares s ch) ks i k c.loop-i.live c.more-live.result _ there (c.more-live.ensures ∙ ap (λ b. if b then suc c.loop-i.live else c.loop-i.live) c.shares-shares.ensures) so.0,
+      counted_on (λ s. o.shares s ch) ks i k c.loop-i.going c.more-going.result _ there (c.more-going.ensures ∙ ap (λ b. if b then suc c.loop-i.going else c.loop-i.going) c.shares-shares.ensures) so.0,
       counted_on (λ s. o.shares s ch && not (is_next (o.stop s) ch)) ks i k c.loop-i.not_ready c.more-not_ready.result _ there
           (c.more-not_ready.ensures ∙ ap (λ b. if b then suc c.loop-i.not_ready else c.loop-i.not_ready) (c.isnt_ready.ensures ∙ ap (λ b. b && not (is_next (o.stop k) ch)) c.shares-shares.ensures)) so.1,
       search rules,

@@ -7,18 +7,18 @@ use Rattle.shim_records.proofs.upward.propagate_stop_above.Goals as goal
 
 pub loop-walked-init : goal.loop-walked-init
 loop-walked-init c = (
-  begun c.args.c.now.channel 4294967295 c.args.at c.live_child_status.result c.live_child_status-2.result c.args.records.now.items,
+  begun c.args.c.now.channel 4294967295 c.args.at c.going_child_status.result c.going_child_status-2.result c.args.records.now.items,
   at_start c.args.c.now.channel c.args.at c.args.records.now.items,
   ready_at_first c.args.c.now.channel c.args.at c.args.records.now.items,
 )
 
 pub returns-in-None-clause-counts : goal.returns-in-None-clause-counts
 returns-in-None-clause-counts c = (
-  c.live_child_status.result,
-  c.live_child_status-2.result,
-  c.live_child_status.ensures,
-  c.live_child_status-2.ensures,
-  ended c.args.c.now.channel 4294967295 c.args.at c.live_child_status.result c.live_child_status-2.result c.args.records.now.items c.loop-walked.records.items c.loop-walked.here c.loop-walked.walked c.step_up-next.new.records.items c.loop-walked.invariant.0
+  c.going_child_status.result,
+  c.going_child_status-2.result,
+  c.going_child_status.ensures,
+  c.going_child_status-2.ensures,
+  ended c.args.c.now.channel 4294967295 c.args.at c.going_child_status.result c.going_child_status-2.result c.args.records.now.items c.loop-walked.records.items c.loop-walked.here c.loop-walked.walked c.step_up-next.new.records.items c.loop-walked.invariant.0
       (subst (λ z. StepsUp c.args.c.now.channel c.loop-walked.records.items c.loop-walked.here z c.step_up-next.result.1 c.step_up-next.new.records.items) c.in-None.is c.step_up-next.ensures),
 )
 
@@ -30,7 +30,7 @@ returns-in-None-clause-readies c =
 
 pub loop-walked-preserved : goal.loop-walked-preserved
 loop-walked-preserved c = (
-  further c.args.c.now.channel 4294967295 c.args.at c.live_child_status.result c.live_child_status-2.result c.args.records.now.items c.loop-walked.records.items c.loop-walked.here c.loop-walked.walked c.step_up-next.new.records.items c.in-Some.next
+  further c.args.c.now.channel 4294967295 c.args.at c.going_child_status.result c.going_child_status-2.result c.args.records.now.items c.loop-walked.records.items c.loop-walked.here c.loop-walked.walked c.step_up-next.new.records.items c.in-Some.next
       (omega (arith, c.loop-walked-test.true)) c.loop-walked.invariant.0
       (subst (λ z. StepsUp c.args.c.now.channel c.loop-walked.records.items c.loop-walked.here z c.step_up-next.result.1 c.step_up-next.new.records.items) c.in-Some.is c.step_up-next.ensures),
   led_on c.args.c.now.channel c.args.at c.args.records.now.items c.loop-walked.walked c.loop-walked.records.items c.loop-walked.here c.loop-walked.invariant.1 c.loop-walked.invariant.0.1 c.in-Some.next c.step_up-next.new.records.items
@@ -42,11 +42,11 @@ loop-walked-preserved c = (
 
 pub returns-clause-counts : goal.returns-clause-counts
 returns-clause-counts c = (
-  c.live_child_status.result,
-  c.live_child_status-2.result,
-  c.live_child_status.ensures,
-  c.live_child_status-2.ensures,
-  stopped c.args.c.now.channel 4294967295 c.args.at c.live_child_status.result c.live_child_status-2.result c.args.records.now.items c.loop-walked.records.items c.loop-walked.here c.loop-walked.walked (omega (arith, c.loop-walked-test.false))
+  c.going_child_status.result,
+  c.going_child_status-2.result,
+  c.going_child_status.ensures,
+  c.going_child_status-2.ensures,
+  stopped c.args.c.now.channel 4294967295 c.args.at c.going_child_status.result c.going_child_status-2.result c.args.records.now.items c.loop-walked.records.items c.loop-walked.here c.loop-walked.walked (omega (arith, c.loop-walked-test.false))
       c.loop-walked.invariant.0,
 )
 

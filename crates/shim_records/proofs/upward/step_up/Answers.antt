@@ -60,6 +60,6 @@ returns c =
     goes ch rs.items c.args.here c.in-Some.above c.in-Some-place_in.place c.index_mut-record.result.now c.index_mut-pair.result.now c.move_pair.new.pair
     (up_is ch rs.items c.args.here c.index.result.now _ record_before c.in-Some.is) fork (ap (pair_index ch) (sym c.as_slice.ensures.value) ∙ (sym c.place_in.ensures ∙ c.in-Some-place_in.is)) c.index_mut-pair.ensures.value
     c.move_pair.ensures.same c.move_pair.ensures.sharing c.move_pair.ensures.label c.move_pair.ensures.moved c.may_be_due-due.result (closed_by c.may_be_due-due.result c.tally_ready-after.result c.move_pair.new.pair c.tally_ready-after.ensures c.may_be_due-due.ensures) c.move_pair.ensures.falls
-    (record { at = c.in-Some.above; was = c.live_child_status.result; is = c.live_child_status-2.result }) (λ e. sym c.tally_ready-before.ensures ∙ other_bool c.tally_ready-before.result c.tally_ready-after.result c.if-before-after.false (c.tally_ready-after.ensures ∙ e)) refl
-    (fork_read c.live_child_status.result c.tally_ready-before.result c.index_mut-pair.result.now c.live_child_status.ensures c.tally_ready-before.ensures)
-    (fork_read c.live_child_status-2.result c.tally_ready-after.result c.move_pair.new.pair c.live_child_status-2.ensures c.tally_ready-after.ensures)
+    (record { at = c.in-Some.above; was = c.going_child_status.result; is = c.going_child_status-2.result }) (λ e. sym c.tally_ready-before.ensures ∙ other_bool c.tally_ready-before.result c.tally_ready-after.result c.if-before-after.false (c.tally_ready-after.ensures ∙ e)) refl
+    (fork_read c.going_child_status.result c.tally_ready-before.result c.index_mut-pair.result.now c.going_child_status.ensures c.tally_ready-before.ensures)
+    (fork_read c.going_child_status-2.result c.tally_ready-after.result c.move_pair.new.pair c.going_child_status-2.ensures c.tally_ready-after.ensures)

@@ -5,7 +5,7 @@ use Rattle.shim_local.specs.Process.{Ops}
 use Rattle.shim_local.specs.Laws.{LocalLaws, by_quiet}
 use Rattle.shim_local.specs.Quiets.{is_quiet, QuietSteps}
 use Rattle.shim_local.proofs.Quiets.{first_quiet}
-use Rattle.shim_semantics.specs.Listing.{IsAmong}
+use Rattle.shim_base.specs.Lists.{IsAmong}
 use Rattle.shim_semantics.specs.Nodes.{Node, Nodes, Live, Forked, Ended, Dead, no_node, node_and}
 use Rattle.shim_semantics.specs.Places.{at, child_at, at_route, SoundBelow, SoundChildren}
 use Rattle.shim_semantics.specs.Quiets.{quiets, all_quiets, ComesBy}
@@ -66,7 +66,7 @@ module _ {S : Type 0} (o : Ops S) where
         steps = quiet;
       }
 
-  -- one event, and others behind it that count as many steps as they are
+  -- one event, and others after it that count as many steps as they are
   one_counts : (e : Event) (n : ℕ) (t u : Tree S) (a : Option (Tree S)) → after o e t ≡ a → ((b : Tree S) → run (after o) (replicate n e) b ≡ Some u → steps u ≡ steps b + n)
       → on_some (run (after o) (replicate n e)) a ≡ Some u → steps u ≡ steps t + suc n
   one_counts e n t u None is rest h = none_some u h

@@ -1,5 +1,6 @@
 use Rattle.std.proofs.Common.{arith, sym, subst, ◌<◌}
-use Rattle.shim_board.specs.Counting.{occurs, total}
+use Rattle.shim_board.specs.Counting.{occurs}
+use Rattle.shim_base.specs.Lists.{total}
 use Rattle.shim_board.proofs.Seats.{first_taken, has_all_counts}
 use Rattle.shim_board.proofs.board.Board.close.Goals as goal
 

@@ -1,7 +1,8 @@
 use Rattle.std.proofs.Common.{◌≡◌, ◌≢◌, ℕ, ◌+◌, [], length, Some, None}
 use Rattle.shim_board.specs.Kept.{HoldsNothing}
 use Rattle.shim_board.specs.Closing.{SameLists}
-use Rattle.shim_board.specs.Counting.{Each, occurs, total, one_below}
+use Rattle.shim_board.specs.Counting.{Each, occurs, one_below}
+use Rattle.shim_base.specs.Lists.{total}
 use Rattle.shim_board.proofs.board.Board.join_all.Given as goal
 
 abbrev pub invariant-loop-chair : goal.invariant-loop-chair

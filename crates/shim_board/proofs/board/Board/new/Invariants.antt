@@ -1,5 +1,6 @@
 use Rattle.std.proofs.Common.{◌≡◌, ℕ, ◌+◌, ◌<◌, [], length, Some, None}
-use Rattle.shim_board.specs.Counting.{one_at, one_below, occurs, total, Each}
+use Rattle.shim_board.specs.Counting.{one_below, occurs, Each}
+use Rattle.shim_base.specs.Lists.{one_at, total}
 use Rattle.shim_board.specs.Chairs.{chairs_known}
 use Rattle.shim_board.specs.Views.{fresh}
 use Rattle.shim_board.proofs.board.Board.new.Given as goal

@@ -1,7 +1,0 @@
-use Rattle.std.proofs.Common.{◌≡◌, ◌++◌, drop}
-use Rattle.std.specs.Prelude.{flat_map}
-use Rattle.shim_report.specs.Report.{pair_text}
-use Rattle.shim_report.proofs.report.words.push_pairs.Given as goal
-
-abbrev pub invariant-loop-pair : goal.invariant-loop-pair
-invariant-loop-pair l = l.text ++ flat_map pair_text (drop l.pair-index l.pairs) ≡ l.initial.text ++ flat_map pair_text l.pairs
